@@ -1,0 +1,10 @@
+pub mod LineLaws
+pub mod PartLaws
+pub mod Scalars
+pub mod Scan
+pub mod TrimChars
+pub mod TrimLaws
+pub mod TrimTheorem
+pub mod Unicode
+pub mod Utf8Laws
+pub mod WordLaws

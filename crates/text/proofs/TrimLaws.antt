@@ -1,0 +1,246 @@
+-- The laws of trimming by bytes. Assumes nothing.
+use Prim.Native.Nat.{ℕ, zero, suc, _+_, _-_, _≤_, _<_}
+use mathlib.Core.Path.{_≡_, refl, sym, ap, _∙_}
+use mathlib.Core.Bool.{Bool, true, false}
+use mathlib.Core.List.{List, [], _∷_, _++_, reverse, reverse-append, reverse-reverse}
+use native.Mathlib.Omega.{arith}
+use native.Mathlib.Nat.{add-zero, sub-zero}
+use native.Mathlib.Numerals.{add-one, sub-one}
+use lib.Dec.{eqb, eqb·suc-zero}
+use lib.ListN.{length, length-take, length-drop, length-reverse, getD, take, drop}
+use lib.Seq.{drop-nil, drop-drop, getD-drop, take-suc, take-all}
+use borrow.Author.Tests.{eq-eqb, ne-eqb, lt-leb}
+use Rattle.text.proofs.Scan.{by-cases, and-false, rest-more, rest-none, within-low, within-high}
+use Rattle.text.specs.Base.{if_then_else_, _&_, within}
+use Rattle.text.specs.Utf8.{Range, _to_}
+use Rattle.text.specs.Trim.{whiteBytes, backwards, begins, sizeOf, stripFrom, trimmedFront, trimmedBack, trimmed}
+
+pub and-true : (b : Bool) → b & true ≡ b
+and-true true = refl
+and-true false = refl
+
+-- ---- the test of a row, and the first row that fits; for `search` to use
+
+module _ (p q r : Range) (a b c : ℕ) (t : Bool) where
+  pub fits-two : t ≡ within (q .lo) (q .hi) b → within (p .lo) (p .hi) a ≡ true → t ≡ begins (p ∷ q ∷ []) (a ∷ b ∷ [])
+  unfolding begins
+  fits-two k e = rw e (k ∙ sym (and-true _))
+
+  pub fits-more : t ≡ begins (q ∷ r ∷ []) (b ∷ c ∷ []) → within (p .lo) (p .hi) a ≡ true → t ≡ begins (p ∷ q ∷ r ∷ []) (a ∷ b ∷ c ∷ [])
+  unfolding begins
+  fits-more k e = rw e k
+
+pub fits-not : (p : Range) (ps : List Range) (a : ℕ) (s : List ℕ) → within (p .lo) (p .hi) a ≡ false → false ≡ begins (p ∷ ps) (a ∷ s)
+unfolding begins
+fits-not p ps a s e = rw e
+
+module _ (p q r : Range) (rows : List (List Range)) (a b c : ℕ) where
+  pub past-two : (n : ℕ) → begins (p ∷ q ∷ []) (a ∷ b ∷ []) ≡ false → n ≡ sizeOf rows (a ∷ b ∷ c ∷ []) → n ≡ sizeOf ((p ∷ q ∷ []) ∷ rows) (a ∷ b ∷ c ∷ [])
+  unfolding sizeOf begins
+  past-two n e k = rw e k
+
+  pub taken-two : begins (p ∷ q ∷ []) (a ∷ b ∷ []) ≡ true → 2 ≡ sizeOf ((p ∷ q ∷ []) ∷ rows) (a ∷ b ∷ c ∷ [])
+  unfolding sizeOf begins
+  taken-two e = rw e
+
+  pub past-three : (n : ℕ) → begins (p ∷ q ∷ r ∷ []) (a ∷ b ∷ c ∷ []) ≡ false → n ≡ sizeOf rows (a ∷ b ∷ c ∷ []) → n ≡ sizeOf ((p ∷ q ∷ r ∷ []) ∷ rows) (a ∷ b ∷ c ∷ [])
+  unfolding sizeOf
+  past-three n e k = rw e k
+
+  pub taken-three : begins (p ∷ q ∷ r ∷ []) (a ∷ b ∷ c ∷ []) ≡ true → 3 ≡ sizeOf ((p ∷ q ∷ r ∷ []) ∷ rows) (a ∷ b ∷ c ∷ [])
+  unfolding sizeOf
+  taken-three e = rw e
+
+pub no-row : (s : List ℕ) → 0 ≡ sizeOf [] s
+unfolding sizeOf
+no-row s = refl
+
+pub ruleset row-steps = (fits-two, fits-more, fits-not, past-two, taken-two, past-three, taken-three, no-row)
+
+-- ---- three bytes say it; past the end stands 0, which no row has
+
+abbrev front3 : List ℕ → List ℕ
+front3 s = getD s 0 0 ∷ getD s 1 0 ∷ getD s 2 0 ∷ []
+
+module _ (a : ℕ) (s : List ℕ) where
+  -- below 0x80 the rows of one byte decide
+  pub front-ascii : a < 0x80 → sizeOf whiteBytes (a ∷ s) ≡ sizeOf (take 2 whiteBytes) (a ∷ [])
+  unfolding sizeOf whiteBytes begins
+  front-ascii h = rw (within-low 0xC2 0xC2 a (omega arith), within-low 0xE1 0xE1 a (omega arith), within-low 0xE2 0xE2 a (omega arith), within-low 0xE3 0xE3 a (omega arith))
+
+  pub back-ascii : a < 0x80 → sizeOf (backwards whiteBytes) (a ∷ s) ≡ sizeOf (take 2 whiteBytes) (a ∷ [])
+  unfolding sizeOf whiteBytes begins backwards
+  back-ascii h =
+      rw (
+        within-low 0x85 0x85 a (omega arith),
+        within-low 0xA0 0xA0 a (omega arith),
+        within-low 0x80 0x80 a (omega arith),
+        within-low 0x80 0x8A a (omega arith),
+        within-low 0xA8 0xA9 a (omega arith),
+        within-low 0xAF 0xAF a (omega arith),
+        within-low 0x9F 0x9F a (omega arith),
+      )
+
+-- from 0x80 on the others do
+front-long : (s : List ℕ) → 0x80 ≤ getD s 0 0 → sizeOf whiteBytes s ≡ sizeOf (drop 2 whiteBytes) (front3 s)
+unfolding sizeOf whiteBytes begins within
+front-long [] h = refl
+front-long (a ∷ []) h = rw (lt-leb a 0x0D (omega arith), lt-leb a 0x20 (omega arith), and-false _, and-false _)
+front-long (a ∷ b ∷ []) h = rw (lt-leb a 0x0D (omega arith), lt-leb a 0x20 (omega arith), and-false _, and-false _)
+front-long (a ∷ b ∷ c ∷ s) h = rw (lt-leb a 0x0D (omega arith), lt-leb a 0x20 (omega arith), and-false _, and-false _)
+
+back-long : (s : List ℕ) → 0x80 ≤ getD s 0 0 → sizeOf (backwards whiteBytes) s ≡ sizeOf (drop 2 (backwards whiteBytes)) (front3 s)
+unfolding sizeOf whiteBytes begins within backwards
+back-long [] h = refl
+back-long (a ∷ []) h = rw (lt-leb a 0x0D (omega arith), lt-leb a 0x20 (omega arith), and-false _, and-false _)
+back-long (a ∷ b ∷ []) h = rw (lt-leb a 0x0D (omega arith), lt-leb a 0x20 (omega arith), and-false _, and-false _)
+back-long (a ∷ b ∷ c ∷ s) h = rw (lt-leb a 0x0D (omega arith), lt-leb a 0x20 (omega arith), and-false _, and-false _)
+
+-- ---- the walk that strips, size by size
+
+begins-fits : (row : List Range) (s : List ℕ) → begins row s ≡ true → length row ≤ length s
+unfolding begins
+begins-fits [] s e = omega arith
+begins-fits (r ∷ rs) [] e = let z : _≡_ {A = ℕ} 0 1 = cc in omega arith
+begins-fits (r ∷ rs) (x ∷ s) e = go (within (r .lo) (r .hi) x) e (begins-fits rs s)
+  where
+    go : (b : Bool) → b & begins rs s ≡ true → (begins rs s ≡ true → length rs ≤ length s) → suc (length rs) ≤ suc (length s)
+    go true e ih = omega (arith, ih e)
+    go false e ih = let z : _≡_ {A = ℕ} 0 1 = cc in omega arith
+
+-- a row that a text begins with is no longer than the text
+pub size-fits : (rows : List (List Range)) (s : List ℕ) → sizeOf rows s ≤ length s
+unfolding sizeOf
+size-fits [] s = omega arith
+size-fits (row ∷ rows) s = go (begins row s) (begins-fits row s) (size-fits rows s)
+  where
+    go : (b : Bool) → (b ≡ true → length row ≤ length s) → sizeOf rows s ≤ length s → (if b then length row else sizeOf rows s) ≤ length s
+    go true f ih = f refl
+    go false f ih = ih
+
+-- what is left is no longer
+strip-fits : (rows : List (List Range)) (k : ℕ) (s : List ℕ) → length (stripFrom rows k s) ≤ length s
+unfolding stripFrom
+strip-fits rows zero [] = omega arith
+strip-fits rows (suc k) [] = omega arith
+strip-fits rows (suc k) (x ∷ s) = omega (arith, strip-fits rows k s)
+strip-fits rows zero (x ∷ s) =
+    let ih = strip-fits rows (sizeOf rows (x ∷ s) - 1) s in
+    by-cases (λ (r : List ℕ). length r ≤ suc (length s)) (eqb (sizeOf rows (x ∷ s)) 0) _ _ (omega arith) (omega arith)
+
+pub trimmed-fits : (s : List ℕ) → length (trimmed s) ≤ length s
+unfolding trimmed trimmedBack trimmedFront
+trimmed-fits s =
+    let f = stripFrom whiteBytes 0 s in
+    let b = stripFrom (backwards whiteBytes) 0 (reverse f) in
+    omega (arith, strip-fits whiteBytes 0 s, strip-fits (backwards whiteBytes) 0 (reverse f), length-reverse f, length-reverse b)
+
+skip-drop : (rows : List (List Range)) (k : ℕ) (s : List ℕ) → stripFrom rows k s ≡ stripFrom rows 0 (drop k s)
+unfolding stripFrom
+skip-drop rows zero [] = refl
+skip-drop rows (suc k) [] = refl
+skip-drop rows zero (x ∷ s) = refl
+skip-drop rows (suc k) (x ∷ s) = skip-drop rows k s
+
+-- what is stripped next
+pub strip-on : (rows : List (List Range)) (s : List ℕ) (n : ℕ) → n ≡ sizeOf rows s → (n ≡ 0 → ⊥) → stripFrom rows 0 s ≡ stripFrom rows 0 (drop n s)
+unfolding stripFrom
+strip-on rows [] n e z = rw (drop-nil)
+strip-on rows (x ∷ s) zero e z = absurd (z refl)
+strip-on rows (x ∷ s) (suc n) e z = rw (← e, sub-one, skip-drop rows n s, eqb·suc-zero n)
+
+pub strip-done : (rows : List (List Range)) (s : List ℕ) (n : ℕ) → n ≡ sizeOf rows s → n ≡ 0 → stripFrom rows 0 s ≡ s
+unfolding stripFrom
+strip-done rows [] n e z = refl
+strip-done rows (x ∷ s) n e z = rw (← e, z)
+
+-- ---- a text read from the back
+
+pub back-more : (s : List ℕ) (i : ℕ) → 0 < i → i ≤ length s → reverse (take i s) ≡ getD s (i - 1) 0 ∷ reverse (take (i - 1) s)
+back-more s zero h g = absurd (omega arith)
+back-more s (suc i) h g = rw (sub-one, take-suc s i 0 (omega arith), reverse-append)
+
+pub back-drop : (s : List ℕ) (i n : ℕ) → i ≤ length s → reverse (take (i - n) s) ≡ drop n (reverse (take i s))
+back-drop s i zero h = rw sub-zero
+back-drop s zero (suc n) h = let e : 0 - suc n ≡ 0 = omega arith in rw e
+back-drop s (suc i) (suc n) h =
+    let e : suc i - suc n ≡ i - n = omega arith in
+    rw (e, back-more s (suc i) (omega arith) h, sub-one) (back-drop s i n (omega arith))
+
+-- ---- the size at a place, and before one; for `search` to use
+
+module _ (s : List ℕ) (at n : ℕ) where
+  pub at-ascii : at < length s → getD s at 0 < 0x80 → n ≡ sizeOf (take 2 whiteBytes) (getD s at 0 ∷ []) → n ≡ sizeOf whiteBytes (drop at s)
+  at-ascii h x e = rw (rest-more s at h, front-ascii (getD s at 0) (drop (at + 1) s) x) e
+
+  pub at-long : 0x80 ≤ getD s at 0 → (b c : ℕ) → b ≡ getD s (at + 1) 0 → c ≡ getD s (at + 2) 0
+      → n ≡ sizeOf (drop 2 whiteBytes) (getD s at 0 ∷ b ∷ c ∷ []) → n ≡ sizeOf whiteBytes (drop at s)
+  at-long x b c p q e =
+      let z : getD (drop at s) 0 0 ≡ getD s at 0 = simp (getD-drop, add-zero) in
+      let w : 0x80 ≤ getD (drop at s) 0 0 = rw z x in
+      rw (front-long (drop at s) w, z, getD-drop at s 1 0, getD-drop at s 2 0, ← p, ← q) e
+
+  module _ (h : 0 < at) (g : at ≤ length s) where
+    pub before-ascii : getD s (at - 1) 0 < 0x80 → n ≡ sizeOf (take 2 whiteBytes) (getD s (at - 1) 0 ∷ []) → n ≡ sizeOf (backwards whiteBytes) (reverse (take at s))
+    before-ascii x e = rw (back-more s at h g, back-ascii (getD s (at - 1) 0) (reverse (take (at - 1) s)) x) e
+
+    pub before-long-1 : 0x80 ≤ getD s (at - 1) 0 → at - 1 ≡ 0 → (b : ℕ) → b ≡ getD (reverse (take (at - 1) s)) 0 0
+        → n ≡ sizeOf (drop 2 (backwards whiteBytes)) (getD s (at - 1) 0 ∷ b ∷ 0 ∷ []) → n ≡ sizeOf (backwards whiteBytes) (reverse (take at s))
+    before-long-1 x k b p e =
+        let r : reverse (take (at - 1) s) ≡ [] = ap (λ (j : ℕ). reverse (take j s)) k in
+        rw (back-more s at h g, back-long (getD s (at - 1) 0 ∷ reverse (take (at - 1) s)) x, r) (rw (p, r) at e)
+
+    pub before-long : 0x80 ≤ getD s (at - 1) 0 → (at - 1 ≡ 0 → ⊥) → (b c : ℕ) → b ≡ getD (reverse (take (at - 1) s)) 0 0 → c ≡ getD (reverse (take (at - 1 - 1) s)) 0 0
+        → n ≡ sizeOf (drop 2 (backwards whiteBytes)) (getD s (at - 1) 0 ∷ b ∷ c ∷ []) → n ≡ sizeOf (backwards whiteBytes) (reverse (take at s))
+    before-long x k b c p q e =
+        let r = back-more s (at - 1) (omega arith) (omega arith) in
+        rw (back-more s at h g, back-long (getD s (at - 1) 0 ∷ reverse (take (at - 1) s)) x, r) (rw (p, q, r) at e)
+
+pub first-before : (s : List ℕ) (at : ℕ) → (at ≡ 0 → ⊥) → at ≤ length s → getD s (at - 1) 0 ≡ getD (reverse (take at s)) 0 0
+first-before s at h g = rw (back-more s at (omega arith) g)
+
+pub nothing-before : (s : List ℕ) (at : ℕ) → at ≡ 0 → 0 ≡ getD (reverse (take at s)) 0 0
+nothing-before s at e = rw e
+
+module _ (r : Range) (rows : List (List Range)) (a : ℕ) where
+  pub past-one : (n : ℕ) → within (r .lo) (r .hi) a ≡ false → n ≡ sizeOf rows (a ∷ []) → n ≡ sizeOf ((r ∷ []) ∷ rows) (a ∷ [])
+  unfolding sizeOf begins
+  past-one n e k = rw e k
+
+  pub taken-one : within (r .lo) (r .hi) a ≡ true → 1 ≡ sizeOf ((r ∷ []) ∷ rows) (a ∷ [])
+  unfolding sizeOf begins
+  taken-one e = rw e
+
+pub at-inside : (s : List ℕ) (at n : ℕ) → n ≡ sizeOf whiteBytes (drop at s) → n ≤ length s - at
+at-inside s at n e = omega (arith, size-fits whiteBytes (drop at s), length-drop at s)
+
+pub at-end : (s : List ℕ) (at : ℕ) → length s ≤ at → 0 ≡ sizeOf whiteBytes (drop at s)
+unfolding sizeOf whiteBytes begins
+at-end s at h = rw (rest-none s at h)
+
+pub before-inside : (s : List ℕ) (at n : ℕ) → at ≤ length s → n ≡ sizeOf (backwards whiteBytes) (reverse (take at s)) → n ≤ at
+before-inside s at n h e = omega (arith, size-fits (backwards whiteBytes) (reverse (take at s)), length-reverse (take at s), length-take at s)
+
+pub ruleset one-steps = (past-one, taken-one, no-row)
+
+pub ruleset place-steps = (at-ascii, at-long, before-ascii, before-long-1, before-long, first-before, nothing-before, at-inside, at-end, before-inside)
+
+-- ---- both ends: the front ends at i, the back of what is left begins at j
+
+whole-rest : (s : List ℕ) (i : ℕ) → take (length s - i) (drop i s) ≡ drop i s
+whole-rest s i = take-all (length s - i) (drop i s) (omega (arith, length-drop i s))
+
+module _ (s : List ℕ) (i j : ℕ) (h : i ≤ length s) where
+  pub both-ends : drop i s ≡ trimmedFront s → take j (take (length s - i) (drop i s)) ≡ trimmedBack (take (length s - i) (drop i s))
+      → take j (take (length s - i) (drop i s)) ≡ trimmed s
+  unfolding trimmed
+  both-ends p q = q ∙ ap (λ (r : List ℕ). trimmedBack r) (whole-rest s i ∙ p)
+
+  pub both-places : drop i s ≡ trimmedFront s → take j (take (length s - i) (drop i s)) ≡ trimmedBack (take (length s - i) (drop i s))
+      → take j (drop i s) ≡ trimmed s
+  both-places p q = ap (λ (r : List ℕ). take j r) (sym (whole-rest s i)) ∙ both-ends p q
+
+  pub both-inside : j ≤ length (take (length s - i) (drop i s)) → i + j ≤ length s
+  both-inside k = let e : j ≤ length (drop i s) = rw (whole-rest s i) at k in omega (arith, length-drop i s)
+
+pub ruleset trim-steps = (both-ends, both-places, both-inside)

@@ -1,0 +1,10 @@
+pub mod Base
+pub mod Lines
+pub mod LinesWalk
+pub mod Literal
+pub mod Parts
+pub mod Trim
+pub mod Unicode
+pub mod Utf8
+pub mod Utf8Walk
+pub mod Words

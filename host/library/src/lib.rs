@@ -1,0 +1,82 @@
+//! The functions of the proved library. Each is total: its contract has no `requires`, so any bytes may be passed.
+
+/// A `&[u8]` or `&mut [u8]` of Rattle is two C arguments, its pointer and its length.
+mod exports {
+    extern "C" {
+        pub fn nwscript_utf8(s: *const u8, s_len: usize) -> bool;
+        pub fn nwscript_trim(s: *const u8, s_len: usize, start: *mut usize, len: *mut usize);
+        pub fn nwscript_count_lines(text: *const u8, text_len: usize) -> usize;
+        pub fn nwscript_trimmed_bytes(text: *const u8, text_len: usize) -> usize;
+        pub fn nwscript_hex_len(s: *const u8, s_len: usize) -> usize;
+        pub fn nwscript_hex(s: *const u8, s_len: usize, out: *mut u8, out_len: usize) -> usize;
+        pub fn nwscript_unquoted_len(s: *const u8, s_len: usize) -> usize;
+        pub fn nwscript_unquote(s: *const u8, s_len: usize, out: *mut u8, out_len: usize) -> usize;
+        pub fn nwscript_u64(s: *const u8, s_len: usize, value: *mut u64) -> bool;
+        pub fn nwscript_u16(s: *const u8, s_len: usize, value: *mut u64) -> bool;
+        pub fn nwscript_u8(s: *const u8, s_len: usize, value: *mut u64) -> bool;
+        pub fn nwscript_i64(s: *const u8, s_len: usize, value: *mut i64) -> bool;
+    }
+}
+
+/// Whether s is well-formed UTF-8.
+pub fn utf8(s: &[u8]) -> bool {
+    unsafe { exports::nwscript_utf8(s.as_ptr(), s.len()) }
+}
+
+/// Start and length of s once trimmed.
+pub fn trim(s: &[u8]) -> (usize, usize) {
+    // Values that no answer has: one that is not written is seen.
+    let (mut start, mut len) = (usize::MAX, usize::MAX);
+    unsafe { exports::nwscript_trim(s.as_ptr(), s.len(), &mut start, &mut len) };
+    (start, len)
+}
+
+/// How many lines the text has.
+pub fn count_lines(text: &[u8]) -> usize {
+    unsafe { exports::nwscript_count_lines(text.as_ptr(), text.len()) }
+}
+
+/// How many bytes all lines of the text have together once trimmed.
+pub fn trimmed_bytes(text: &[u8]) -> usize {
+    unsafe { exports::nwscript_trimmed_bytes(text.as_ptr(), text.len()) }
+}
+
+/// How many bytes s is as hex.
+pub fn hex_len(s: &[u8]) -> usize {
+    unsafe { exports::nwscript_hex_len(s.as_ptr(), s.len()) }
+}
+
+/// Writes the bytes that s is as hex to the front of out, if they fit. Gives their number either way.
+pub fn hex(s: &[u8], out: &mut [u8]) -> usize {
+    unsafe { exports::nwscript_hex(s.as_ptr(), s.len(), out.as_mut_ptr(), out.len()) }
+}
+
+/// How many bytes s is once unquoted.
+pub fn unquoted_len(s: &[u8]) -> usize {
+    unsafe { exports::nwscript_unquoted_len(s.as_ptr(), s.len()) }
+}
+
+/// Writes s, unquoted, to the front of out, if it fits. Gives the number of bytes either way.
+pub fn unquote(s: &[u8], out: &mut [u8]) -> usize {
+    unsafe { exports::nwscript_unquote(s.as_ptr(), s.len(), out.as_mut_ptr(), out.len()) }
+}
+
+/// Reads s as a u64. If it is none, value is left as it is; so too below.
+pub fn parse_u64(s: &[u8], value: &mut u64) -> bool {
+    unsafe { exports::nwscript_u64(s.as_ptr(), s.len(), value) }
+}
+
+/// Reads s as a u16.
+pub fn parse_u16(s: &[u8], value: &mut u64) -> bool {
+    unsafe { exports::nwscript_u16(s.as_ptr(), s.len(), value) }
+}
+
+/// Reads s as a u8.
+pub fn parse_u8(s: &[u8], value: &mut u64) -> bool {
+    unsafe { exports::nwscript_u8(s.as_ptr(), s.len(), value) }
+}
+
+/// Reads s as an i64.
+pub fn parse_i64(s: &[u8], value: &mut i64) -> bool {
+    unsafe { exports::nwscript_i64(s.as_ptr(), s.len(), value) }
+}
