@@ -1,4 +1,5 @@
 pub mod LineLaws
+pub mod LineTheorem
 pub mod PartLaws
 pub mod Scalars
 pub mod Scan

@@ -5,15 +5,48 @@ use mathlib.Core.Path.{_≡_, refl, sym, ap, _∙_}
 use mathlib.Core.Bool.{Bool, true, false}
 use mathlib.Core.List.{List, [], _∷_}
 use native.Mathlib.Omega.{arith}
-use native.Mathlib.Nat.{le-refl, add-sub-cancel-left}
+use native.Mathlib.Nat.{le-refl, add-sub-cancel, add-sub-cancel-left}
 use lib.Dec.{eqb}
 use lib.ListN.{length, getD, drop, length-drop}
 use lib.Seq.{drop-nil, drop-drop}
-use borrow.Author.Tests.{eq-eqb, ne-eqb}
+use borrow.Author.Tests.{eq-eqb, ne-eqb, lt-ltb, le-ltb}
 use Rattle.text.proofs.Scan.{by-cases, rest-none, rest-more, shift}
 use Rattle.text.specs.Base.{if_then_else_, LF, CR}
 use Rattle.text.specs.declared.lines.Line.{Line}
 use Rattle.text.specs.Lines.{line, lineFrom, lineAt, linesFrom}
+use Rattle.text.specs.LinesWalk.{endAt}
+
+-- ---- the walk by places: the line that began at start, from place i on
+
+-- after a byte of the line, its end is the walk's
+end-on : (text : List ℕ) (start i : ℕ) → start ≤ i → endAt text start (i + 1) ≡ (if eqb (getD text i 0) CR then i else i + 1)
+unfolding endAt
+end-on text start i h = rw (lt-ltb start (i + 1) (omega arith), add-sub-cancel i 1)
+
+-- a line that has no byte yet ends where it begins
+pub end-begun : (text : List ℕ) (start : ℕ) → endAt text start start ≡ start
+unfolding endAt
+end-begun text start = rw (le-ltb start start (omega arith))
+
+module _ (text : List ℕ) (number start i : ℕ) (whole : Line) where
+  abbrev pub Here : Type 0
+  Here = lineFrom number start i (endAt text start i) (drop i text) ≡ whole
+
+  pub over : length text ≤ i → Here → line number start i i ≡ whole
+  unfolding lineFrom
+  over h e = rw (rest-none text i h) at e
+
+  pub at-lf : i < length text → getD text i 0 ≡ 10 → Here → (l : Line) → l ≡ line number start (endAt text start i) (i + 1) → l ≡ whole
+  unfolding lineFrom
+  at-lf h x e l q = q ∙ (rw (rest-more text i h, x) at e)
+
+  pub at-other : start ≤ i → i < length text → (getD text i 0 ≡ 10 → ⊥) → Here → lineFrom number start (i + 1) (endAt text start (i + 1)) (drop (i + 1) text) ≡ whole
+  unfolding lineFrom
+  at-other b h n e = rw (end-on text start i b) (rw (rest-more text i h, ne-eqb _ _ n) at e)
+
+pub ruleset line-walk = (over, at-lf, at-other)
+
+-- ---- the lines as a list
 
 -- the lines from `at` on, the first of them called by the number
 abbrev pub linesAt : List ℕ → (at number : ℕ) → List Line

@@ -10,7 +10,7 @@ pub struct Decoder {
     pub name: &'static str,
     pub len: fn(&[u8]) -> usize,
     pub decode: fn(&[u8], &mut [u8]) -> usize,
-    /// Whether the function is to be asked for this value.
+    /// Whether this value is to be compared.
     pub admits: fn(&[u8]) -> bool,
     /// The entry of a script that carries the value.
     pub entry: fn(&str) -> String,
@@ -40,7 +40,7 @@ impl Decoder {
 
     fn check(&self, value: &[u8]) -> Finding {
         if !(self.admits)(value) {
-            return Ok("not asked");
+            return Ok("not compared");
         }
         match carried(value) {
             Some(text) => self.check_carried(value, &self.read(&[text])[0]),
@@ -68,7 +68,7 @@ impl Decoder {
         let needed = expected.len();
         let len = (self.len)(value);
         if len != needed {
-            return Err(format!("our length {len}, the reference's {needed}"));
+            return Err(format!("our length {len}, expected {needed}"));
         }
         self.check_lent(value, expected, needed)?;
         self.check_lent(value, expected, needed + 3)?;
@@ -86,7 +86,7 @@ impl Decoder {
         }
         let answer = (self.decode)(value, &mut bytes[BESIDE..BESIDE + lent]);
         if answer != expected.len() {
-            return Err(format!("with {lent} bytes lent, our answer {answer}, the reference's {}", expected.len()));
+            return Err(format!("with {lent} bytes lent, our answer {answer}, expected {}", expected.len()));
         }
         if bytes != after {
             let (ours, expected) = (shown(&bytes), shown(&after));

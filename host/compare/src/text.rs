@@ -5,7 +5,7 @@ use std::str::from_utf8;
 use crate::gen::{all_bytes, each_word, letters, Rng};
 use crate::report::{Finding, Report, Tally};
 
-const RANDOM: usize = 1_000_000;
+const RANDOM: usize = 1_300_000;
 
 /// The 25 White_Space characters.
 const WHITE_SPACE: &str =
@@ -33,19 +33,22 @@ fn each_character(see: &mut impl FnMut(char)) {
     ('\0'..=char::MAX).for_each(see);
 }
 
-/// A text of random pieces; every third one is damaged, mostly so that it is no UTF-8.
-fn random_text(rng: &mut Rng, pieces: &[&[u8]]) -> Vec<u8> {
-    let count = rng.length();
-    let text = rng.word(pieces, count);
-    match rng.below(3) {
-        0 => rng.damaged(&text),
-        _ => text,
-    }
-}
-
 /// All of the characters above.
 fn pieces() -> Vec<&'static [u8]> {
     [WHITE_SPACE, NEIGHBOURS, LOOKALIKES, OTHERS].into_iter().flat_map(letters).collect()
+}
+
+/// Texts of random pieces; every third one is damaged, mostly so that it is no UTF-8.
+fn random_texts(seed: u64, pieces: &[&[u8]], see: &mut impl FnMut(&[u8])) {
+    let mut rng = Rng::new(seed);
+    for _ in 0..RANDOM {
+        let count = rng.length();
+        let text = rng.word(pieces, count);
+        match rng.below(3) {
+            0 => see(&rng.damaged(&text)),
+            _ => see(&text),
+        }
+    }
 }
 
 // UTF-8
@@ -71,11 +74,7 @@ fn compare_utf8(seed: u64) -> Tally {
     each_word(&EDGES.map(|edge| [edge]), 5, &mut see);
     each_character(&mut |character| see(character.encode_utf8(&mut [0; 4]).as_bytes()));
     in_ascii(&mut see);
-    let mut rng = Rng::new(seed);
-    let pieces = pieces();
-    for _ in 0..RANDOM {
-        see(&random_text(&mut rng, &pieces));
-    }
+    random_texts(seed, &pieces(), &mut see);
     tally
 }
 
@@ -139,11 +138,7 @@ fn compare_trim(seed: u64) -> Tally {
     each_word(&letters(BLANKS), 5, &mut see);
     each_word(BROKEN, 4, &mut see);
     each_character(&mut |c| see(format!("{c}{c}a{c}").as_bytes()));
-    let mut rng = Rng::new(seed);
-    let pieces = pieces();
-    for _ in 0..RANDOM {
-        see(&random_text(&mut rng, &pieces));
-    }
+    random_texts(seed, &pieces(), &mut see);
     tally
 }
 
@@ -184,12 +179,9 @@ fn compare_lines(seed: u64) -> Tally {
     let mut tally = Tally::new("lines");
     let mut see = |s: &[u8]| tally.check(s, check_lines);
     each_word(&letters(ENDINGS), 5, &mut see);
-    let mut rng = Rng::new(seed);
-    // Ends of lines are more frequent here than among the other pieces.
     let mut pieces = pieces();
+    // Ends of lines are few among the other pieces.
     pieces.extend([&b"\n"[..], b"\n", b"\r\n", b"\r\n", b"\n\n", b"\r\r\n", b"  word", b"word  "]);
-    for _ in 0..RANDOM {
-        see(&random_text(&mut rng, &pieces));
-    }
+    random_texts(seed, &pieces, &mut see);
     tally
 }
