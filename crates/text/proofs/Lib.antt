@@ -3,6 +3,7 @@ pub mod LineTheorem
 pub mod PartLaws
 pub mod Scalars
 pub mod Scan
+pub mod TextExamples
 pub mod TrimChars
 pub mod TrimLaws
 pub mod TrimTheorem

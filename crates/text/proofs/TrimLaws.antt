@@ -4,16 +4,17 @@ use mathlib.Core.Path.{_≡_, refl, sym, ap, _∙_}
 use mathlib.Core.Bool.{Bool, true, false}
 use mathlib.Core.List.{List, [], _∷_, _++_, reverse, reverse-append, reverse-reverse}
 use native.Mathlib.Omega.{arith}
-use native.Mathlib.Nat.{add-zero, sub-zero}
+use native.Mathlib.Nat.{add-zero, sub-zero, sub-self, le-refl}
 use native.Mathlib.Numerals.{add-one, sub-one}
 use lib.Dec.{eqb, eqb·suc-zero}
 use lib.ListN.{length, length-take, length-drop, length-reverse, getD, take, drop}
-use lib.Seq.{drop-nil, drop-drop, getD-drop, take-suc, take-all}
+use lib.Seq.{drop-nil, getD-drop, take-suc, take-all, take-length, length-take-le}
 use borrow.Author.Tests.{eq-eqb, ne-eqb, lt-leb}
 use Rattle.text.proofs.Scan.{by-cases, and-false, rest-more, rest-none, within-low, within-high}
-use Rattle.text.specs.Base.{if_then_else_, _&_, within}
+use Rattle.text.specs.Base.{if_then_else_, _&_, within, part}
 use Rattle.text.specs.Utf8.{Range, _to_}
-use Rattle.text.specs.Trim.{whiteBytes, backwards, begins, sizeOf, stripFrom, trimmedFront, trimmedBack, trimmed}
+use Rattle.text.specs.Trim.{whiteBytes, backwards, begins, sizeOf, stripFrom, trimmedFront, trimmedBack, trimmed, trimPlace}
+use Rattle.text.specs.declared.trim.Place.{Place}
 
 pub and-true : (b : Bool) → b & true ≡ b
 and-true true = refl
@@ -225,22 +226,78 @@ pub ruleset one-steps = (past-one, taken-one, no-row)
 
 pub ruleset place-steps = (at-ascii, at-long, before-ascii, before-long-1, before-long, first-before, nothing-before, at-inside, at-end, before-inside)
 
+abbrev pub place : (start len : ℕ) → Place
+place start len = record { start = start; len = len }
+
 -- ---- both ends: the front ends at i, the back of what is left begins at j
 
 whole-rest : (s : List ℕ) (i : ℕ) → take (length s - i) (drop i s) ≡ drop i s
 whole-rest s i = take-all (length s - i) (drop i s) (omega (arith, length-drop i s))
 
-module _ (s : List ℕ) (i j : ℕ) (h : i ≤ length s) where
-  pub both-ends : drop i s ≡ trimmedFront s → take j (take (length s - i) (drop i s)) ≡ trimmedBack (take (length s - i) (drop i s))
-      → take j (take (length s - i) (drop i s)) ≡ trimmed s
-  unfolding trimmed
-  both-ends p q = q ∙ ap (λ (r : List ℕ). trimmedBack r) (whole-rest s i ∙ p)
+module _ (s : List ℕ) (i j : ℕ) (h : i ≤ length s) (p : drop i s ≡ trimmedFront s)
+    (q : take j (take (length s - i) (drop i s)) ≡ trimmedBack (take (length s - i) (drop i s))) (k : j ≤ length (take (length s - i) (drop i s))) where
+  -- the place is the one that is meant
+  pub place-is : place i j ≡ trimPlace s
+  unfolding trimPlace trimmed
+  place-is =
+      let r = whole-rest s i ∙ p in
+      let n : i ≡ length s - length (trimmedFront s) = omega (arith, ap length p, length-drop i s) in
+      let m : j ≡ length (trimmedBack (trimmedFront s)) =
+      sym (length-take-le j (take (length s - i) (drop i s)) k) ∙ ap length q ∙ ap (λ (t : List ℕ). length (trimmedBack t)) r in
+      rw (← n, ← m)
 
-  pub both-places : drop i s ≡ trimmedFront s → take j (take (length s - i) (drop i s)) ≡ trimmedBack (take (length s - i) (drop i s))
-      → take j (drop i s) ≡ trimmed s
-  both-places p q = ap (λ (r : List ℕ). take j r) (sym (whole-rest s i)) ∙ both-ends p q
+-- ---- the place of the trimmed text
 
-  pub both-inside : j ≤ length (take (length s - i) (drop i s)) → i + j ≤ length s
-  both-inside k = let e : j ≤ length (drop i s) = rw (whole-rest s i) at k in omega (arith, length-drop i s)
+-- one byte more in front of what is left off
+further : (x : ℕ) (s l : List ℕ) → length l ≤ length s → drop (length s - length l) s ≡ l → drop (suc (length s) - length l) (x ∷ s) ≡ l
+further x s l h e = let n : suc (length s) - length l ≡ suc (length s - length l) = omega arith in rw n e
 
-pub ruleset trim-steps = (both-ends, both-places, both-inside)
+front-drops : (rows : List (List Range)) (k : ℕ) (s : List ℕ) → drop (length s - length (stripFrom rows k s)) s ≡ stripFrom rows k s
+unfolding stripFrom
+front-drops rows zero [] = refl
+front-drops rows (suc k) [] = refl
+front-drops rows (suc k) (x ∷ s) = further x s _ (strip-fits rows k s) (front-drops rows k s)
+front-drops rows zero (x ∷ s) = go (eqb (sizeOf rows (x ∷ s)) 0) (further x s _ (strip-fits rows (sizeOf rows (x ∷ s) - 1) s) (front-drops rows (sizeOf rows (x ∷ s) - 1) s))
+  where
+    less : List ℕ
+    less = stripFrom rows (sizeOf rows (x ∷ s) - 1) s
+
+    go : (b : Bool) → drop (suc (length s) - length less) (x ∷ s) ≡ less
+        → drop (suc (length s) - length (if b then (x ∷ s) else less)) (x ∷ s) ≡ (if b then (x ∷ s) else less)
+    go true e = rw (sub-self (suc (length s)))
+    go false e = e
+
+back-takes : (s : List ℕ) → take (length (trimmedBack s)) s ≡ trimmedBack s
+unfolding trimmedBack
+back-takes s =
+    let l : List ℕ = stripFrom (backwards whiteBytes) 0 (reverse s) in
+    let n : length (reverse s) ≡ length s = length-reverse s in
+    let k : length (reverse l) ≡ length s - (length s - length l) = omega (arith, length-reverse l, strip-fits (backwards whiteBytes) 0 (reverse s)) in
+    let e : reverse (take (length s - (length s - length l)) s) ≡ l =
+    back-drop s (length s) (length s - length l) (le-refl (length s))
+    ∙ ap (λ (t : List ℕ). drop (length s - length l) (reverse t)) (take-length s)
+    ∙ (rw n at (front-drops (backwards whiteBytes) 0 (reverse s))) in
+    rw k (sym (reverse-reverse (take (length s - (length s - length l)) s)) ∙ ap reverse e)
+
+-- what stands there is the trimmed text
+pub trimmed-part : (s : List ℕ) → part s (trimPlace s .start) (trimPlace s .len) ≡ trimmed s
+unfolding trimPlace trimmed trimmedFront
+trimmed-part s = rw (front-drops whiteBytes 0 s) (back-takes (stripFrom whiteBytes 0 s))
+
+-- and stands inside
+pub trim-inside : (s : List ℕ) → trimPlace s .start + trimPlace s .len ≤ length s
+unfolding trimPlace trimmed trimmedFront trimmedBack
+trim-inside s =
+    let f : List ℕ = stripFrom whiteBytes 0 s in
+    let b : List ℕ = stripFrom (backwards whiteBytes) 0 (reverse f) in
+    omega (arith, strip-fits whiteBytes 0 s, strip-fits (backwards whiteBytes) 0 (reverse f), length-reverse f, length-reverse b)
+
+-- for `search` to use: of a place that is the trimmed text's
+module _ (s : List ℕ) (p : Place) (e : p ≡ trimPlace s) where
+  pub at-place : part s (p .start) (p .len) ≡ trimmed s
+  at-place = rw e (trimmed-part s)
+
+  pub place-inside : p .start + p .len ≤ length s
+  place-inside = rw e (trim-inside s)
+
+pub ruleset trim-steps = (place-is, at-place, place-inside)

@@ -9,6 +9,7 @@ use lib.ListN.{length}
 use Rattle.text.specs.Base.{if_then_else_, _&_, within}
 use Rattle.text.specs.Utf8.{Range, _to_}
 use Rattle.text.specs.Unicode.{white}
+use Rattle.text.specs.declared.trim.Place.{Place}
 
 -- ---- of scalar values
 
@@ -75,3 +76,7 @@ trimmedBack s = reverse (stripFrom (backwards whiteBytes) 0 (reverse s))
 
 unfoldable pub trimmed : List ℕ → List ℕ
 trimmed s = trimmedBack (trimmedFront s)
+
+-- where the trimmed text stands: behind what is off the front; at the end where all of it is White_Space
+unfoldable pub trimPlace : List ℕ → Place
+trimPlace s = record { start = length s - length (trimmedFront s); len = length (trimmed s) }

@@ -3,9 +3,8 @@ ghost use mathlib.Core.Path.{_≡_};
 ghost use mathlib.Core.List.{[], _∷_, reverse};
 ghost use Prim.Native.Nat.{_+_, _-_, _≤_, _<_};
 ghost use lib.ListN.{length, getD, take, drop};
-ghost use Rattle.text.specs.Base.{part};
 ghost use Rattle.text.specs.Utf8.{_to_};
-ghost use Rattle.text.specs.Trim.{whiteBytes, backwards, begins, sizeOf, trimmedFront, trimmedBack, trimmed};
+ghost use Rattle.text.specs.Trim.{whiteBytes, backwards, begins, sizeOf, trimmedFront, trimmedBack, trimmed, trimPlace};
 
 // Where a part of a text stands.
 pub struct Place {
@@ -204,8 +203,7 @@ fn back_start(s: &[u8]) -> usize
 
 // Where the text stands once its White_Space is off both ends.
 pub fn trim_place(s: &[u8]) -> Place
-    ensures { λ r. ⌜ r .start + r .len ≤ length (now (s .entry)) ⌝ }
-    ensures { λ r. ⌜ part (now (s .entry)) (r .start) (r .len) ≡ trimmed (now (s .entry)) ⌝ }
+    ensures { λ r. ⌜ r ≡ trimPlace (now (s .entry)) ⌝ }
 {
     let start = front_end(s);
     let rest = &s[start..];

@@ -11,8 +11,6 @@ use Rattle.text.specs.Parts.{startsWith}
 use Rattle.text.proofs.Scan.{rest-more, rest-none}
 use Rattle.text.proofs.parts.starts_with.Statement.{statement}
 use Rattle.text.proofs.parts.starts_with.Tie as tie
-use Rattle.text.proofs.parts.starts_with.Reads as reads
-use Rattle.text.proofs.parts.starts_with.Lts as lts
 
 module _ (p s : List ℕ) (i : ℕ) (whole : Bool) where
   abbrev Here : Type 0

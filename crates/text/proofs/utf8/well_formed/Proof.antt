@@ -20,8 +20,6 @@ use Rattle.text.specs.Utf8.{Range, _to_, table, after, wellFormedFrom, w
 use Rattle.text.specs.Utf8Walk.{ranges, dueOf}
 use Rattle.text.proofs.utf8.well_formed.Statement.{statement}
 use Rattle.text.proofs.utf8.well_formed.Tie as tie
-use Rattle.text.proofs.utf8.well_formed.Reads as reads
-use Rattle.text.proofs.utf8.well_formed.Lts as lts
 
 ranges-more : (n lo hi : ℕ) → (n ≡ 0 → ⊥) → ranges n lo hi ≡ lo to hi ∷ ranges (n - 1) 0x80 0xBF
 unfolding ranges
