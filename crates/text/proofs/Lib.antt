@@ -1,5 +1,6 @@
 pub mod LineLaws
 pub mod LineTheorem
+pub mod LiteralLaws
 pub mod PartLaws
 pub mod Scalars
 pub mod Scan

@@ -1,0 +1,48 @@
+-- A word of a definition is a quoted text; a word of the code is a list of bytes. Assumes nothing.
+use Prim.Native.Nat.{ℕ}
+use Prim.Native.Char.{Char, code}
+use Prim.Native.String.{String, [] as []ˢ, _∷_ as _∷ˢ_}
+use mathlib.Core.Path.{_≡_, refl, sym, ap, _∙_}
+use mathlib.Core.Bool.{Bool, true, false}
+use mathlib.Core.List.{List, [], _∷_}
+use mathlib.Core.Option.{Option, none, some}
+use lib.Dec.{eqb}
+use lib.ListN.{length, drop}
+use borrow.Author.Tests.{eq-eqb, ne-eqb, eqb-true, eqb-false}
+use Rattle.text.specs.Base.{if_then_else_, _&_}
+use Rattle.text.specs.Literal.{spells, afterWord}
+use Rattle.text.specs.Parts.{startsWith, sameBytes}
+
+-- the bytes of a word
+abbrev pub codes : String → List ℕ
+codes []ˢ = []
+codes (c ∷ˢ w) = code c ∷ codes w
+
+eqb-sym : (a b : ℕ) → eqb a b ≡ eqb b a
+eqb-sym a b = go (eqb b a) refl
+  where
+    go : (t : Bool) → eqb b a ≡ t → eqb a b ≡ t
+    go true e = eq-eqb a b (sym (eqb-true b a e))
+    go false e = ne-eqb a b (λ f. eqb-false b a e (sym f))
+
+pub spells-as : (w : String) (s : List ℕ) → spells w s ≡ sameBytes s (codes w)
+unfolding spells sameBytes
+spells-as []ˢ [] = refl
+spells-as []ˢ (x ∷ s) = refl
+spells-as (c ∷ˢ w) [] = refl
+spells-as (c ∷ˢ w) (x ∷ s) = rw (eqb-sym (code c) x) (go (eqb x (code c)) (spells-as w s))
+  where
+    go : (b : Bool) → spells w s ≡ sameBytes s (codes w) → (if b then spells w s else false) ≡ b & sameBytes s (codes w)
+    go true ih = ih
+    go false ih = refl
+
+pub after-as : (w : String) (s : List ℕ) → afterWord w s ≡ (if startsWith (codes w) s then some (drop (length (codes w)) s) else none)
+unfolding afterWord startsWith
+after-as []ˢ s = refl
+after-as (c ∷ˢ w) [] = refl
+after-as (c ∷ˢ w) (x ∷ s) = rw (eqb-sym (code c) x) (go (eqb x (code c)) (after-as w s))
+  where
+    go : (b : Bool) → afterWord w s ≡ (if startsWith (codes w) s then some (drop (length (codes w)) s) else none)
+        → (if b then afterWord w s else none) ≡ (if b & startsWith (codes w) s then some (drop (length (codes w)) s) else none)
+    go true ih = ih
+    go false ih = refl
