@@ -1,16 +1,15 @@
 -- A word of a definition is a quoted text; a word of the code is a list of bytes. Assumes nothing.
-use Prim.Native.Nat.{ℕ}
+use Prim.Native.Nat.{ℕ, suc}
 use Prim.Native.Char.{Char, code}
 use Prim.Native.String.{String, [] as []ˢ, _∷_ as _∷ˢ_}
 use mathlib.Core.Path.{_≡_, refl, sym, ap, _∙_}
 use mathlib.Core.Bool.{Bool, true, false}
 use mathlib.Core.List.{List, [], _∷_}
-use mathlib.Core.Option.{Option, none, some}
 use lib.Dec.{eqb}
-use lib.ListN.{length, drop}
+use lib.ListN.{length}
 use borrow.Author.Tests.{eq-eqb, ne-eqb, eqb-true, eqb-false}
 use Rattle.text.specs.Base.{if_then_else_, _&_}
-use Rattle.text.specs.Literal.{spells, afterWord}
+use Rattle.text.specs.Literal.{spells, beginsWith, wordLength}
 use Rattle.text.specs.Parts.{startsWith, sameBytes}
 
 -- the bytes of a word
@@ -36,13 +35,17 @@ spells-as (c ∷ˢ w) (x ∷ s) = rw (eqb-sym (code c) x) (go (eqb x (code c)) (
     go true ih = ih
     go false ih = refl
 
-pub after-as : (w : String) (s : List ℕ) → afterWord w s ≡ (if startsWith (codes w) s then some (drop (length (codes w)) s) else none)
-unfolding afterWord startsWith
-after-as []ˢ s = refl
-after-as (c ∷ˢ w) [] = refl
-after-as (c ∷ˢ w) (x ∷ s) = rw (eqb-sym (code c) x) (go (eqb x (code c)) (after-as w s))
+pub begins-as : (w : String) (s : List ℕ) → beginsWith w s ≡ startsWith (codes w) s
+unfolding beginsWith startsWith
+begins-as []ˢ s = refl
+begins-as (c ∷ˢ w) [] = refl
+begins-as (c ∷ˢ w) (x ∷ s) = rw (eqb-sym (code c) x) (go (eqb x (code c)) (begins-as w s))
   where
-    go : (b : Bool) → afterWord w s ≡ (if startsWith (codes w) s then some (drop (length (codes w)) s) else none)
-        → (if b then afterWord w s else none) ≡ (if b & startsWith (codes w) s then some (drop (length (codes w)) s) else none)
+    go : (b : Bool) → beginsWith w s ≡ startsWith (codes w) s → (if b then beginsWith w s else false) ≡ b & startsWith (codes w) s
     go true ih = ih
     go false ih = refl
+
+pub length-as : (w : String) → wordLength w ≡ length (codes w)
+unfolding wordLength
+length-as []ˢ = refl
+length-as (c ∷ˢ w) = ap suc (length-as w)

@@ -11,7 +11,7 @@ use lib.Dec.{leb}
 use lib.ListN.{length, getD, take, drop, set, drop-of-length-le}
 use lib.Seq.{drop-cons, take-suc-set, take-all}
 use borrow.Author.Tests.{le-leb, lt-leb, leb-true}
-use Rattle.text.specs.Base.{if_then_else_, _&_, _or_, within}
+use Rattle.text.specs.Base.{if_then_else_, _&_, within}
 
 -- at a place inside, the rest of a text is the byte there and the rest from the next place
 pub rest-more : (text : List ℕ) (i : ℕ) → i < length text → drop i text ≡ getD text i 0 ∷ drop (i + 1) text
@@ -38,6 +38,11 @@ pub by-cases {ℓ} : {A : Type ℓ} (P : A → Type 0) (b : Bool) (x y : A) → 
 by-cases P true x y p q = p
 by-cases P false x y p q = q
 
+-- and so where each branch may use what its test says
+pub by-test {ℓ} : {A : Type ℓ} (P : A → Type 0) (b : Bool) (x y : A) → (b ≡ true → P x) → (b ≡ false → P y) → P (if b then x else y)
+by-test P true x y p q = p refl
+by-test P false x y p q = q refl
+
 -- what a conjunction says of its two sides, and a range of its ends
 pub both : (a b : Bool) → a & b ≡ true → (a ≡ true) × (b ≡ true)
 both true b e = (refl, e)
@@ -47,13 +52,13 @@ pub inside : (lo hi x : ℕ) → within lo hi x ≡ true → (lo ≤ x) × (x �
 unfolding within
 inside lo hi x e = let p = both (leb lo x) (leb x hi) e in (leb-true lo x (p .0), leb-true x hi (p .1))
 
+pub and-true : (b : Bool) → b & true ≡ b
+and-true true = refl
+and-true false = refl
+
 pub and-false : (b : Bool) → b & false ≡ false
 and-false true = refl
 and-false false = refl
-
-pub or-false : (b : Bool) → b or false ≡ b
-or-false true = refl
-or-false false = refl
 
 pub within-true : (lo hi x : ℕ) → lo ≤ x → x ≤ hi → within lo hi x ≡ true
 unfolding within

@@ -9,8 +9,8 @@ use Rattle.text.specs.Literal.{utf8}
 use Rattle.text.specs.Utf8.{Range, table, after, wellFormedFrom, wellFormed}
 use Rattle.text.specs.Unicode.{scalar, allScalars, encoded, scalarsFrom, scalars, whiteSpace}
 use Rattle.text.specs.Trim.{whiteBytes, backwards, begins, sizeOf, stripFrom, trimmedFront, trimmedBack, trimmed, trimPlace}
-use Rattle.text.specs.Parts.{startsWith, endsWith, sameBytes, positionFrom, position, pairPositionFrom, pairPosition, partOf, splitFrom, split}
-use Rattle.text.specs.Words.{wordOf, wordsFrom, words}
+use Rattle.text.specs.Parts.{startsWith, endsWith, sameBytes, positionFrom, position, pairPositionFrom, pairPosition, span, partOf, splitFrom, split}
+use Rattle.text.specs.Words.{wordsFrom, words}
 use Rattle.text.specs.Lines.{line, linesFrom, lines, indented}
 
 texts :
@@ -51,7 +51,7 @@ texts :
     × (pairPosition 0x6D 0x73 (utf8 "sm") ≡ none)
     × (split 0x2C (utf8 "a,,b") ≡ partOf 0 1 true ∷ partOf 2 2 true ∷ partOf 3 4 false ∷ [])
     × (split 0x2C [] ≡ partOf 0 0 false ∷ [])
-    × (words (utf8 " a\u{3000}bc \t") ≡ wordOf 1 2 ∷ wordOf 5 7 ∷ [])
+    × (words (utf8 " a\u{3000}bc \t") ≡ span 1 2 ∷ span 5 7 ∷ [])
 unfolding utf8 within wellFormed wellFormedFrom table after scalars scalarsFrom trimmed trimmedFront trimmedBack stripFrom sizeOf begins whiteBytes backwards trimPlace lines linesFrom indented startsWith endsWith sameBytes position positionFrom pairPosition pairPositionFrom split splitFrom words wordsFrom
 texts = (refl, refl, refl, refl, refl, refl, refl, refl, refl, refl, refl, refl, refl, refl, refl, refl, refl, refl, refl, refl, refl, refl, refl, refl, refl, refl, refl, refl, refl, refl, refl, refl, refl, refl, refl, refl, refl, refl)
 

@@ -8,8 +8,8 @@ use native.Mathlib.Omega.{arith}
 use lib.Dec.{leb}
 use lib.ListN.{take}
 use borrow.Author.Tests.{leb-true}
-use Rattle.text.proofs.Scan.{both, inside, and-false, within-true, within-low, within-high}
-use Rattle.text.proofs.TrimLaws.{and-true, front-ascii, back-ascii}
+use Rattle.text.proofs.Scan.{both, inside, and-true, and-false, within-true, within-low, within-high}
+use Rattle.text.proofs.TrimLaws.{front-ascii, back-ascii}
 use Rattle.text.specs.Base.{if_then_else_, _&_, _or_, within}
 use Rattle.text.specs.Utf8.{Range, _to_}
 use Rattle.text.specs.Unicode.{whiteSpace, oneHas, white}

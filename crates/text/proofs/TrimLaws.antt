@@ -10,15 +10,11 @@ use lib.Dec.{eqb, eqb·suc-zero}
 use lib.ListN.{length, length-take, length-drop, length-reverse, getD, take, drop}
 use lib.Seq.{drop-nil, getD-drop, take-suc, take-all, take-length, length-take-le}
 use borrow.Author.Tests.{eq-eqb, ne-eqb, lt-leb}
-use Rattle.text.proofs.Scan.{by-cases, and-false, rest-more, rest-none, within-low, within-high}
+use Rattle.text.proofs.Scan.{by-cases, and-true, and-false, rest-more, rest-none, within-low, within-high}
 use Rattle.text.specs.Base.{if_then_else_, _&_, within, part}
 use Rattle.text.specs.Utf8.{Range, _to_}
 use Rattle.text.specs.Trim.{whiteBytes, backwards, begins, sizeOf, stripFrom, trimmedFront, trimmedBack, trimmed, trimPlace}
 use Rattle.text.specs.declared.trim.Place.{Place}
-
-pub and-true : (b : Bool) → b & true ≡ b
-and-true true = refl
-and-true false = refl
 
 -- ---- the test of a row, and the first row that fits; for `search` to use
 

@@ -12,15 +12,16 @@ use borrow.Author.Tests.{eq-eqb, ne-eqb, eqb-false}
 use Rattle.text.proofs.Scan.{shift, rest-more, rest-none}
 use Rattle.text.specs.Base.{if_then_else_}
 use Rattle.text.specs.Trim.{whiteBytes, sizeOf}
-use Rattle.text.specs.declared.words.Word.{Word}
-use Rattle.text.specs.Words.{wordOf, wordsFrom, wordFrom, wordAt}
+use Rattle.text.specs.declared.parts.Span.{Span}
+use Rattle.text.specs.Parts.{span}
+use Rattle.text.specs.Words.{wordsFrom, wordFrom, wordAt}
 
 -- the words from `at` on
-abbrev pub wordsAt : List ℕ → (at : ℕ) → List Word
+abbrev pub wordsAt : List ℕ → (at : ℕ) → List Span
 wordsAt s at = wordsFrom 0 at at (drop at s)
 
 -- what is known of the first word w from a place on, and of the words ws from there
-record Here (start at : ℕ) (rest : List ℕ) (w : Word) (ws : List Word) : Type 0 where
+record Here (start at : ℕ) (rest : List ℕ) (w : Span) (ws : List Span) : Type 0 where
   begins : start ≤ w .start
   forward : w .start ≤ w .end
   reaches : at ≤ w .end
@@ -29,7 +30,7 @@ record Here (start at : ℕ) (rest : List ℕ) (w : Word) (ws : List Word) : Typ
   more : (w .start ≡ w .end → ⊥) → ws ≡ w ∷ wordsFrom 0 (w .end) (w .end) (drop (w .end - at) rest)
 
 -- a byte further on
-wider : (x : ℕ) (rest : List ℕ) (start start′ at : ℕ) (w : Word) (ws : List Word) → start′ ≤ start → Here start (at + 1) rest w ws → Here start′ at (x ∷ rest) w ws
+wider : (x : ℕ) (rest : List ℕ) (start start′ at : ℕ) (w : Span) (ws : List Span) → start′ ≤ start → Here start (at + 1) rest w ws → Here start′ at (x ∷ rest) w ws
 wider x rest start start′ at w ws l k =
     record {
       begins = omega (arith, k .begins);
@@ -40,7 +41,7 @@ wider x rest start start′ at w ws l k =
       more = λ n. k .more n ∙ ap (λ (r : List ℕ). w ∷ wordsFrom 0 (w .end) (w .end) r) (shift x rest at (w .end) (k .reaches));
     }
 
-at-end : (start at : ℕ) → start ≤ at → Here start at [] (wordOf start at) (if eqb start at then [] else (wordOf start at ∷ []))
+at-end : (start at : ℕ) → start ≤ at → Here start at [] (span start at) (if eqb start at then [] else (span start at ∷ []))
 unfolding wordsFrom
 at-end start at l =
     record {
@@ -69,8 +70,8 @@ here zero start (x ∷ rest) at l =
         → Here start at (x ∷ rest) (wordFrom 0 start (at + 1) rest) (wordsFrom 0 start (at + 1) rest)
         → Here start at (x ∷ rest) (wordFrom skipped (at + 1) (at + 1) rest) (wordsFrom skipped (at + 1) (at + 1) rest)
         → Here start at (x ∷ rest)
-        (if t then wordFrom 0 start (at + 1) rest else if u then wordFrom skipped (at + 1) (at + 1) rest else wordOf start at)
-        (if t then wordsFrom 0 start (at + 1) rest else if u then wordsFrom skipped (at + 1) (at + 1) rest else (wordOf start at ∷ wordsFrom skipped (at + 1) (at + 1) rest))
+        (if t then wordFrom 0 start (at + 1) rest else if u then wordFrom skipped (at + 1) (at + 1) rest else span start at)
+        (if t then wordsFrom 0 start (at + 1) rest else if u then wordsFrom skipped (at + 1) (at + 1) rest else (span start at ∷ wordsFrom skipped (at + 1) (at + 1) rest))
     go true e u f longer apart = longer
     go false e true f longer apart = apart
     go false e false f longer apart =
@@ -84,14 +85,14 @@ here zero start (x ∷ rest) at l =
         }
 
 -- what a walk needs of the first word from a place on
-pub record Known (s : List ℕ) (at : ℕ) (w : Word) : Type 0 where
+pub record Known (s : List ℕ) (at : ℕ) (w : Span) : Type 0 where
   pub begins : at ≤ w .start
   pub forward : w .start ≤ w .end
   pub inside : w .end ≤ length s
   pub none : w .start ≡ w .end → wordsAt s at ≡ []
   pub more : (w .start ≡ w .end → ⊥) → wordsAt s at ≡ w ∷ wordsAt s (w .end)
 
-pub known : (s : List ℕ) (at : ℕ) (w : Word) → at ≤ length s → w ≡ wordAt s at → Known s at w
+pub known : (s : List ℕ) (at : ℕ) (w : Span) → at ≤ length s → w ≡ wordAt s at → Known s at w
 unfolding wordAt
 known s at w h q =
     let k : Here at at (drop at s) w (wordsAt s at) = rw q (here 0 at (drop at s) at (omega arith)) in
@@ -114,7 +115,7 @@ skipped-white zero rest at h = rw (add-zero at)
 skipped-white (suc k) [] at h = absurd (omega arith)
 skipped-white (suc k) (x ∷ rest) at h = let e : at + 1 + k ≡ at + suc k = omega arith in rw (← e) (skipped-white k rest (at + 1) (omega arith))
 
-module _ (s : List ℕ) (i n : ℕ) (whole : Word) (h : i < length s) (e : n ≡ sizeOf whiteBytes (drop i s)) where
+module _ (s : List ℕ) (i n : ℕ) (whole : Span) (h : i < length s) (e : n ≡ sizeOf whiteBytes (drop i s)) where
   -- a White_Space character of n bytes before any word
   pub white-on : wordFrom 0 i i (drop i s) ≡ whole → (n ≡ 0 → ⊥) → n ≤ length s - i → wordFrom 0 (i + n) (i + n) (drop (i + n) s) ≡ whole
   unfolding wordFrom
@@ -138,13 +139,13 @@ module _ (s : List ℕ) (i n : ℕ) (whole : Word) (h : i < length s) (e : n ≡
         rw (rest-more s i h, k) at q
 
     -- White_Space behind the word: it does not stand where the word began
-    pub word-over : (n ≡ 0 → ⊥) → (start < length s → sizeOf whiteBytes (drop start s) ≡ 0) → start ≤ i → wordOf start i ≡ whole
+    pub word-over : (n ≡ 0 → ⊥) → (start < length s → sizeOf whiteBytes (drop start s) ≡ 0) → start ≤ i → span start i ≡ whole
     unfolding wordFrom
     word-over z first l =
         let k : sizeOf whiteBytes (getD s i 0 ∷ drop (i + 1) s) ≡ n = sym (rw (rest-more s i h) at e) in
         rw (rest-more s i h, k, ne-eqb n 0 z, ne-eqb start i (λ f. z (e ∙ ap (λ (j : ℕ). sizeOf whiteBytes (drop j s)) (sym f) ∙ first (omega arith)))) at q
 
-pub word-end : (s : List ℕ) (start i : ℕ) (whole : Word) → wordFrom 0 start i (drop i s) ≡ whole → length s ≤ i → wordOf start i ≡ whole
+pub word-end : (s : List ℕ) (start i : ℕ) (whole : Span) → wordFrom 0 start i (drop i s) ≡ whole → length s ≤ i → span start i ≡ whole
 unfolding wordFrom
 word-end s start i whole q h = rw (rest-none s i h) at q
 

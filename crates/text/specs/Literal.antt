@@ -1,10 +1,9 @@
 -- How words are written down in definitions and worked examples: as quoted text. Assumes nothing.
-use Prim.Native.Nat.{ℕ}
+use Prim.Native.Nat.{ℕ, suc}
 use Prim.Native.Char.{Char, code}
 use Prim.Native.String.{String, [] as []ˢ, _∷_ as _∷ˢ_}
 use mathlib.Core.Bool.{Bool, true, false}
 use mathlib.Core.List.{List, [], _∷_, _++_}
-use mathlib.Core.Option.{Option, none, some}
 use lib.Dec.{eqb}
 use Rattle.text.specs.Base.{if_then_else_}
 use Rattle.text.specs.Unicode.{encoded}
@@ -24,8 +23,13 @@ spells []ˢ (x ∷ s) = false
 spells (c ∷ˢ w) [] = false
 spells (c ∷ˢ w) (x ∷ s) = let more = spells w s in if eqb (code c) x then more else false
 
--- what stands behind the word, where the bytes begin with it
-unfoldable pub afterWord : String → List ℕ → Option (List ℕ)
-afterWord []ˢ s = some s
-afterWord (c ∷ˢ w) [] = none
-afterWord (c ∷ˢ w) (x ∷ s) = let more = afterWord w s in if eqb (code c) x then more else none
+-- the bytes begin with those of the word
+unfoldable pub beginsWith : String → List ℕ → Bool
+beginsWith []ˢ s = true
+beginsWith (c ∷ˢ w) [] = false
+beginsWith (c ∷ˢ w) (x ∷ s) = let more = beginsWith w s in if eqb (code c) x then more else false
+
+-- how many signs a word has
+unfoldable pub wordLength : String → ℕ
+wordLength []ˢ = 0
+wordLength (c ∷ˢ w) = suc (wordLength w)

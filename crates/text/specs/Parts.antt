@@ -10,6 +10,11 @@ use Rattle.text.specs.Base.{if_then_else_, _&_}
 use Rattle.text.specs.declared.parts.Found.{Found}
 use Rattle.text.specs.declared.parts.Found.the-variants.{At, Nothing}
 use Rattle.text.specs.declared.parts.Part.{Part}
+use Rattle.text.specs.declared.parts.Span.{Span}
+
+-- a piece of a text: from start up to, not including, end
+abbrev pub span : (start end : ℕ) → Span
+span start end = record { start = start; end = end }
 
 -- the bytes of prefix stand at the front of s
 unfoldable pub startsWith : (prefix s : List ℕ) → Bool

@@ -8,6 +8,12 @@ pub enum Found {
     Nothing,
 }
 
+// A piece of a text: from start up to, not including, end.
+pub struct Span {
+    pub start: usize,
+    pub end: usize,
+}
+
 // A part between separators: from start up to, not including, end. Where more follow, the next begins at end + 1.
 pub struct Part {
     pub start: usize,

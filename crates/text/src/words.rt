@@ -3,13 +3,9 @@ ghost use mathlib.Core.Path.{_≡_};
 ghost use Prim.Native.Nat.{_<_};
 ghost use lib.ListN.{length, drop};
 ghost use Rattle.text.specs.Trim.{whiteBytes, sizeOf};
-ghost use Rattle.text.specs.Words.{wordOf, wordFrom, wordAt};
-
-// A word: from start up to, not including, end.
-pub struct Word {
-    pub start: usize,
-    pub end: usize,
-}
+ghost use Rattle.text.specs.Parts.{span};
+ghost use Rattle.text.specs.Words.{wordFrom, wordAt};
+use crate::parts::Span;
 
 // Where the White_Space from `at` on ends.
 fn skip_white(s: &[u8], at: usize) -> usize
@@ -30,7 +26,7 @@ fn skip_white(s: &[u8], at: usize) -> usize
 // Where the word that begins at start ends.
 fn skip_word(s: &[u8], start: usize) -> usize
     requires { ⌜ (start < length (now s) → sizeOf whiteBytes (drop start (now s)) ≡ 0) ⌝ }
-    ensures { λ r. ⌜ wordOf start r ≡ wordFrom 0 start start (drop start (now (s .entry))) ⌝ }
+    ensures { λ r. ⌜ span start r ≡ wordFrom 0 start start (drop start (now (s .entry))) ⌝ }
 {
     let mut i = start;
     while i < s.len() {
@@ -44,12 +40,12 @@ fn skip_word(s: &[u8], start: usize) -> usize
 }
 
 // The first word from `at` on; it has no bytes where there is none.
-pub fn word_at(s: &[u8], at: usize) -> Word
+pub fn word_at(s: &[u8], at: usize) -> Span
     ensures { λ r. ⌜ r ≡ wordAt (now (s .entry)) at ⌝ }
 {
     let start = skip_white(s, at);
     let end = skip_word(s, start);
-    Word {
+    Span {
         start: start,
         end: end,
     }

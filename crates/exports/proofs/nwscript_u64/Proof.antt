@@ -1,0 +1,16 @@
+-- `exports::nwscript_u64` meets its contract. Assumes nothing.
+use borrow.Author.Needs.{needs}
+use Rattle.exports.proofs.nwscript_u64.Statement.{statement}
+use Rattle.exports.proofs.nwscript_u64.Tie as tie
+
+parse-u64-requires : tie.Need-parse-u64-requires
+parse-u64-requires c κs = search needs
+
+give-requires : tie.Need-give-requires
+give-requires c κs = search needs
+
+returns : tie.Need-returns
+returns c = (cc, cc)
+
+pub nwscript-u64-spec : {M : Type 1} → statement M
+nwscript-u64-spec = tie.close (tie.spec parse-u64-requires give-requires returns)

@@ -1,0 +1,144 @@
+// What a host in Rust or C calls, with numbers and byte slices. No logic of its own, and no `requires`: any bytes may come.
+ghost use Prim.Native.Nat.{_^_};
+ghost use mathlib.Core.Path.{_≡_};
+ghost use lib.ListN.{length};
+ghost use Rattle.text.specs.Base.{overlaid};
+ghost use Rattle.text.specs.Utf8.{wellFormed};
+ghost use Rattle.text.specs.Trim.{trimPlace};
+ghost use Rattle.text.specs.Lines.{lines, trimmedLength};
+ghost use Rattle.text.specs.Numbers.{number, signed, numberOf, integerOf};
+ghost use Rattle.text.specs.Hex.{hexDecoded};
+ghost use Rattle.text.specs.Unquote.{unquoted};
+ghost use Rattle.exports.specs.Given.{isGiven, givenOr};
+use text::number::Integer;
+use text::number::Number;
+
+// Whether the bytes are well-formed UTF-8.
+#[no_mangle]
+pub extern "C" fn nwscript_utf8(s: &[u8]) -> bool
+    ensures { λ r. ⌜ r ≡ wellFormed (now (s .entry)) ⌝ }
+{
+    text::utf8::well_formed(s)
+}
+
+// Where the text stands once its White_Space is off both ends.
+#[no_mangle]
+pub extern "C" fn nwscript_trim(s: &[u8], start: &mut usize, len: &mut usize)
+    ensures { λ _. ⌜ now (start .exit) ≡ trimPlace (now (s .entry)) .start ⌝ }
+    ensures { λ _. ⌜ now (len .exit) ≡ trimPlace (now (s .entry)) .len ⌝ }
+{
+    let p = text::trim::trim_place(s);
+    *start = p.start;
+    *len = p.len;
+}
+
+// How many lines the text has.
+#[no_mangle]
+pub extern "C" fn nwscript_count_lines(text: &[u8]) -> usize
+    ensures { λ r. ⌜ r ≡ length (lines (now (text .entry))) ⌝ }
+{
+    text::lines::count_lines(text)
+}
+
+// How many bytes the lines have once each is trimmed.
+#[no_mangle]
+pub extern "C" fn nwscript_trimmed_bytes(text: &[u8]) -> usize
+    ensures { λ r. ⌜ r ≡ trimmedLength (now (text .entry)) (lines (now (text .entry))) ⌝ }
+{
+    text::lines::trimmed_bytes(text)
+}
+
+// How many bytes s spells in hex.
+#[no_mangle]
+pub extern "C" fn nwscript_hex_len(s: &[u8]) -> usize
+    ensures { λ r. ⌜ r ≡ length (hexDecoded (now (s .entry))) ⌝ }
+{
+    text::hex::hex_len(s)
+}
+
+// The bytes that s spells in hex, at the front of out if there is room; how many they are.
+#[no_mangle]
+pub extern "C" fn nwscript_hex(s: &[u8], out: &mut [u8]) -> usize
+    ensures { λ r. ⌜ r ≡ length (hexDecoded (now (s .entry))) ⌝ }
+    ensures { λ _. ⌜ now (out .exit) ≡ overlaid (hexDecoded (now (s .entry))) (now (out .entry)) ⌝ }
+{
+    text::hex::hex_decode(s, out)
+}
+
+// How many bytes s has unquoted.
+#[no_mangle]
+pub extern "C" fn nwscript_unquoted_len(s: &[u8]) -> usize
+    ensures { λ r. ⌜ r ≡ length (unquoted (now (s .entry))) ⌝ }
+{
+    text::unquote::unquoted_len(s)
+}
+
+// s unquoted, at the front of out if there is room; how many bytes that are.
+#[no_mangle]
+pub extern "C" fn nwscript_unquote(s: &[u8], out: &mut [u8]) -> usize
+    ensures { λ r. ⌜ r ≡ length (unquoted (now (s .entry))) ⌝ }
+    ensures { λ _. ⌜ now (out .exit) ≡ overlaid (unquoted (now (s .entry))) (now (out .entry)) ⌝ }
+{
+    text::unquote::unquote(s, out)
+}
+
+// A number that was read goes into value; else value is left alone.
+fn give(n: Number, value: &mut u64) -> bool
+    ensures { λ r. ⌜ r ≡ isGiven (numberOf n) ⌝ }
+    ensures { λ _. ⌜ now (value .exit) ≡ givenOr (numberOf n) (now (value .entry)) ⌝ }
+{
+    match n {
+        Number::Value(v) => {
+            *value = v;
+            true
+        }
+        Number::Bad => false,
+    }
+}
+
+// A u64, a u16, a u8 as Rust's `parse` reads them: whether it could be read; value is left alone if not.
+#[no_mangle]
+pub extern "C" fn nwscript_u64(s: &[u8], value: &mut u64) -> bool
+    ensures { λ r. ⌜ r ≡ isGiven (number (2 ^ 64) (now (s .entry))) ⌝ }
+    ensures { λ _. ⌜ now (value .exit) ≡ givenOr (number (2 ^ 64) (now (s .entry))) (now (value .entry)) ⌝ }
+{
+    give(text::number::parse_u64(s), value)
+}
+
+#[no_mangle]
+pub extern "C" fn nwscript_u16(s: &[u8], value: &mut u64) -> bool
+    ensures { λ r. ⌜ r ≡ isGiven (number (2 ^ 16) (now (s .entry))) ⌝ }
+    ensures { λ _. ⌜ now (value .exit) ≡ givenOr (number (2 ^ 16) (now (s .entry))) (now (value .entry)) ⌝ }
+{
+    give(text::number::parse_u16(s), value)
+}
+
+#[no_mangle]
+pub extern "C" fn nwscript_u8(s: &[u8], value: &mut u64) -> bool
+    ensures { λ r. ⌜ r ≡ isGiven (number (2 ^ 8) (now (s .entry))) ⌝ }
+    ensures { λ _. ⌜ now (value .exit) ≡ givenOr (number (2 ^ 8) (now (s .entry))) (now (value .entry)) ⌝ }
+{
+    give(text::number::parse_u8(s), value)
+}
+
+fn give_signed(n: Integer, value: &mut i64) -> bool
+    ensures { λ r. ⌜ r ≡ isGiven (integerOf n) ⌝ }
+    ensures { λ _. ⌜ now (value .exit) ≡ givenOr (integerOf n) (now (value .entry)) ⌝ }
+{
+    match n {
+        Integer::Value(v) => {
+            *value = v;
+            true
+        }
+        Integer::Bad => false,
+    }
+}
+
+// An i64, in the same manner.
+#[no_mangle]
+pub extern "C" fn nwscript_i64(s: &[u8], value: &mut i64) -> bool
+    ensures { λ r. ⌜ r ≡ isGiven (signed (now (s .entry))) ⌝ }
+    ensures { λ _. ⌜ now (value .exit) ≡ givenOr (signed (now (s .entry))) (now (value .entry)) ⌝ }
+{
+    give_signed(text::number::parse_i64(s), value)
+}
