@@ -6,7 +6,7 @@ use lib.ListN.{length, drop}
 use borrow.Author.Needs.{needs}
 use Rattle.text.specs.Lines.{lineFrom, lineAt}
 use Rattle.text.specs.LinesWalk.{endAt}
-use Rattle.text.proofs.LineLaws.{end-begun, line-walk}
+use Rattle.text.proofs.LineLaws.{line-walk}
 use Rattle.text.proofs.lines.line_at.Statement.{statement}
 use Rattle.text.proofs.lines.line_at.Tie as tie
 
@@ -16,9 +16,12 @@ Inv-loop text at number i₀ i = (at ≤ i) × (lineFrom number at i (endAt text
 abbrev μ-loop : tie.MeasureT-loop
 μ-loop text at number i₀ i = length text - i
 
+skip-plain-requires : tie.Need-skip-plain-requires Inv-loop μ-loop
+skip-plain-requires c κs = search needs
+
 loop-holds : tie.Need-loop-holds Inv-loop μ-loop
 unfolding lineAt
-loop-holds c = (search needs, rw (end-begun _ _))
+loop-holds c = search (needs, line-walk)
 
 shared-slice-read-if1 : tie.Need-shared-slice-read-if1 Inv-loop μ-loop
 shared-slice-read-if1 c = search (needs, line-walk)
@@ -47,6 +50,7 @@ line-at-spec =
     (tie.spec
     Inv-loop
     μ-loop
+    skip-plain-requires
     loop-holds
     shared-slice-read-if1
     ended-requires
