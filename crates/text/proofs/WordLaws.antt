@@ -107,6 +107,16 @@ known s at w h q =
       more = λ n. k .more n ∙ ap (λ (r : List ℕ). w ∷ wordsFrom 0 (w .end) (w .end) r) (drop-drop (w .end - at) at s ∙ ap (λ (m : ℕ). drop m s) e);
     }
 
+-- The numbers of a word, for `search` to use.
+module _ (s : List ℕ) (at : ℕ) (w : Span) (e : w ≡ wordAt s at) (h : at ≤ length s) where
+  pub word-forward : w .start ≤ w .end
+  word-forward = known s at w h e .forward
+
+  pub word-inside : w .end ≤ length s
+  word-inside = known s at w h e .inside
+
+pub ruleset word-places = (word-forward, word-inside)
+
 -- ---- the two walks of the code: over White_Space, and over a word
 
 skipped-white : (k : ℕ) (rest : List ℕ) (at : ℕ) → k ≤ length rest → wordFrom k at at rest ≡ wordFrom 0 (at + k) (at + k) (drop k rest)

@@ -273,9 +273,10 @@ const HEX: [u8; 256] = [
 ];
 
 // What a byte of the text comes to: this is held of a pair, or this byte is made of one.
-// Held is the value of the first, `+` counting as 0; 16 for a first that makes no byte; 17 for none.
+// Held is the value of the first, `+` counting as 0; 16 for a first that makes no byte; 17 for none. It is a usize, for an enum
+// of two bytes is packed into one register at each step.
 enum HexStep {
-    Held(u8),
+    Held(usize),
     Byte(u8),
 }
 
@@ -294,7 +295,7 @@ pub fn hex_value(x: u8) -> u8
 }
 
 // A byte that is no hex digit.
-fn on_other(held: u8, x: u8) -> HexStep
+fn on_other(held: usize, x: u8) -> HexStep
     ensures { λ r. ⌜ r ≡ onOther held x ⌝ }
 {
     if x == 0x20 {
@@ -313,17 +314,17 @@ fn on_other(held: u8, x: u8) -> HexStep
 }
 
 // One byte of the walk. The table comes lent, for a constant is laid out anew by each function that names it.
-fn hex_step(table: &[u8], held: u8, x: u8) -> HexStep
+fn hex_step(table: &[u8], held: usize, x: u8) -> HexStep
     requires { ⌜ HexTable (now table) ⌝ }
     ensures { λ r. ⌜ r ≡ hexStep held x ⌝ }
 {
     let v = table[x as usize];
     if v < 16 {
         if held < 16 {
-            return HexStep::Byte(held * 16 + v);
+            return HexStep::Byte((held as u8) * 16 + v);
         }
         if held == 17 {
-            return HexStep::Held(v);
+            return HexStep::Held(v as usize);
         }
         return HexStep::Held(17);
     }
@@ -335,7 +336,7 @@ fn hex_count(table: &[u8], s: &[u8]) -> usize
     requires { ⌜ HexTable (now table) ⌝ }
     ensures { λ r. ⌜ r ≡ length (hexDecoded (now (s .entry))) ⌝ }
 {
-    let mut held: u8 = 17;
+    let mut held: usize = 17;
     let mut i: usize = 0;
     let mut n: usize = 0;
     while i < s.len() {
@@ -360,7 +361,7 @@ fn hex_fill(table: &[u8], s: &[u8], out: &mut [u8])
     requires { ⌜ length (now out) ≡ length (hexDecoded (now s)) ⌝ }
     ensures { λ _. ⌜ now (out .exit) ≡ hexDecoded (now (s .entry)) ⌝ }
 {
-    let mut held: u8 = 17;
+    let mut held: usize = 17;
     let mut i: usize = 0;
     let mut o: usize = 0;
     while i < s.len() {

@@ -40,14 +40,20 @@ ruleset steps = (second, first, no-byte, no-digit)
 shared-slice-read-v : tie.Need-shared-slice-read-v
 shared-slice-read-v c = search needs
 
-mul-t10 : tie.Need-mul-t10
-mul-t10 c = search needs
+cast-t10 : tie.Need-cast-t10
+cast-t10 c = search needs
 
-add-t11 : tie.Need-add-t11
-add-t11 c = search needs
+mul-t11 : tie.Need-mul-t11
+mul-t11 c = search needs
+
+add-t12 : tie.Need-add-t12
+add-t12 c = search needs
 
 returns : tie.Need-returns
 returns c = search (needs, steps)
+
+cast-t13 : tie.Need-cast-t13
+cast-t13 c = search needs
 
 returns-2 : tie.Need-returns-2
 returns-2 c = search (needs, steps)
@@ -66,9 +72,11 @@ hex-step-spec =
     tie.close
     (tie.spec
     shared-slice-read-v
-    mul-t10
-    add-t11
+    cast-t10
+    mul-t11
+    add-t12
     returns
+    cast-t13
     returns-2
     returns-3
     on-other-requires
