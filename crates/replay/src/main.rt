@@ -192,7 +192,12 @@ fn encode(c: u32) -> Encoding {
         };
     }
     Encoding {
-        bytes: [low(0xF0 + c / 0x4_0000), low(0x80 + c / 0x1000 % 0x40), third, last],
+        bytes: [
+            low(0xF0 + c / 0x4_0000),
+            low(0x80 + c / 0x1000 % 0x40),
+            third,
+            last,
+        ],
         len: 4,
     }
 }
