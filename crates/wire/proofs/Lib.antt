@@ -1,0 +1,3 @@
+pub mod OperationLaws
+pub mod VersionLaws
+pub mod WireExamples

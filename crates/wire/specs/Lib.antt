@@ -1,0 +1,3 @@
+pub mod OperationTables
+pub mod Operations
+pub mod Version
