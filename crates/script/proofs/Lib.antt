@@ -1,0 +1,6 @@
+pub mod Agreement
+pub mod Bridge
+pub mod Examples
+pub mod ExpectLines
+pub mod Inside
+pub mod True

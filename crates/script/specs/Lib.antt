@@ -1,0 +1,14 @@
+pub mod Answers
+pub mod Bridge
+pub mod Contents
+pub mod Expectations
+pub mod Inside
+pub mod Layout
+pub mod Operations
+pub mod Pieces
+pub mod Plain
+pub mod Reading
+pub mod Roles
+pub mod Sets
+pub mod Timestamps
+pub mod Values
