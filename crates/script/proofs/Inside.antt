@@ -24,7 +24,7 @@ use Rattle.text.proofs.Scan.{both, never, by-cases}
 use Rattle.text.proofs.TrimLaws.{trim-inside}
 use Rattle.script.specs.Answers.{Answer, given, refused, _>>=_, firstOf}
 use Rattle.script.specs.Pieces.{placeOf, place, bytes, isEmpty, is, begins, ends, behind, trim, inner, Cut, cut, cutAt}
-use Rattle.script.specs.Inside.{PlaceIn, MatcherIn, ExpectIn, AllIn}
+use Rattle.script.specs.Inside.{In, PlaceIn, MatcherIn, ExpectIn, AllIn}
 use Rattle.script.specs.Expectations.{COLON, SLASH, numbered, about, pattern, comparison, matcher, matching, terminal, field, result, expectation}
 use Rattle.script.specs.Roles.{lineSpan, expecting, expectRole, argumentLine}
 use Rattle.script.specs.Contents.{expectationOf}
@@ -37,11 +37,6 @@ use Rattle.script.specs.declared.records.Expect.the-variants.{Terminal, 
 use Rattle.script.specs.declared.records.Expectation.{Expectation}
 use Rattle.script.specs.declared.roles.Role.{Role}
 use Rattle.script.specs.declared.roles.Role.the-variants.{Nothing, Says, Expects, Opens, Bad}
-
--- a piece that lies inside the text
-pub record In (text : List ℕ) (p : Span) : Type 0 where
-  pub forward : p .start ≤ p .end
-  pub inside : p .end ≤ length text
 
 -- ---- pieces of pieces
 

@@ -13,7 +13,8 @@ use Rattle.text.specs.Parts.{span}
 use Rattle.text.specs.declared.parts.Span.{Span}
 use Rattle.text.proofs.TrimLaws.{trim-inside, trimmed-part}
 use Rattle.script.specs.Pieces.{placeOf, place, bytes, trim, inner, Cut, cutAt}
-use Rattle.script.proofs.Inside.{In, length-bytes}
+use Rattle.script.specs.Inside.{In}
+use Rattle.script.proofs.Inside.{length-bytes}
 
 drop-take : (n m : ℕ) (l : List ℕ) → drop n (take m l) ≡ take (m - n) (drop n l)
 drop-take zero m l = rw (sub-zero m) refl

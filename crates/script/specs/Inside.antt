@@ -1,12 +1,19 @@
--- Every part of an expectation lies inside the text: what judging asks (31). Assumes nothing.
+-- What lies inside the text: pieces, as every piece that the code holds does, and every part of an expectation, which judging asks (31). Assumes nothing.
 use Prim.Native.Nat.{ℕ, _+_, _≤_}
 use mathlib.Core.List.{List, [], _∷_}
+use lib.ListN.{length}
+use Rattle.text.specs.declared.parts.Span.{Span}
 use Rattle.script.specs.declared.records.Place.{Place}
 use Rattle.script.specs.declared.records.Matcher.{Matcher}
 use Rattle.script.specs.declared.records.Matcher.the-variants.{Exact, Regex, GreaterThan, LessThan, GreaterOrEqual, LessOrEqual}
 use Rattle.script.specs.declared.records.Expect.{Expect}
 use Rattle.script.specs.declared.records.Expect.the-variants.{Terminal, Result, ResultField, Error, StderrCount, Daemon, Trust, ServerFeatures}
 use Rattle.script.specs.declared.records.Expectation.{Expectation}
+
+-- a piece of the text
+pub record In (text : List ℕ) (p : Span) : Type 0 where
+  pub forward : p .start ≤ p .end
+  pub inside : p .end ≤ length text
 
 -- a place inside n bytes
 abbrev pub PlaceIn : ℕ → Place → Type 0

@@ -1,0 +1,135 @@
+-- Laws of steps for the proofs of code: what a line is, from how it begins. For `search` to use. Assumes nothing.
+use Prim.Native.Nat.{ℕ, _-_}
+use mathlib.Core.Path.{_≡_, refl, sym, ap, _∙_}
+use mathlib.Core.Bool.{Bool, true, false, not}
+use mathlib.Core.List.{List}
+use borrow.Author.Tests.{eq-eqb, ne-eqb}
+use Rattle.text.specs.Base.{if_then_else_, _&_, _or_, part}
+use Rattle.text.specs.Lines.{indented}
+use Rattle.text.specs.Parts.{span, startsWith}
+use Rattle.text.specs.declared.lines.Line.{Line}
+use Rattle.text.specs.declared.parts.Span.{Span}
+use Rattle.text.proofs.LiteralLaws.{codes}
+use Rattle.script.specs.Pieces.{bytes, isEmpty, begins, trim}
+use Rattle.script.specs.Values.{plainRules}
+use Rattle.script.specs.Roles.{step, expectRole, outsideStep, entryStep, argumentLine, argumentStep, blockStep, stepAt, stepOf}
+use Rattle.script.specs.declared.roles.Role.{Role}
+use Rattle.script.specs.declared.roles.Role.the-variants.{Nothing}
+use Rattle.script.specs.declared.roles.Step.{Step}
+use Rattle.script.specs.declared.roles.Takes.{Takes}
+use Rattle.script.specs.declared.roles.Where.{Where}
+use Rattle.script.specs.declared.roles.Where.the-variants.{InPreamble, Outside, InBlock, InEntry}
+use Rattle.roles.specs.StepRead.{frontOf}
+use Rattle.roles.specs.declared.steps.Front.{Front}
+use Rattle.roles.specs.declared.steps.Front.the-variants.{Skipped, Expect, Other}
+use Rattle.roles.proofs.BehindLaws.{begins-is}
+
+module _ (text : List ℕ) (t : Span) where
+  -- ---- how a line begins
+
+  pub front-blank : t .start ≡ t .end → Skipped ≡ frontOf text t
+  unfolding frontOf isEmpty
+  front-blank h = rw (eq-eqb _ _ h)
+
+  module _ (h : t .start ≡ t .end → ⊥) (b : Bool) (e : b ≡ startsWith (codes "#") (bytes text t)) where
+    pub front-comment : b ≡ true → Skipped ≡ frontOf text t
+    unfolding frontOf isEmpty
+    front-comment y = rw (ne-eqb _ _ h, begins-is text t "#" b e, y)
+
+    module _ (n : b ≡ false) (d : Bool) (k : d ≡ startsWith (codes "expect") (bytes text t)) where
+      pub front-expect : d ≡ true → Expect ≡ frontOf text t
+      unfolding frontOf isEmpty
+      front-expect y = rw (ne-eqb _ _ h, begins-is text t "#" b e, n, begins-is text t "expect" d k, y)
+
+      pub front-other : d ≡ false → Other ≡ frontOf text t
+      unfolding frontOf isEmpty
+      front-other m = rw (ne-eqb _ _ h, begins-is text t "#" b e, n, begins-is text t "expect" d k, m)
+
+  -- ---- what it is where argument lines have ended, and where they may stand
+
+  fronted : (other : Step) → Front → Step
+  fronted other Skipped = step Nothing InEntry
+  fronted other Expect = step (expectRole text t) InEntry
+  fronted other Other = other
+
+  by-front : (a b c : Bool) (other : Step) → (if a or b then step Nothing InEntry else if c then step (expectRole text t) InEntry else other) ≡ fronted other (if a or b then Skipped else if c then Expect else Other)
+  unfolding fronted
+  by-front true b c other = refl
+  by-front false true c other = refl
+  by-front false false true other = refl
+  by-front false false false other = refl
+
+  entry-by : entryStep text true t ≡ fronted (outsideStep text t) (frontOf text t)
+  unfolding frontOf entryStep
+  entry-by = by-front (isEmpty t) (begins text "#" t) (begins text "expect" t) (outsideStep text t)
+
+  module _ (takes : Takes) (listOpen : Bool) where
+    -- a line that is no argument line is one of those that the entry has below them
+    no-argument : (a b c : Bool) (other line : Step) → (if true & not (a or b or c) then line else if true & (a or b) then step Nothing InEntry else if true & c then step (expectRole text t) InEntry else other) ≡ fronted line (if a or b then Skipped else if c then Expect else Other)
+    unfolding fronted
+    no-argument true b c other line = refl
+    no-argument false true c other line = refl
+    no-argument false false true other line = refl
+    no-argument false false false other line = refl
+
+    block-by : blockStep plainRules text takes listOpen true t ≡ fronted (argumentStep plainRules text takes listOpen t) (frontOf text t)
+    unfolding frontOf entryStep blockStep argumentLine
+    block-by = no-argument (isEmpty t) (begins text "#" t) (begins text "expect" t) (outsideStep text t) (argumentStep plainRules text takes listOpen t)
+
+  -- an indented line, by how it begins
+  module _ (whole other : Step) (by : whole ≡ fronted other (frontOf text t)) (f : Front) (e : f ≡ frontOf text t) where
+    with-skipped : f ≡ Skipped → step Nothing InEntry ≡ whole
+    unfolding fronted
+    with-skipped h = sym (by ∙ ap (fronted other) (sym e ∙ h))
+
+    with-expect : (r : Role) → f ≡ Expect → r ≡ expectRole text t → step r InEntry ≡ whole
+    unfolding fronted
+    with-expect r h q = rw q (sym (by ∙ ap (fronted other) (sym e ∙ h)))
+
+    with-other : (s : Step) → f ≡ Other → s ≡ other → s ≡ whole
+    unfolding fronted
+    with-other s h q = q ∙ sym (by ∙ ap (fronted other) (sym e ∙ h))
+
+  module _ (inward : Bool) where
+    pub entry-outside : (s : Step) → inward ≡ false → s ≡ outsideStep text t → s ≡ entryStep text inward t
+    unfolding entryStep
+    entry-outside s n q = q ∙ rw n
+
+    module _ (y : inward ≡ true) (f : Front) (e : f ≡ frontOf text t) where
+      pub entry-skipped : f ≡ Skipped → step Nothing InEntry ≡ entryStep text inward t
+      entry-skipped h = rw y (with-skipped (entryStep text true t) (outsideStep text t) entry-by f e h)
+
+      pub entry-expect : (r : Role) → f ≡ Expect → r ≡ expectRole text t → step r InEntry ≡ entryStep text inward t
+      entry-expect r h q = rw y (with-expect (entryStep text true t) (outsideStep text t) entry-by f e r h q)
+
+      pub entry-other : (s : Step) → f ≡ Other → s ≡ outsideStep text t → s ≡ entryStep text inward t
+      entry-other s h q = rw y (with-other (entryStep text true t) (outsideStep text t) entry-by f e s h q)
+
+    module _ (takes : Takes) (listOpen : Bool) where
+      pub block-outside : (s : Step) → inward ≡ false → s ≡ outsideStep text t → s ≡ blockStep plainRules text takes listOpen inward t
+      unfolding blockStep argumentLine entryStep
+      block-outside s n q = q ∙ rw n
+
+      module _ (y : inward ≡ true) (f : Front) (e : f ≡ frontOf text t) where
+        pub block-skipped : f ≡ Skipped → step Nothing InEntry ≡ blockStep plainRules text takes listOpen inward t
+        block-skipped h = rw y (with-skipped (blockStep plainRules text takes listOpen true t) (argumentStep plainRules text takes listOpen t) (block-by takes listOpen) f e h)
+
+        pub block-expect : (r : Role) → f ≡ Expect → r ≡ expectRole text t → step r InEntry ≡ blockStep plainRules text takes listOpen inward t
+        block-expect r h q = rw y (with-expect (blockStep plainRules text takes listOpen true t) (argumentStep plainRules text takes listOpen t) (block-by takes listOpen) f e r h q)
+
+        pub block-other : (s : Step) → f ≡ Other → s ≡ argumentStep plainRules text takes listOpen t → s ≡ blockStep plainRules text takes listOpen inward t
+        block-other s h q = rw y (with-other (blockStep plainRules text takes listOpen true t) (argumentStep plainRules text takes listOpen t) (block-by takes listOpen) f e s h q)
+
+  -- ---- where a line stands is known
+  pub stands : (w told : Where) (inward : Bool) (s : Step) → w ≡ told → s ≡ stepAt plainRules text told inward t → s ≡ stepAt plainRules text w inward t
+  stands w told inward s h q = rw (h, q)
+
+pub step-is : (text : List ℕ) (w : Where) (l : Line) (inward : Bool) (t : Span) (s : Step) → inward ≡ indented (part text (l .start) (l .end - l .start)) → t ≡ trim text (span (l .start) (l .end)) → s ≡ stepAt plainRules text w inward t → s ≡ stepOf plainRules text w l
+unfolding stepOf bytes
+step-is text w l inward t s i k q = q ∙ rw (i, k)
+
+pub ruleset front-words = (front-blank, front-comment, front-expect, front-other)
+
+pub ruleset entry-words = (entry-outside, entry-skipped, entry-expect, entry-other)
+
+pub ruleset block-words = (block-outside, block-skipped, block-expect, block-other)
