@@ -18,7 +18,7 @@ use Rattle.text.proofs.LiteralLaws.{codes, begins-as, length-as}
 use Rattle.text.proofs.Scan.{never, both}
 use Rattle.script.specs.Pieces.{cutInto, cutAt, bytes, begins, behind, cut, cutOr}
 use Rattle.script.specs.Inside.{In}
-use Rattle.roles.proofs.BehindLaws.{cut-none, cut-some}
+use Rattle.roles.proofs.BehindLaws.{cut-none, cut-some, cut-before, cut-after}
 
 -- ---- the place of a pair of bytes lies inside
 
@@ -51,6 +51,12 @@ module _ (text : List ℕ) (b : ℕ) (p : Span) (f : Found) (e : foundOf f ≡ p
   pub cut-or-some : (n : ℕ) → f ≡ At n → cutOr text b p ≡ cutInto (span (p .start) (p .start + n)) (span (p .start + n + 1) (p .end))
   unfolding cutOr cutAt
   cut-or-some n g = rw (cut-some text (p .start) (p .end) b f e n g, cutOr)
+
+  pub before-in : (n : ℕ) → f ≡ At n → In text p → In text (span (p .start) (p .start + n))
+  before-in n g i = cut-before text (p .start) (p .end) b f e n g i
+
+  pub after-in : (n : ℕ) → f ≡ At n → In text p → In text (span (p .start + n + 1) (p .end))
+  after-in n g i = cut-after text (p .start) (p .end) b f e n g i
 
 pub empty-in : (text : List ℕ) (p : Span) → In text p → In text (span (p .end) (p .end))
 empty-in text p i = record { forward = omega arith; inside = i .inside }

@@ -119,7 +119,7 @@ pub fn not_closed(text: &[u8], p: Span) -> bool
 }
 
 // Where the operation has a path set on its line.
-fn set_place(op: Op) -> SetPlace
+pub fn set_place(op: Op) -> SetPlace
     ensures { λ r. ⌜ r ≡ setPlace (formOf op .syntax) ⌝ }
 {
     match op {

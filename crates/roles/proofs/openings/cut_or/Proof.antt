@@ -7,9 +7,8 @@ use Rattle.text.specs.declared.parts.Found.{Found}
 use Rattle.text.specs.declared.parts.Found.the-variants.{At, Nothing}
 use Rattle.text.specs.declared.parts.Span.{Span}
 use Rattle.script.specs.Pieces.{cutInto, bytes, cutOr}
-use Rattle.script.specs.Inside.{In}
-use Rattle.roles.proofs.BehindLaws.{cut-before, cut-after, sums}
-use Rattle.roles.proofs.OpeningLaws.{cut-or-none, cut-or-some, empty-in}
+use Rattle.roles.proofs.BehindLaws.{sums}
+use Rattle.roles.proofs.OpeningLaws.{cut-or-none, cut-or-some, before-in, after-in, empty-in}
 use borrow.Author.Needs.{needs}
 use Rattle.roles.proofs.openings.cut_or.Statement.{statement}
 use Rattle.roles.proofs.openings.cut_or.Tie as tie
@@ -20,12 +19,6 @@ module _ (text : List ℕ) (b : ℕ) (p : Span) (f : Found) (e : foundOf f ≡ p
 
   apart : (n : ℕ) → f ≡ At n → cutInto (span (p .start) (p .start + n)) (span (p .start + n + 1) (p .end)) ≡ cutOr text b p
   apart n g = sym (cut-or-some text b p f e n g)
-
-  before-in : (n : ℕ) → f ≡ At n → In text p → In text (span (p .start) (p .start + n))
-  before-in n g i = cut-before text (p .start) (p .end) b f e n g i
-
-  after-in : (n : ℕ) → f ≡ At n → In text p → In text (span (p .start + n + 1) (p .end))
-  after-in n g i = cut-after text (p .start) (p .end) b f e n g i
 
 ruleset walk = (whole, apart, before-in, after-in, empty-in, sums)
 

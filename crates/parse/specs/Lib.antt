@@ -1,0 +1,2 @@
+pub mod CountRead
+pub mod Measure

@@ -1,0 +1,2 @@
+// Measure and Read (script/parse.rs of the Rust).
+pub mod counts;
