@@ -11,6 +11,7 @@ use Rattle.text.specs.Literal.{spells}
 use Rattle.text.specs.Parts.{span, pairPosition}
 use Rattle.text.specs.Numbers.{allDigits, decimalFrom}
 use Rattle.text.specs.declared.parts.Span.{Span}
+use Rattle.wire.specs.Version.{DOT}
 use Rattle.script.specs.Answers.{Answer, given, refused}
 use Rattle.script.specs.Pieces.{bytes, behind, trim}
 use Rattle.script.specs.declared.records.Time.{Time}
@@ -18,9 +19,6 @@ use Rattle.script.specs.declared.records.Stamp.{Stamp}
 use Rattle.script.specs.declared.records.Stamp.the-variants.{Absent, At}
 
 -- ---- the number between `@` and `ms`
-
-abbrev pub DOT : ℕ
-DOT = 0x2E
 
 -- the digits at the front, and what follows them
 pub record Run : Type 0 where

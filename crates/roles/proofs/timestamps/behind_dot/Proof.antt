@@ -6,7 +6,8 @@ use native.Mathlib.Omega.{arith}
 use lib.ListN.{length, getD, drop}
 use borrow.Author.Tests.{eq-eqb, ne-eqb}
 use Rattle.text.proofs.Scan.{rest-more, rest-none}
-use Rattle.script.specs.Timestamps.{DOT, digitRun, fraction}
+use Rattle.wire.specs.Version.{DOT}
+use Rattle.script.specs.Timestamps.{digitRun, fraction}
 use Rattle.roles.proofs.TimeLaws.{Stopped}
 use borrow.Author.Needs.{needs}
 use Rattle.roles.proofs.timestamps.behind_dot.Statement.{statement}
