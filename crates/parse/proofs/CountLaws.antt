@@ -43,11 +43,11 @@ use Rattle.roles.specs.declared.openings.Halves.{Halves}
 use Rattle.roles.specs.declared.openings.SetPlace.{SetPlace}
 use Rattle.roles.specs.declared.openings.SetPlace.the-variants.{NoSet, AllOf, BehindBlank}
 use Rattle.parse.specs.Measure.{setCount, quotedCount, dataCount, rawCount, featureCount, inlineItems}
-use Rattle.script.proofs.Inside.{length-bytes}
+use Rattle.script.proofs.Inside.{length-bytes, trim-in, position-in}
 use Rattle.roles.proofs.PieceLaws.{trim-end}
-use Rattle.roles.proofs.BehindLaws.{behind-none, behind-some, behind-in, position-inside, cut-none, cut-some}
+use Rattle.roles.proofs.BehindLaws.{behind-none, behind-some, behind-in, cut-none, cut-some}
 use Rattle.roles.proofs.OpeningLaws.{cut-or-none, cut-or-some}
-use Rattle.roles.proofs.InLaws.{trimmed-in, cut-or-in}
+use Rattle.script.proofs.RolesInside.{cut-or-in}
 
 -- ---- the parts between separators
 
@@ -154,9 +154,9 @@ braced-fit text p i = go (position CLOSING-BRACE (bytes text p)) refl
     go none e = omega (arith, not-braced text p Nothing (found-none ∙ sym e) refl, i .forward)
     go (some n) e =
         let b : Span = span (p .start) (p .start + n) in
-        let l = position-inside CLOSING-BRACE (bytes text p) 0 n e in
+        let l = position-in CLOSING-BRACE 0 n (bytes text p) e in
         let j : In text b = record { forward = omega arith; inside = omega (arith, length-bytes text p i, i .inside) } in
-        omega (arith, braced text p (At n) (found-some n ∙ sym e) n _ (trim text b) refl refl refl, items-fit text (trim text b) (trimmed-in text b j), trim-start text b j, trim-stop text b j, length-bytes text p i, i .forward)
+        omega (arith, braced text p (At n) (found-some n ∙ sym e) n _ (trim text b) refl refl refl, items-fit text (trim text b) (trim-in text b j), trim-start text b j, trim-stop text b j, length-bytes text p i, i .forward)
 
 -- by what stands behind the opening brace
 module _ (text : List ℕ) (v : Span) where
@@ -199,7 +199,7 @@ set-fits text v i = go (startsWith (codes "{") (bytes text (trim text v))) refl 
     q = trim text v
 
     j : In text q
-    j = trimmed-in text v i
+    j = trim-in text v i
 
     go : (b : Bool) → startsWith (codes "{") (bytes text q) ≡ b → (t : Bool) → eqb (q .start) (q .end) ≡ t → v .start + setCount text v ≤ v .end
     go true e t h =
@@ -521,7 +521,7 @@ features-fit text v i = go (begins text "{" q & ends text q CLOSING-BRACE) refl
     q = trim text v
 
     j : In text q
-    j = trimmed-in text v i
+    j = trim-in text v i
 
     go : (b : Bool) → begins text "{" q & ends text q CLOSING-BRACE ≡ b → v .start + featureCount text v ≤ v .end
     go true e =
@@ -625,7 +625,7 @@ module _ (text : List ℕ) (args : Span) where
       go : (p : SetPlace) → args .start + itemsAt p ≤ args .end
       go NoSet = nothing-fits text args i
       go AllOf = set-fits text args i
-      go BehindBlank = omega (arith, set-fits text (cutOr text BLANK args .after) (cut-or-in text args i BLANK .after), after-start i, after-end)
+      go BehindBlank = omega (arith, set-fits text (cutOr text BLANK args .after) (cut-or-in text BLANK args i .1), after-start i, after-end)
 
   pub after-fits : (c : Halves) (n : ℕ) → In text args → halves c ≡ cutOr text BLANK args → c .after .start + n ≤ c .after .end → args .start + n ≤ args .end
   after-fits c n i q h =

@@ -17,7 +17,7 @@ use Rattle.script.specs.Pieces.{place}
 use Rattle.script.specs.Operations.{sameKey, Shape, singlePath, singleString, pathSet, pathSetFlag, pathSetMode, noArgs, setOptions, collectGarbage, verifyStore, addPermRoot, addSignatures, addTextToStore, addToStore, addMultipleToStore, addBuildLog, registerDrvOutput, queryRealisation, querySubstitutablePathInfo, querySubstitutablePathInfos, rawBytes, formOf}
 use Rattle.script.specs.Values.{plainRules}
 use Rattle.script.specs.Roles.{Marked, marked, stepOf, rolesFrom, roles}
-use Rattle.script.specs.Contents.{sayingOf, sayings, expectationOf, expectations, valueOr, lastOf, valueOf, pairs, setOf, featuresIn, unquotedOf, hexOf, dataOf, callOf, entryOf, isOpening, lead, orNone, entryOn, entries, preambleOf, contents, ScriptContents}
+use Rattle.script.specs.Contents.{sayingOf, sayings, expectationOf, expectations, valueOr, lastOf, valueOf, pairOf, pairs, setOf, featuresIn, unquotedOf, hexOf, dataOf, callOf, entryOf, isOpening, lead, orNone, entryOn, entries, preambleOf, contents, ScriptContents}
 use Rattle.script.specs.Layout.{storedOf, laid, Tables, Reading, tablesFrom, laidScript}
 use Rattle.script.specs.Reading.{Parsed, refusedAt, read, refusal, refusedBy, firstRefused, readMarked, readBy, parsedBy, parsed, measured}
 use Rattle.script.specs.declared.records.Counts.{Counts}
@@ -30,7 +30,10 @@ use Rattle.script.specs.declared.roles.Saying.{Saying}
 use Rattle.script.specs.declared.roles.Saying.the-variants.{Known, Pair, NoColon, Unknown, NoPair, NoRaw}
 use Rattle.script.specs.declared.roles.Role.{Role}
 use Rattle.script.specs.declared.roles.Role.the-variants.{Nothing, Says, Expects, Opens, Bad}
-use Rattle.parse.specs.Measure.{Part, thePreamble, anEntry, Open, begun, preambleOpen, told, entryItems, entryStore, itemsOf, storeOf, closedItems, closedStore, counts, zeros, closeOn, countOn, onward, inlineItems, opened, setCount, quotedCount, dataCount, rawCount, featureCount, sayOn, openOn, countFrom, walkFrom, measuredBy}
+use Rattle.parse.specs.declared.measure.What.{What}
+use Rattle.parse.specs.declared.measure.What.the-variants.{ThePreamble, AnEntry}
+use Rattle.parse.specs.declared.measure.Open.{Open}
+use Rattle.parse.specs.Measure.{begun, preambleOpen, told, pairsOn, entryItems, entryStore, itemsOf, storeOf, closedItems, closedStore, counts, zeros, closeOn, countOn, onward, inlineItems, opened, setCount, quotedCount, dataCount, rawCount, featureCount, sayOn, openOn, countFrom, walkFrom, measuredBy}
 
 -- a number of the value that is said last
 told-is : (k : Key) (f : Option Span → ℕ) (s : Saying) (soFar : Option Span) → told k (λ v. f (some v)) s (f soFar) ≡ f (valueOr k s soFar)
@@ -45,6 +48,15 @@ told-is k f NoColon soFar = refl
 told-is k f (Unknown a b) soFar = refl
 told-is k f NoPair soFar = refl
 told-is k f NoRaw soFar = refl
+
+pairs-on : (s : Saying) (n : ℕ) → pairsOn s n ≡ n + length (pairOf s)
+unfolding pairsOn pairOf
+pairs-on (Known k v) n = omega arith
+pairs-on (Pair a b) n = refl
+pairs-on NoColon n = omega arith
+pairs-on (Unknown a b) n = omega arith
+pairs-on NoPair n = omega arith
+pairs-on NoRaw n = omega arith
 
 module _ (text : List ℕ) where
   -- what is open once all that is said
@@ -67,7 +79,7 @@ module _ (text : List ℕ) where
   said-pairs : (o : Open) (ss : List Saying) → saidOn o ss .pairs ≡ o .pairs + length (pairs ss)
   unfolding saidOn sayOn pairs
   said-pairs o [] = omega arith
-  said-pairs o (s ∷ ss) = said-pairs (sayOn text o s) ss ∙ simp length-append (omega arith)
+  said-pairs o (s ∷ ss) = said-pairs (sayOn text o s) ss ∙ simp length-append (omega (arith, pairs-on s (o .pairs)))
 
   -- a number g of what is open that is f of the last value of the key k
   module _ (k : Key) (f : Option Span → ℕ) (g : Open → ℕ) (step : (o : Open) (s : Saying) → g (sayOn text o s) ≡ told k (λ v. f (some v)) s (g o)) where
@@ -76,7 +88,7 @@ module _ (text : List ℕ) where
     said-last o soFar [] e = e
     said-last o soFar (s ∷ ss) e = said-last (sayOn text o s) (valueOr k s soFar) ss (step o s ∙ ap (told k (λ v. f (some v)) s) e ∙ told-is k f s soFar)
 
-  module _ (what : Part) (inline : ℕ) (ss : List Saying) where
+  module _ (what : What) (inline : ℕ) (ss : List Saying) where
     abbrev after : Open
     after = saidOn (begun what inline) ss
 
@@ -100,9 +112,9 @@ module _ (text : List ℕ) where
     unfolding valueOf begun sayOn quotedCount unquotedOf
     said-name = said-last Key.Name (λ v. length (unquotedOf plainRules text v)) (λ o. o .name) (λ o s. refl) (begun what inline) none ss refl
 
-    said-cam-str : after .camStr ≡ length (unquotedOf plainRules text (valueOf Key.CamStr ss))
+    said-cam-str : after .«cam_str» ≡ length (unquotedOf plainRules text (valueOf Key.CamStr ss))
     unfolding valueOf begun sayOn quotedCount unquotedOf
-    said-cam-str = said-last Key.CamStr (λ v. length (unquotedOf plainRules text v)) (λ o. o .camStr) (λ o s. refl) (begun what inline) none ss refl
+    said-cam-str = said-last Key.CamStr (λ v. length (unquotedOf plainRules text v)) (λ o. o .«cam_str») (λ o s. refl) (begun what inline) none ss refl
 
     said-data : after .«data» ≡ length (storedOf (dataOf plainRules text (valueOf Key.Data ss)))
     unfolding valueOf begun sayOn dataCount dataOf storedOf
@@ -116,15 +128,15 @@ module _ (text : List ℕ) where
     unfolding valueOf begun sayOn featureCount featuresIn orNone
     said-features = said-last Key.Features (λ v. length (orNone (featuresIn text v))) (λ o. o .features) (λ o s. refl) (begun what inline) none ss refl
 
-    said-server-features : after .serverFeatures ≡ length (orNone (featuresIn text (valueOf Key.ServerFeatures ss)))
+    said-server-features : after .«server_features» ≡ length (orNone (featuresIn text (valueOf Key.ServerFeatures ss)))
     unfolding valueOf begun sayOn featureCount featuresIn orNone
     said-server-features =
-        said-last Key.ServerFeatures (λ v. length (orNone (featuresIn text v))) (λ o. o .serverFeatures) (λ o s. refl) (begun what inline) none ss refl
+        said-last Key.ServerFeatures (λ v. length (orNone (featuresIn text v))) (λ o. o .«server_features») (λ o s. refl) (begun what inline) none ss refl
 
   -- ---- an entry, and the preamble
 
   -- the items that an entry adds, by the shape of its operation
-  items-are : (sh : Shape) (op : Op) (args : Span) (ss : List Saying) (what : Part) (i b : ℕ)
+  items-are : (sh : Shape) (op : Op) (args : Span) (ss : List Saying) (what : What) (i b : ℕ)
       → entryItems sh (saidOn (begun what (inlineItems text sh args)) ss) ≡ length (laid i b (callOf plainRules text sh op args ss) .items)
   unfolding entryItems inlineItems laid callOf begun
   items-are singlePath op args ss what i b = refl
@@ -149,7 +161,7 @@ module _ (text : List ℕ) where
   items-are rawBytes op args ss what i b = refl
 
   -- and the bytes of the store
-  store-is : (sh : Shape) (op : Op) (args : Span) (ss : List Saying) (what : Part) (n i b : ℕ)
+  store-is : (sh : Shape) (op : Op) (args : Span) (ss : List Saying) (what : What) (n i b : ℕ)
       → entryStore sh (saidOn (begun what n) ss) ≡ length (laid i b (callOf plainRules text sh op args ss) .store)
   unfolding entryStore laid callOf
   store-is singlePath op args ss what n i b = refl
@@ -177,25 +189,25 @@ module _ (text : List ℕ) where
     entry-items : closedItems (saidOn (opened text op args) ss) ≡ length (laid i b (callOf plainRules text (formOf op .shape) op args ss) .items)
     unfolding closedItems itemsOf opened begun
     entry-items =
-        ap (λ (w : Part). itemsOf w (saidOn (opened text op args) ss)) (said-what (opened text op args) ss)
-        ∙ items-are (formOf op .shape) op args ss (anEntry op) i b
+        ap (λ (w : What). itemsOf w (saidOn (opened text op args) ss)) (said-what (opened text op args) ss)
+        ∙ items-are (formOf op .shape) op args ss (AnEntry op) i b
 
     entry-store : closedStore (saidOn (opened text op args) ss) ≡ length (laid i b (callOf plainRules text (formOf op .shape) op args ss) .store)
     unfolding closedStore storeOf opened begun
     entry-store =
-        ap (λ (w : Part). storeOf w (saidOn (opened text op args) ss)) (said-what (opened text op args) ss)
-        ∙ store-is (formOf op .shape) op args ss (anEntry op) (inlineItems text (formOf op .shape) args) i b
+        ap (λ (w : What). storeOf w (saidOn (opened text op args) ss)) (said-what (opened text op args) ss)
+        ∙ store-is (formOf op .shape) op args ss (AnEntry op) (inlineItems text (formOf op .shape) args) i b
 
   preamble-items : (ss : List Saying)
       → closedItems (saidOn preambleOpen ss) ≡ length (orNone (featuresIn text (valueOf Key.Features ss)) ++ orNone (featuresIn text (valueOf Key.ServerFeatures ss)))
   unfolding closedItems itemsOf preambleOpen begun
   preamble-items ss =
-      ap (λ (w : Part). itemsOf w (saidOn preambleOpen ss)) (said-what preambleOpen ss)
-      ∙ simp length-append (ap₂ _+_ (said-features thePreamble 0 ss) (said-server-features thePreamble 0 ss))
+      ap (λ (w : What). itemsOf w (saidOn preambleOpen ss)) (said-what preambleOpen ss)
+      ∙ simp length-append (ap₂ _+_ (said-features ThePreamble 0 ss) (said-server-features ThePreamble 0 ss))
 
   preamble-store : (ss : List Saying) → closedStore (saidOn preambleOpen ss) ≡ 0
   unfolding closedStore storeOf preambleOpen begun
-  preamble-store ss = ap (λ (w : Part). storeOf w (saidOn preambleOpen ss)) (said-what preambleOpen ss)
+  preamble-store ss = ap (λ (w : What). storeOf w (saidOn preambleOpen ss)) (said-what preambleOpen ss)
 
   -- ---- the marked lines
 

@@ -1,2 +1,4 @@
+pub mod Bounds
 pub mod CountRead
 pub mod Measure
+pub mod MeasureRead

@@ -16,10 +16,13 @@ use Rattle.script.specs.Operations.{sameKey, Shape, singlePath, singleString, p
 use Rattle.script.specs.Values.{plainRules}
 use Rattle.script.specs.Sets as Sets
 use Rattle.script.specs.Roles.{Marked, stepOf}
-use Rattle.script.specs.Contents.{pairOf, itemsIn, unquotedOf, hexOf, dataOf}
+use Rattle.script.specs.Contents.{itemsIn, unquotedOf, hexOf, dataOf}
 use Rattle.script.specs.Layout.{storedOf}
 use Rattle.script.specs.Reading.{Parsed, refusedAt, read, refusal}
 use Rattle.script.specs.declared.records.Counts.{Counts}
+use Rattle.parse.specs.declared.measure.What.{What}
+use Rattle.parse.specs.declared.measure.What.the-variants.{ThePreamble, AnEntry}
+use Rattle.parse.specs.declared.measure.Open.{Open}
 use Rattle.script.specs.declared.roles.Key.{Key}
 use Rattle.script.specs.declared.roles.Key.the-variants as Key
 use Rattle.script.specs.declared.roles.Where.{Where}
@@ -31,30 +34,8 @@ use Rattle.script.specs.declared.roles.Role.the-variants.{Nothing, Says, Expect
 
 -- ---- what is open
 
--- the preamble, or an entry of that operation
-pub data Part : Type 0 where
-  thePreamble : Part
-  anEntry : Op → Part
-
--- What is open while the lines are walked: `inline`, the items on its opening line; `pairs`, the items of its override pairs; and for each key whose value
--- takes items or bytes of the store how many the last value takes.
-pub record Open : Type 0 where
-  pub what : Part
-  pub inline : ℕ
-  pub pairs : ℕ
-  pub paths : ℕ
-  pub refs : ℕ
-  pub suffix : ℕ
-  pub text : ℕ
-  pub name : ℕ
-  pub camStr : ℕ
-  pub «data» : ℕ
-  pub raw : ℕ
-  pub features : ℕ
-  pub serverFeatures : ℕ
-
 -- so many items on the opening line, and nothing said below it
-unfoldable pub begun : Part → (inline : ℕ) → Open
+unfoldable pub begun : What → (inline : ℕ) → Open
 begun what inline = record {
   what = what;
   inline = inline;
@@ -64,16 +45,16 @@ begun what inline = record {
   suffix = 0;
   text = 0;
   name = 0;
-  camStr = 0;
+  «cam_str» = 0;
   «data» = 0;
   raw = 0;
   features = 0;
-  serverFeatures = 0;
+  «server_features» = 0;
 }
 
 -- the preamble at its first line
 unfoldable pub preambleOpen : Open
-preambleOpen = begun thePreamble 0
+preambleOpen = begun ThePreamble 0
 
 -- the last line with the key decides
 unfoldable pub told : Key → (count : Span → ℕ) → Saying → (soFar : ℕ) → ℕ
@@ -83,6 +64,15 @@ told k count NoColon soFar = soFar
 told k count (Unknown a b) soFar = soFar
 told k count NoPair soFar = soFar
 told k count NoRaw soFar = soFar
+
+-- a pair is two items
+unfoldable pub pairsOn : Saying → (soFar : ℕ) → ℕ
+pairsOn (Known k v) soFar = soFar
+pairsOn (Pair a b) soFar = soFar + 2
+pairsOn NoColon soFar = soFar
+pairsOn (Unknown a b) soFar = soFar
+pairsOn NoPair soFar = soFar
+pairsOn NoRaw soFar = soFar
 
 -- ---- what is closed
 
@@ -122,7 +112,7 @@ entryStore verifyStore o = 0
 entryStore addPermRoot o = 0
 entryStore addSignatures o = 0
 entryStore addTextToStore o = o .suffix + o .text
-entryStore addToStore o = o .name + o .camStr + o .«data»
+entryStore addToStore o = o .name + o .«cam_str» + o .«data»
 entryStore addMultipleToStore o = o .«data»
 entryStore addBuildLog o = o .«data»
 entryStore registerDrvOutput o = 0
@@ -132,13 +122,13 @@ entryStore querySubstitutablePathInfos o = 0
 entryStore rawBytes o = o .raw
 
 -- what the entry, or the preamble, adds to the items and to the store
-unfoldable pub itemsOf : Part → Open → ℕ
-itemsOf thePreamble o = o .features + o .serverFeatures
-itemsOf (anEntry op) o = entryItems (formOf op .shape) o
+unfoldable pub itemsOf : What → Open → ℕ
+itemsOf ThePreamble o = o .features + o .«server_features»
+itemsOf (AnEntry op) o = entryItems (formOf op .shape) o
 
-unfoldable pub storeOf : Part → Open → ℕ
-storeOf thePreamble o = 0
-storeOf (anEntry op) o = entryStore (formOf op .shape) o
+unfoldable pub storeOf : What → Open → ℕ
+storeOf ThePreamble o = 0
+storeOf (AnEntry op) o = entryStore (formOf op .shape) o
 
 unfoldable pub closedItems : Open → ℕ
 closedItems o = itemsOf (o .what) o
@@ -200,7 +190,7 @@ module _ (text : List ℕ) where
 
   -- an entry at its opening line
   unfoldable pub opened : Op → (args : Span) → Open
-  opened op args = begun (anEntry op) (inlineItems (formOf op .shape) args)
+  opened op args = begun (AnEntry op) (inlineItems (formOf op .shape) args)
 
   -- how many items or bytes a value takes
   unfoldable pub setCount : Span → ℕ
@@ -223,17 +213,17 @@ module _ (text : List ℕ) where
   sayOn o s = record {
     what = o .what;
     inline = o .inline;
-    pairs = o .pairs + length (pairOf s);
+    pairs = pairsOn s (o .pairs);
     paths = told Key.Paths setCount s (o .paths);
     refs = told Key.Refs setCount s (o .refs);
     suffix = told Key.Suffix quotedCount s (o .suffix);
     text = told Key.Text quotedCount s (o .text);
     name = told Key.Name quotedCount s (o .name);
-    camStr = told Key.CamStr quotedCount s (o .camStr);
+    «cam_str» = told Key.CamStr quotedCount s (o .«cam_str»);
     «data» = told Key.Data dataCount s (o .«data»);
     raw = told Key.Raw rawCount s (o .raw);
     features = told Key.Features featureCount s (o .features);
-    serverFeatures = told Key.ServerFeatures featureCount s (o .serverFeatures);
+    «server_features» = told Key.ServerFeatures featureCount s (o .«server_features»);
   }
 
   -- what is open after a line

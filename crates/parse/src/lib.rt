@@ -1,2 +1,3 @@
 // Measure and Read (script/parse.rs of the Rust).
 pub mod counts;
+pub mod measure;

@@ -9,8 +9,7 @@ use native.Mathlib.Omega.{arith}
 use lib.Dec.{eqb, ltb}
 use lib.ListN.{length, getD}
 use borrow.Author.Tests.{eq-eqb, ltb-true}
-use Rattle.text.specs.Base.{if_then_else_}
-use Rattle.text.specs.Parts.{span, startsWith, positionFrom, position, foundOf}
+use Rattle.text.specs.Parts.{span, startsWith, position, foundOf}
 use Rattle.text.specs.declared.parts.Span.{Span}
 use Rattle.text.specs.declared.parts.Found.{Found}
 use Rattle.text.specs.declared.parts.Found.the-variants.{At, Nothing}
@@ -18,7 +17,7 @@ use Rattle.text.proofs.Scan.{never}
 use Rattle.text.proofs.LiteralLaws.{codes, begins-as, length-as}
 use Rattle.script.specs.Pieces.{bytes, begins, behind, cut, cutAt}
 use Rattle.script.specs.Inside.{In}
-use Rattle.script.proofs.Inside.{length-bytes}
+use Rattle.script.proofs.Inside.{length-bytes, position-in}
 use Rattle.roles.proofs.PieceLaws.{word-fits}
 
 -- ---- a word that the code has compared: r is the answer of `pieces::begins`
@@ -83,16 +82,6 @@ byte-fits text p x c i e q z = front-fits text p c i (sym e ∙ q) z
 
 -- ---- the first b of a piece: f is the answer of `pieces::find_in`
 
--- a byte that is found stands inside
-pub position-inside : (b : ℕ) (s : List ℕ) (at n : ℕ) → positionFrom b at s ≡ some n → n < at + length s
-unfolding positionFrom
-position-inside b [] at n e = let z : _≡_ {A = ℕ} 0 1 = cc in omega arith
-position-inside b (x ∷ s) at n e = go (eqb x b) e (position-inside b s (at + 1) n)
-  where
-    go : (t : Bool) → (if t then some at else positionFrom b (at + 1) s) ≡ some n → (positionFrom b (at + 1) s ≡ some n → n < at + 1 + length s) → n < at + length (x ∷ s)
-    go true q ih = let k : at ≡ n = cc in omega arith
-    go false q ih = omega (arith, ih q)
-
 module _ (text : List ℕ) (start end b : ℕ) (f : Found) (e : foundOf f ≡ position b (bytes text (span start end))) where
   pub cut-none : f ≡ Nothing → cut text b (span start end) ≡ none
   unfolding cut foundOf
@@ -106,7 +95,7 @@ module _ (text : List ℕ) (start end b : ℕ) (f : Found) (e : foundOf f ≡ po
     pub cut-fits : In text (span start end) → start + n < end
     unfolding position foundOf
     cut-fits i =
-        let k = position-inside b (bytes text (span start end)) 0 n (sym e ∙ ap foundOf h) in
+        let k = position-in b 0 n (bytes text (span start end)) (sym e ∙ ap foundOf h) in
         omega (arith, k, length-bytes text (span start end) i, i .forward)
 
     pub cut-before : In text (span start end) → In text (span start (start + n))

@@ -2,7 +2,6 @@ pub mod ArgumentLaws
 pub mod BehindLaws
 pub mod BlockLaws
 pub mod ExpectationLaws
-pub mod InLaws
 pub mod KeyLaws
 pub mod MatcherLaws
 pub mod OpeningLaws

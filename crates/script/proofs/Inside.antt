@@ -44,7 +44,7 @@ pub length-bytes : (text : List ℕ) (p : Span) → In text p → length (bytes 
 unfolding bytes
 length-bytes text p i = length-take-le (p .end - p .start) (drop (p .start) text) (omega (arith, length-drop (p .start) text, i .inside))
 
-trim-in : (text : List ℕ) (p : Span) → In text p → In text (trim text p)
+pub trim-in : (text : List ℕ) (p : Span) → In text p → In text (trim text p)
 unfolding trim
 trim-in text p i =
     let k = trim-inside (bytes text p) in
@@ -61,11 +61,11 @@ word-fits (c ∷ˢ w) (x ∷ s) e = go (eqb (code c) x) e (word-fits w s)
     go false e ih = never (sym e)
 
 -- what holds of something that may be missing, if it is there
-abbrev Opt : {A : Type 0} → (A → Type 0) → Option A → Type 0
+abbrev pub Opt : {A : Type 0} → (A → Type 0) → Option A → Type 0
 Opt P none = Unit {0}
 Opt P (some a) = P a
 
-behind-in : (text : List ℕ) (w : String) (p : Span) → In text p → Opt (In text) (behind text w p)
+pub behind-in : (text : List ℕ) (w : String) (p : Span) → In text p → Opt (In text) (behind text w p)
 unfolding behind begins
 behind-in text w p i = go (beginsWith w (bytes text p)) (word-fits w (bytes text p))
   where
@@ -74,7 +74,7 @@ behind-in text w p i = go (beginsWith w (bytes text p)) (word-fits w (bytes text
     go false f = tt
 
 -- the first b stands inside
-position-in : (b at n : ℕ) (s : List ℕ) → positionFrom b at s ≡ some n → n < at + length s
+pub position-in : (b at n : ℕ) (s : List ℕ) → positionFrom b at s ≡ some n → n < at + length s
 unfolding positionFrom
 position-in b at n [] e = let z : _≡_ {A = Bool} true false = cc in never z
 position-in b at n (x ∷ s) e = go (eqb x b) e (position-in b (at + 1) n s)
@@ -83,10 +83,10 @@ position-in b at n (x ∷ s) e = go (eqb x b) e (position-in b (at + 1) n s)
     go true e later = let f : at ≡ n = cc in omega arith
     go false e later = omega (arith, later e)
 
-abbrev CutIn : List ℕ → Cut → Type 0
+abbrev pub CutIn : List ℕ → Cut → Type 0
 CutIn text c = In text (c .before) × In text (c .after)
 
-cut-in : (text : List ℕ) (b : ℕ) (p : Span) → In text p → Opt (CutIn text) (cut text b p)
+pub cut-in : (text : List ℕ) (b : ℕ) (p : Span) → In text p → Opt (CutIn text) (cut text b p)
 unfolding cut cutAt position
 cut-in text b p i = go (positionFrom b 0 (bytes text p)) refl
   where
@@ -111,11 +111,11 @@ inner-in text p h i = record { forward = omega arith; inside = omega (arith, i .
 
 -- ---- the first attempt that fits
 
-abbrev All : {A : Type 0} → (A → Type 0) → List (Option A) → Type 0
+abbrev pub All : {A : Type 0} → (A → Type 0) → List (Option A) → Type 0
 All P [] = Unit {0}
 All P (o ∷ os) = Opt P o × All P os
 
-first-in : {A : Type 0} (P : A → Type 0) (os : List (Option A)) (last : A) → All P os → P last → P (firstOf os last)
+pub first-in : {A : Type 0} (P : A → Type 0) (os : List (Option A)) (last : A) → All P os → P last → P (firstOf os last)
 unfolding firstOf
 first-in P [] last h k = k
 first-in P (some a ∷ os) last h k = h .0

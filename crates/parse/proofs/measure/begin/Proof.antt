@@ -1,0 +1,12 @@
+-- `parse::measure::begin` meets its contract. Assumes nothing.
+use Rattle.parse.specs.Measure.{begun}
+use borrow.Author.Needs.{needs}
+use Rattle.parse.proofs.measure.begin.Statement.{statement}
+use Rattle.parse.proofs.measure.begin.Tie as tie
+
+returns : tie.Need-returns
+unfolding begun
+returns c = search needs
+
+pub begin-spec : {M : Type 1} → statement M
+begin-spec = tie.close (tie.spec returns)
