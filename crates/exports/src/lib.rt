@@ -9,7 +9,10 @@ ghost use Rattle.text.specs.Lines.{lines, trimmedLength};
 ghost use Rattle.text.specs.Numbers.{number, signed, numberOf, integerOf};
 ghost use Rattle.text.specs.Hex.{hexDecoded};
 ghost use Rattle.text.specs.Unquote.{unquoted};
+ghost use Rattle.script.specs.Reading.{measured};
+ghost use Rattle.exports.specs.Answered.{refusedAs, lineOf, countsOr};
 ghost use Rattle.exports.specs.Given.{isGiven, givenOr};
+use parse::measure::Measured;
 use text::number::Integer;
 use text::number::Number;
 
@@ -141,4 +144,41 @@ pub extern "C" fn nwscript_i64(s: &[u8], value: &mut i64) -> bool
     ensures { λ _. ⌜ now (value .exit) ≡ givenOr (signed (now (s .entry))) (now (value .entry)) ⌝ }
 {
     give_signed(text::number::parse_i64(s), value)
+}
+
+// Measure: the number of the refusal, or 0. What is lent takes the refusal's line, or 0, and the counts, which are 0 where the text is refused.
+#[no_mangle]
+pub extern "C" fn nwscript_measure(
+    text: &[u8],
+    line: &mut usize,
+    entries: &mut usize,
+    items: &mut usize,
+    expectations: &mut usize,
+    store: &mut usize,
+) -> u64
+    ensures { λ r. ⌜ r ≡ refusedAs (measured (now (text .entry))) ⌝ }
+    ensures { λ _. ⌜ now (line .exit) ≡ lineOf (measured (now (text .entry))) ⌝ }
+    ensures { λ _. ⌜ now (entries .exit) ≡ countsOr (measured (now (text .entry))) .entries ⌝ }
+    ensures { λ _. ⌜ now (items .exit) ≡ countsOr (measured (now (text .entry))) .items ⌝ }
+    ensures { λ _. ⌜ now (expectations .exit) ≡ countsOr (measured (now (text .entry))) .expectations ⌝ }
+    ensures { λ _. ⌜ now (store .exit) ≡ countsOr (measured (now (text .entry))) .store ⌝ }
+{
+    match parse::measure::measure(text) {
+        Measured::Refused(r) => {
+            *line = r.line;
+            *entries = 0;
+            *items = 0;
+            *expectations = 0;
+            *store = 0;
+            r.number
+        }
+        Measured::Read(c) => {
+            *line = 0;
+            *entries = c.entries;
+            *items = c.items;
+            *expectations = c.expectations;
+            *store = c.store;
+            0
+        }
+    }
 }
