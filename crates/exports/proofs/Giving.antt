@@ -1,7 +1,7 @@
 -- A number that was read is given, and one that was not leaves what was lent. For `search` to use. Assumes nothing.
 use Prim.Native.Nat.{ℕ}
-use mathlib.Core.Path.{_≡_, refl, ap, _∙_}
-use mathlib.Core.Bool.{Bool, true, false}
+use mathlib.Core.Path.{_≡_}
+use mathlib.Core.Bool.{true, false}
 use mathlib.Core.Option.{Option, none, some}
 use lib.IntN.{ℤ}
 use Rattle.text.specs.Numbers.{numberOf, integerOf}

@@ -8,21 +8,20 @@ use mathlib.Core.Path.{_≡_, ap}
 use mathlib.Core.List.{List}
 use lib.ListN.{length}
 use Rattle.text.specs.declared.parts.Span.{Span}
+use Rattle.wire.specs.declared.ops.Op.{Op}
 use Rattle.text.proofs.Scan.{by-cases}
-use Rattle.script.specs.Inside.{In, SayingIn, RoleIn}
+use Rattle.script.specs.Inside.{In, SayingIn}
 use Rattle.script.specs.Operations.{sameKey, Shape, singlePath, singleString, pathSet, pathSetFlag, pathSetMode, noArgs, setOptions, collectGarbage, verifyStore, addPermRoot, addSignatures, addTextToStore, addToStore, addMultipleToStore, addBuildLog, registerDrvOutput, queryRealisation, querySubstitutablePathInfo, querySubstitutablePathInfos, rawBytes, formOf}
 use Rattle.script.specs.declared.records.Counts.{Counts}
 use Rattle.script.specs.declared.roles.Key.{Key}
 use Rattle.script.specs.declared.roles.Key.the-variants as Key
 use Rattle.script.specs.declared.roles.Saying.{Saying}
 use Rattle.script.specs.declared.roles.Saying.the-variants.{Known, Pair, NoColon, Unknown, NoPair, NoRaw}
-use Rattle.script.specs.declared.roles.Role.{Role}
-use Rattle.script.specs.declared.roles.Role.the-variants.{Nothing, Says, Expects, Opens, Bad}
 use Rattle.parse.specs.declared.measure.What.{What}
 use Rattle.parse.specs.declared.measure.What.the-variants.{ThePreamble, AnEntry}
 use Rattle.parse.specs.declared.measure.Open.{Open}
 use Rattle.parse.specs.Bounds.{Small, Few}
-use Rattle.parse.specs.Measure.{begun, told, pairsOn, entryItems, entryStore, itemsOf, storeOf, closedItems, closedStore, closeOn, countOn, opened, setCount, quotedCount, dataCount, rawCount, featureCount, sayOn, openOn}
+use Rattle.parse.specs.Measure.{begun, told, pairsOn, entryItems, entryStore, itemsOf, storeOf, closedItems, closedStore, closeOn, entered, opened, setCount, quotedCount, dataCount, rawCount, featureCount, sayOn}
 use Rattle.parse.proofs.CountLaws.{set-fits, quoted-fit, data-fit, raw-fit, features-fit, inline-fits, fits-text}
 
 -- ---- what is closed
@@ -161,7 +160,7 @@ module _ (text : List ℕ) (m : ℕ) (fits : length text ≤ m) where
   two-more : (n : ℕ) → n ≤ m → n ≤ m + 2
   two-more n h = omega arith
 
-  said-small : (o : Open) (s : Saying) → SayingIn text s → Small m o → Small (m + 2) (sayOn text o s)
+  pub said-small : (o : Open) (s : Saying) → SayingIn text s → Small m o → Small (m + 2) (sayOn text o s)
   unfolding sayOn
   said-small o s i h = record {
     inline = two-more _ (h .inline);
@@ -178,14 +177,9 @@ module _ (text : List ℕ) (m : ℕ) (fits : length text ≤ m) where
     «server_features» = two-more _ (told-small Key.ServerFeatures (featureCount text) (features-fit text) s i _ (h .«server_features»));
   }
 
-  pub open-small : (o : Open) (r : Role) → RoleIn text r → Small m o → Small (m + 2) (openOn text o r)
-  unfolding openOn RoleIn opened
-  open-small o Nothing i h = grown m (m + 2) o (omega arith) h
-  open-small o (Says s) i h = said-small o s i h
-  open-small o (Expects e) i h = grown m (m + 2) o (omega arith) h
-  open-small o (Opens p) i h =
-      begun-small (m + 2) _ _ (two-more _ (le-trans (fits-text text (p .args) _ i (inline-fits text (p .args) (p .op) i)) fits))
-  open-small o (Bad n) i h = grown m (m + 2) o (omega arith) h
+  pub opened-small : (op : Op) (args : Span) → In text args → Small m (opened text op args)
+  unfolding opened
+  opened-small op args i = begun-small m _ _ (le-trans (fits-text text args _ i (inline-fits text args op i)) fits)
 
 -- ---- the totals after a line
 
@@ -197,20 +191,11 @@ more-few m k t h f = record {
   store = le-trans (f .store) h;
 }
 
-pub count-few : (m k : ℕ) (t : Counts) (o : Open) (r : Role) → Few m t → Small k o → Few (m + k + k + k + 1) (countOn t o r)
-unfolding countOn
-count-few m k t o Nothing f h = more-few m _ t (omega arith) f
-count-few m k t o (Says s) f h = more-few m _ t (omega arith) f
-count-few m k t o (Expects e) f h = record {
-  entries = omega (arith, f .entries);
-  items = omega (arith, f .items);
-  expectations = omega (arith, f .expectations);
-  store = omega (arith, f .store);
-}
-count-few m k t o (Opens p) f h = record {
+pub entered-few : (m k : ℕ) (t : Counts) (o : Open) → Few m t → Small k o → Few (m + k + k + k + 1) (entered t o)
+unfolding entered
+entered-few m k t o f h = record {
   entries = omega (arith, f .entries);
   items = omega (arith, f .items, items-small k o h);
   expectations = omega (arith, f .expectations);
   store = omega (arith, f .store, store-small k o h);
 }
-count-few m k t o (Bad n) f h = more-few m _ t (omega arith) f

@@ -33,7 +33,7 @@ use Rattle.script.specs.declared.roles.Role.the-variants.{Nothing, Says, Expect
 use Rattle.parse.specs.declared.measure.What.{What}
 use Rattle.parse.specs.declared.measure.What.the-variants.{ThePreamble, AnEntry}
 use Rattle.parse.specs.declared.measure.Open.{Open}
-use Rattle.parse.specs.Measure.{begun, preambleOpen, told, pairsOn, entryItems, entryStore, itemsOf, storeOf, closedItems, closedStore, counts, zeros, closeOn, countOn, onward, inlineItems, opened, setCount, quotedCount, dataCount, rawCount, featureCount, sayOn, openOn, countFrom, walkFrom, measuredBy}
+use Rattle.parse.specs.Measure.{begun, preambleOpen, told, pairsOn, entryItems, entryStore, itemsOf, storeOf, closedItems, closedStore, counts, zeros, closeOn, entered, countOn, onward, inlineItems, opened, setCount, quotedCount, dataCount, rawCount, featureCount, sayOn, openOn, countFrom, walkFrom, measuredBy}
 
 -- a number of the value that is said last
 told-is : (k : Key) (f : Option Span → ℕ) (s : Saying) (soFar : Option Span) → told k (λ v. f (some v)) s (f soFar) ≡ f (valueOr k s soFar)
@@ -230,7 +230,7 @@ module _ (text : List ℕ) where
   Counted ms = (i x b : ℕ) (t : Counts) (o : Open) → countFrom text t o ms ≡ allOf text t o ms (tablesFrom i x b (entries plainRules text ms))
 
   counted-more : (n : ℕ) (r : Role) (ms : List Marked) → Counted ms → Counted (marked n r ∷ ms)
-  unfolding countFrom countOn openOn closeOn allOf saidOn tablesFrom entries entryOn entryOf lead isOpening sayings sayingOf expectations expectationOf
+  unfolding countFrom countOn entered openOn closeOn allOf saidOn tablesFrom entries entryOn entryOf lead isOpening sayings sayingOf expectations expectationOf
   counted-more n Nothing ms h i x b t o = h i x b t o
   counted-more n (Says s) ms h i x b t o = h i x b t (sayOn text o s)
   counted-more n (Expects e) ms h i x b t o = h i x b (countOn t o (Expects e)) o ∙ same-counts refl refl (omega arith) refl

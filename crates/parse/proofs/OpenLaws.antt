@@ -3,7 +3,7 @@ use Prim.Native.Nat.{ℕ, _+_}
 use mathlib.Core.Path.{_≡_, sym, ap, _∙_}
 use mathlib.Core.List.{List}
 use Rattle.text.specs.declared.parts.Span.{Span}
-use Rattle.script.specs.Inside.{In, SayingIn, RoleIn}
+use Rattle.script.specs.Inside.{In, SayingIn}
 use Rattle.wire.specs.declared.ops.Op.{Op}
 use Rattle.script.specs.Operations.{sameKey, keyRow, formOf}
 use Rattle.script.specs.declared.roles.Key.{Key}
@@ -11,14 +11,11 @@ use Rattle.script.specs.declared.roles.Key.the-variants as Key
 use Rattle.script.specs.declared.roles.Saying.{Saying}
 use Rattle.script.specs.declared.roles.Saying.the-variants.{Known, Pair}
 use Rattle.script.specs.declared.records.Counts.{Counts}
-use Rattle.script.specs.declared.records.Expect.{Expect}
 use Rattle.script.specs.declared.roles.Opening.{Opening}
-use Rattle.script.specs.declared.roles.Role.{Role}
-use Rattle.script.specs.declared.roles.Role.the-variants.{Says, Expects, Opens}
 use Rattle.parse.specs.declared.measure.What.{What}
 use Rattle.parse.specs.declared.measure.What.the-variants.{ThePreamble, AnEntry}
 use Rattle.parse.specs.declared.measure.Open.{Open}
-use Rattle.parse.specs.Measure.{setCount, quotedCount, dataCount, rawCount, featureCount, inlineItems, begun, told, pairsOn, sayOn, opened, openOn, entryItems, entryStore, itemsOf, storeOf, closedItems, closedStore, counts, closeOn, countOn}
+use Rattle.parse.specs.Measure.{setCount, quotedCount, dataCount, rawCount, featureCount, inlineItems, begun, told, pairsOn, sayOn, opened, entryItems, entryStore, itemsOf, storeOf, closedItems, closedStore, counts, closeOn, entered}
 
 abbrev pub opens : (what : What) → (inline pairs paths refs suffix text name cam-str contents raw features server-features : ℕ) → Open
 opens what inline pairs paths refs suffix text name cam-str contents raw features server-features = record {
@@ -125,31 +122,13 @@ module _ (t : Counts) (o : Open) where
   unfolding closeOn
   closed i s e f = rw (e, f)
 
-  pub expects-on : (role : Role) (x : Expect) → role ≡ Expects x → counts (t .entries) (t .items) (t .expectations + 1) (t .store) ≡ countOn t o role
-  unfolding countOn
-  expects-on role x e = rw e
+  pub entered-is : (c : Counts) → c ≡ closeOn t o → counts (c .entries + 1) (c .items) (c .expectations) (c .store) ≡ entered t o
+  unfolding entered closeOn
+  entered-is c f = rw f
 
-  pub opens-on : (role : Role) (p : Opening) (c : Counts) → role ≡ Opens p → c ≡ closeOn t o → counts (c .entries + 1) (c .items) (c .expectations) (c .store) ≡ countOn t o role
-  unfolding countOn closeOn
-  opens-on role p c e f = rw (e, f)
+pub ruleset count-laws = (closed, entered-is)
 
-pub ruleset count-laws = (closed, expects-on, opens-on)
-
-module _ (text : List ℕ) (o : Open) (role : Role) where
-  pub says-in : (s : Saying) → role ≡ Says s → RoleIn text role → SayingIn text s
-  unfolding RoleIn
-  says-in s e i = rw e at i
-
-  pub args-in : (p : Opening) → role ≡ Opens p → RoleIn text role → In text (p .args)
-  unfolding RoleIn
-  args-in p e i = rw e at i
-
-  pub says-open : (s : Saying) (r : Open) → role ≡ Says s → r ≡ sayOn text o s → r ≡ openOn text o role
-  unfolding openOn
-  says-open s r e f = rw (e, f)
-
-  pub opens-open : (p : Opening) (n : ℕ) (r : Open) → role ≡ Opens p → n ≡ inlineItems text (formOf (p .op) .shape) (p .args) → r ≡ begun (AnEntry (p .op)) n → r ≡ openOn text o role
-  unfolding openOn opened
-  opens-open p n r e f g = g ∙ ap (begun (AnEntry (p .op))) f ∙ ap (openOn text o) (sym e)
-
-pub ruleset open-laws = (says-in, args-in, says-open, opens-open)
+pub opened-is : (text : List ℕ) (p : Opening) (n : ℕ) (r : Open) → n ≡ inlineItems text (formOf (p .op) .shape) (p .args) → r ≡ begun (AnEntry (p .op)) n
+    → r ≡ opened text (p .op) (p .args)
+unfolding opened
+opened-is text p n r f g = g ∙ ap (begun (AnEntry (p .op))) f

@@ -1,33 +1,34 @@
 -- Laws of the walk over lines: what the line at hand does to the totals, to what is open and to the answer. For `search` to use. Assumes nothing.
 use Prim.Native.Nat.{ℕ, _+_, _*_, _≤_, _<_}
 use native.Mathlib.Omega.{arith}
-use mathlib.Core.Path.{_≡_, refl, sym, ap, _∙_}
-use mathlib.Core.List.{List, [], _∷_}
+use mathlib.Core.Path.{_≡_, sym, ap, _∙_}
+use mathlib.Core.List.{List}
 use lib.ListN.{length}
-use types.Run.{OneOf, miss}
-use denote.Enum.Declared.{tagOf}
+use mir.Val.{Fits}
+use mir.Syntax.{w64}
 use Rattle.text.specs.Lines.{lineAt, lines}
 use Rattle.text.specs.declared.lines.Line.{Line}
 use Rattle.text.proofs.LineLaws.{linesAt, known, lines-none}
-use Rattle.script.specs.Inside.{In, RoleIn}
+use Rattle.script.specs.Inside.{In, SayingIn, RoleIn}
 use Rattle.script.specs.Values.{plainRules}
 use Rattle.script.specs.Roles.{lineSpan, stepOf}
 use Rattle.script.specs.Reading.{Parsed, read, refusal}
 use Rattle.script.specs.declared.records.Counts.{Counts}
 use Rattle.script.specs.declared.roles.Where.{Where}
 use Rattle.script.specs.declared.roles.Where.the-variants.{InPreamble}
+use Rattle.script.specs.declared.records.Expect.{Expect}
+use Rattle.script.specs.declared.roles.Saying.{Saying}
+use Rattle.script.specs.declared.roles.Opening.{Opening}
 use Rattle.script.specs.declared.roles.Step.{Step}
-use Rattle.script.specs.declared.roles.Role.{Role}
 use Rattle.script.specs.declared.roles.Role.the-variants.{Nothing, Says, Expects, Opens, Bad}
-use Rattle.script.proofs.roles.Role.{the-type}
 use Rattle.script.proofs.RolesInside.{role-in}
 use Rattle.parse.specs.declared.measure.What.the-variants.{ThePreamble}
 use Rattle.parse.specs.declared.measure.Open.{Open}
 use Rattle.parse.specs.declared.measure.Measured.the-variants.{Refused, Read}
 use Rattle.parse.specs.Bounds.{Small, Few}
-use Rattle.parse.specs.Measure.{begun, preambleOpen, zeros, onward, closeOn, countOn, openOn, walkFrom}
+use Rattle.parse.specs.Measure.{begun, preambleOpen, zeros, onward, counts, closeOn, entered, countOn, opened, sayOn, openOn, walkFrom}
 use Rattle.parse.specs.MeasureRead.{measuredOf}
-use Rattle.parse.proofs.BoundLaws.{begun-small, grown, open-small, more-few, count-few}
+use Rattle.parse.proofs.BoundLaws.{begun-small, grown, said-small, opened-small, more-few, entered-few}
 
 -- how small the numbers are at a line, by its number
 abbrev pub smallAt : ℕ → ℕ
@@ -35,18 +36,6 @@ smallAt number = 0x8000 + number * 2
 
 abbrev pub fewAt : ℕ → ℕ
 fewAt number = number * 0x80000
-
--- the cases of a role that is no refusal
-abbrev pub unrefused : List ℕ
-unrefused = 0 ∷ 1 ∷ 2 ∷ 3 ∷ []
-
-onward-on : (n : ℕ) (r : Role) (later : Parsed Counts) → OneOf unrefused (tagOf the-type r) → onward n r later ≡ later
-unfolding onward
-onward-on n Nothing later h = refl
-onward-on n (Says s) later h = refl
-onward-on n (Expects e) later h = refl
-onward-on n (Opens p) later h = refl
-onward-on n (Bad k) later h = absurd (miss unrefused 4 tt h)
 
 module _ (text : List ℕ) (t : Counts) (o : Open) (w : Where) (at number : ℕ) (whole : Parsed Counts) where
   abbrev pub Here : Type 0
@@ -73,11 +62,7 @@ module _ (text : List ℕ) (t : Counts) (o : Open) (w : Where) (at number : ℕ)
     unfolding onward measuredOf
     walk-bad n b = rw b at by-role
 
-    pub walk-on : OneOf unrefused (tagOf the-type (s .role)) → (t′ : Counts) → t′ ≡ countOn t o (s .role) → (o′ : Open) → o′ ≡ openOn text o (s .role)
-        → walkFrom text t′ o′ (s .next) (linesAt text (l .next) (number + 1)) ≡ whole
-    walk-on g t′ a o′ b = rw (a, b) (sym (onward-on number (s .role) (later s) g) ∙ by-role)
-
--- ---- the numbers stay small
+-- ---- the numbers are small
 
 module _ (number at n : ℕ) (k : number ≤ at + 1) (h : at ≤ n) (fits : n ≤ 0x8000) where
   pub small-now : (o : Open) → Small (smallAt number) o → Small 0x20000 o
@@ -86,12 +71,8 @@ module _ (number at n : ℕ) (k : number ≤ at + 1) (h : at ≤ n) (fits : n �
   pub few-now : (t : Counts) → Few (fewAt number) t → Few 0x10000000000 t
   few-now t f = more-few (fewAt number) 0x10000000000 t (omega arith) f
 
-  pub few-next : (t t′ : Counts) (o : Open) (r : Role) → Few (fewAt number) t → Small (smallAt number) o → t′ ≡ countOn t o r → Few (fewAt (number + 1)) t′
-  few-next t t′ o r f s e = rw e (more-few _ (fewAt (number + 1)) (countOn t o r) (omega arith) (count-few (fewAt number) (smallAt number) t o r f s))
-
-pub small-next : (text : List ℕ) (number : ℕ) (o o′ : Open) (r : Role) → length text ≤ 0x8000 → RoleIn text r → Small (smallAt number) o → o′ ≡ openOn text o r
-    → Small (smallAt (number + 1)) o′
-small-next text number o o′ r h i s e = rw e (grown (smallAt number + 2) (smallAt (number + 1)) (openOn text o r) (omega arith) (open-small text (smallAt number) (omega arith) o r i s))
+  pub expects-fit : (t : Counts) → Few (fewAt number) t → Fits w64 (t .expectations + 1)
+  expects-fit t f = omega (arith, f .expectations)
 
 -- ---- at the first line
 
@@ -108,7 +89,68 @@ module _ (text : List ℕ) (at number : ℕ) (l : Line) (h : at < length text) (
   pub line-in : In text (lineSpan l)
   line-in = let k = known text at number l h e in record { forward = k .forward; inside = k .inside }
 
-  pub line-role : (w : Where) (s : Step) → s ≡ stepOf plainRules text w l → RoleIn text (s .role)
+  line-role : (w : Where) (s : Step) → s ≡ stepOf plainRules text w l → RoleIn text (s .role)
   line-role w s f = rw f (role-in text plainRules w l line-in)
 
-pub ruleset walk-laws = (walk-over, walk-bad, small-now, few-now, few-next, small-next, line-in, line-role)
+  pub says-in : (w : Where) (s : Step) → s ≡ stepOf plainRules text w l → (x : Saying) → s .role ≡ Says x → SayingIn text x
+  unfolding RoleIn
+  says-in w s f x r = rw r at (line-role w s f)
+
+  pub args-in : (w : Where) (s : Step) → s ≡ stepOf plainRules text w l → (p : Opening) → s .role ≡ Opens p → In text (p .args)
+  unfolding RoleIn
+  args-in w s f p r = rw r at (line-role w s f)
+
+pub ruleset walk-laws = (walk-over, walk-bad, small-now, few-now, expects-fit, says-in, args-in, line-in)
+
+-- ---- the next line
+
+-- what holds at a line: numbers are small, and the walk from there on gives the answer
+pub record Turn (text : List ℕ) (number : ℕ) (t : Counts) (o : Open) (w : Where) (ls : List Line) (whole : Parsed Counts) : Type 0 where
+  pub small : Small (smallAt number) o
+  pub few : Few (fewAt number) t
+  pub walk : walkFrom text t o w ls ≡ whole
+
+module _ (text : List ℕ) (t : Counts) (o : Open) (w : Where) (at number : ℕ) (whole : Parsed Counts) (turn : Turn text number t o w (linesAt text at number) whole)
+    (h : at < length text) (l : Line) (e : l ≡ lineAt text at number) (s : Step) (f : s ≡ stepOf plainRules text w l) (fits : length text ≤ 0x8000) where
+  abbrev Next : Counts → Open → Type 0
+  Next t′ o′ = Turn text (number + 1) t′ o′ (s .next) (linesAt text (l .next) (number + 1)) whole
+
+  still : Small (smallAt (number + 1)) o
+  still = grown (smallAt number) (smallAt (number + 1)) o (omega arith) (turn .small)
+
+  still-few : Few (fewAt (number + 1)) t
+  still-few = more-few (fewAt number) (fewAt (number + 1)) t (omega arith) (turn .few)
+
+  pub turn-nothing : (t′ : Counts) (o′ : Open) → s .role ≡ Nothing → t′ ≡ t → o′ ≡ o → Next t′ o′
+  unfolding onward countOn openOn
+  turn-nothing t′ o′ r a b = rw (a, b) (record { small = still; few = still-few; walk = rw r at (by-role text t o w at number whole (turn .walk) h l e s f) })
+
+  pub turn-says : (x : Saying) (t′ : Counts) (o′ : Open) → s .role ≡ Says x → t′ ≡ t → o′ ≡ sayOn text o x → Next t′ o′
+  unfolding onward countOn openOn
+  turn-says x t′ o′ r a b =
+      let i = says-in text at number l h e w s f x r in
+      rw (a, b) (record {
+        small = grown (smallAt number + 2) (smallAt (number + 1)) (sayOn text o x) (omega arith) (said-small text (smallAt number) (omega arith) o x i (turn .small));
+        few = still-few;
+        walk = rw r at (by-role text t o w at number whole (turn .walk) h l e s f);
+      })
+
+  pub turn-expects : (x : Expect) (t′ : Counts) (o′ : Open) → s .role ≡ Expects x → t′ ≡ counts (t .entries) (t .items) (t .expectations + 1) (t .store) → o′ ≡ o → Next t′ o′
+  unfolding onward countOn openOn
+  turn-expects x t′ o′ r a b = rw (a, b) (record {
+    small = still;
+    few = record { entries = omega (arith, turn .few .entries); items = omega (arith, turn .few .items); expectations = omega (arith, turn .few .expectations); store = omega (arith, turn .few .store) };
+    walk = rw r at (by-role text t o w at number whole (turn .walk) h l e s f);
+  })
+
+  pub turn-opens : (p : Opening) (t′ : Counts) (o′ : Open) → number ≤ at + 1 → s .role ≡ Opens p → t′ ≡ entered t o → o′ ≡ opened text (p .op) (p .args) → Next t′ o′
+  unfolding onward countOn openOn
+  turn-opens p t′ o′ k r a b =
+      let i = args-in text at number l h e w s f p r in
+      rw (a, b) (record {
+        small = opened-small text (smallAt (number + 1)) (omega arith) (p .op) (p .args) i;
+        few = more-few _ (fewAt (number + 1)) (entered t o) (omega arith) (entered-few (fewAt number) (smallAt number) t o (turn .few) (turn .small));
+        walk = rw r at (by-role text t o w at number whole (turn .walk) h l e s f);
+      })
+
+pub ruleset turn-laws = (turn-nothing, turn-says, turn-expects, turn-opens)

@@ -148,12 +148,16 @@ zeros = counts 0 0 0 0
 unfoldable pub closeOn : (totals : Counts) → Open → Counts
 closeOn t o = counts (t .entries) (t .items + closedItems o) (t .expectations) (t .store + closedStore o)
 
--- after a line: an opening line closes what is open and is one entry more, an expectation line is one expectation more
+-- an opening line closes what is open and is one entry more
+unfoldable pub entered : (totals : Counts) → Open → Counts
+entered t o = counts (t .entries + 1) (t .items + closedItems o) (t .expectations) (t .store + closedStore o)
+
+-- after a line; an expectation line is one expectation more
 unfoldable pub countOn : (totals : Counts) → Open → Role → Counts
 countOn t o Nothing = t
 countOn t o (Says s) = t
 countOn t o (Expects e) = counts (t .entries) (t .items) (t .expectations + 1) (t .store)
-countOn t o (Opens p) = counts (t .entries + 1) (t .items + closedItems o) (t .expectations) (t .store + closedStore o)
+countOn t o (Opens p) = entered t o
 countOn t o (Bad n) = t
 
 -- a refused line ends the walk

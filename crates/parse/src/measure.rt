@@ -3,17 +3,18 @@ ghost use mathlib.Core.Path.{_≡_};
 ghost use Prim.Native.Nat.{_≤_};
 ghost use lib.ListN.{length};
 ghost use Rattle.text.specs.Lines.{lines};
-ghost use Rattle.script.specs.Inside.{In, SayingIn, RoleIn};
+ghost use Rattle.script.specs.Inside.{In, SayingIn};
 ghost use Rattle.script.specs.Operations.{formOf};
 ghost use Rattle.script.specs.Reading.{measured};
 ghost use Rattle.script.specs.declared.roles.Saying.the-variants as Said;
 ghost use Rattle.script.specs.declared.roles.Where.the-variants as Stands;
-ghost use Rattle.parse.specs.Measure.{begun, preambleOpen, zeros, entryItems, entryStore, closedItems, closedStore, closeOn, countOn, sayOn, openOn, walkFrom};
+ghost use Rattle.parse.specs.Measure.{begun, preambleOpen, zeros, entryItems, entryStore, closedItems, closedStore, closeOn, entered, opened, sayOn, walkFrom};
 ghost use Rattle.parse.specs.Bounds.{Small, Few};
 ghost use Rattle.parse.specs.MeasureRead.{measuredOf};
 use script::records::Counts;
 use script::records::Refusal;
 use script::roles::Key;
+use script::roles::Opening;
 use script::roles::Role;
 use script::roles::Saying;
 use script::roles::Where;
@@ -208,43 +209,27 @@ fn close_on(t: Counts, o: Open) -> Counts
     }
 }
 
-// The totals after a line.
-fn count_on(t: Counts, o: Open, role: Role) -> Counts
+// The totals after an opening line: what was open is closed, and there is one entry more.
+fn enter(t: Counts, o: Open) -> Counts
     requires { ⌜ Few 0x100_0000_0000 t ⌝ }
     requires { ⌜ Small 0x20000 o ⌝ }
-    ensures { λ r. ⌜ r ≡ countOn t o role ⌝ }
+    ensures { λ r. ⌜ r ≡ entered t o ⌝ }
 {
-    match role {
-        Role::Expects(_) => Counts {
-            expectations: t.expectations + 1,
-            ..t
-        },
-        Role::Opens(_) => {
-            let closed = close_on(t, o);
-            Counts {
-                entries: closed.entries + 1,
-                ..closed
-            }
-        }
-        _ => t,
+    let closed = close_on(t, o);
+    Counts {
+        entries: closed.entries + 1,
+        ..closed
     }
 }
 
-// What is open after a line.
-fn open_on(text: &[u8], o: Open, role: Role) -> Open
-    requires { ⌜ RoleIn (now text) role ⌝ }
-    requires { ⌜ Small 0x20000 o ⌝ }
-    ensures { λ r. ⌜ r ≡ openOn (now (text .entry)) o role ⌝ }
+// An entry at its opening line.
+fn open_entry(text: &[u8], p: Opening) -> Open
+    requires { ⌜ In (now text) (p .args) ⌝ }
+    ensures { λ r. ⌜ r ≡ opened (now (text .entry)) (p .op) (p .args) ⌝ }
 {
-    match role {
-        Role::Says(s) => say_on(text, o, s),
-        Role::Opens(p) => {
-            let op = p.op;
-            let inline = crate::counts::inline_items(text, op, p.args);
-            begin(What::AnEntry(op), inline)
-        }
-        _ => o,
-    }
+    let op = p.op;
+    let inline = crate::counts::inline_items(text, op, p.args);
+    begin(What::AnEntry(op), inline)
 }
 
 // One line after another; the first refused line is the answer.
@@ -266,14 +251,21 @@ fn walk(text: &[u8]) -> Measured
         let l = text::lines::line_at(text, at, number);
         let step = roles::steps::step(text, w, l);
         let role = step.role;
-        if let Role::Bad(n) = role {
-            return Measured::Refused(Refusal {
-                number: n,
-                line: number,
-            });
+        match role {
+            Role::Nothing => {}
+            Role::Says(s) => o = say_on(text, o, s),
+            Role::Expects(_) => t.expectations += 1,
+            Role::Opens(p) => {
+                t = enter(t, o);
+                o = open_entry(text, p);
+            }
+            Role::Bad(n) => {
+                return Measured::Refused(Refusal {
+                    number: n,
+                    line: number,
+                });
+            }
         }
-        t = count_on(t, o, role);
-        o = open_on(text, o, role);
         w = step.next;
         at = l.next;
         number += 1;

@@ -1,13 +1,13 @@
 -- `parse::measure::walk` meets its contract. The loop's invariant: the walk from the line at hand on gives the answer, and numbers are small. Assumes nothing.
 use Prim.Native.Nat.{_+_, _-_, _≤_}
-use mathlib.Core.Path.{_≡_}
+use mathlib.Core.Path.{_∙_}
+use mathlib.Core.Logic.{⊎-elim}
 use lib.ListN.{length}
 use Rattle.text.specs.Lines.{lines}
 use Rattle.text.proofs.LineLaws.{linesAt, line-steps}
 use Rattle.script.specs.declared.roles.Where.the-variants.{InPreamble}
-use Rattle.parse.specs.Bounds.{Small, Few}
 use Rattle.parse.specs.Measure.{zeros, preambleOpen, walkFrom}
-use Rattle.parse.proofs.WalkLaws.{smallAt, fewAt, walk-laws, walk-on, small-first, walk-first}
+use Rattle.parse.proofs.WalkLaws.{walk-laws, Turn, turn-nothing, turn-says, turn-expects, turn-opens, small-first, walk-first}
 use borrow.Author.Needs.{needs}
 use Rattle.parse.proofs.measure.walk.Statement.{statement}
 use Rattle.parse.proofs.measure.walk.Tie as tie
@@ -17,9 +17,7 @@ Inv-loop text t₀ o₀ w₀ at₀ number₀ t o w at number =
     (at ≤ length text)
     × (length text ≤ 0x8000)
     × (number ≤ at + 1)
-    × Small (smallAt number) o
-    × Few (fewAt number) t
-    × (walkFrom text t o w (linesAt text at number) ≡ walkFrom text zeros preambleOpen InPreamble (lines text))
+    × Turn text number t o w (linesAt text at number) (walkFrom text zeros preambleOpen InPreamble (lines text))
 
 abbrev μ-loop : tie.MeasureT-loop
 μ-loop text t₀ o₀ w₀ at₀ number₀ t o w at number = length text - at
@@ -29,7 +27,7 @@ begin-requires c κs = search needs
 
 loop-holds : tie.Need-loop-holds Inv-loop μ-loop
 unfolding zeros
-loop-holds c = (search needs, search needs, search needs, search (needs, small-first), search needs, search (needs, walk-first))
+loop-holds c = (search needs, search needs, search needs, record { small = search (needs, small-first); few = search needs; walk = search (needs, walk-first) })
 
 line-at-requires : tie.Need-line-at-requires Inv-loop μ-loop
 line-at-requires c κs = search (needs, walk-laws, line-steps)
@@ -37,17 +35,35 @@ line-at-requires c κs = search (needs, walk-laws, line-steps)
 step-requires : tie.Need-step-requires Inv-loop μ-loop
 step-requires c κs = search (needs, walk-laws, line-steps)
 
+enum-told : tie.Need-enum-told Inv-loop μ-loop
+enum-told c = search (needs, walk-laws, line-steps)
+
 enum-known-role : tie.Need-enum-known-role Inv-loop μ-loop
 enum-known-role c = search (needs, walk-laws, line-steps)
 
+say-on-requires : tie.Need-say-on-requires Inv-loop μ-loop
+say-on-requires c κs = search (needs, walk-laws, line-steps)
+
+enum-told-2 : tie.Need-enum-told-2 Inv-loop μ-loop
+enum-told-2 c = search (needs, walk-laws, line-steps)
+
+add-t : tie.Need-add-t Inv-loop μ-loop
+add-t c = search (needs, walk-laws, line-steps)
+
+enum-known-role-2 : tie.Need-enum-known-role-2 Inv-loop μ-loop
+enum-known-role-2 c = search (needs, walk-laws, line-steps)
+
+enter-requires : tie.Need-enter-requires Inv-loop μ-loop
+enter-requires c κs = search (needs, walk-laws, line-steps)
+
+open-entry-requires : tie.Need-open-entry-requires Inv-loop μ-loop
+open-entry-requires c κs = search (needs, walk-laws, line-steps)
+
+enum-known-role-3 : tie.Need-enum-known-role-3 Inv-loop μ-loop
+enum-known-role-3 c = search (needs, walk-laws, line-steps)
+
 returns : tie.Need-returns Inv-loop μ-loop
 returns c = search (needs, walk-laws, line-steps)
-
-count-on-requires : tie.Need-count-on-requires Inv-loop μ-loop
-count-on-requires c κs = search (needs, walk-laws, line-steps)
-
-open-on-requires : tie.Need-open-on-requires Inv-loop μ-loop
-open-on-requires c κs = search (needs, walk-laws, line-steps)
 
 add-number : tie.Need-add-number Inv-loop μ-loop
 add-number c = search (needs, walk-laws, line-steps)
@@ -57,7 +73,19 @@ loop-less c = search (needs, walk-laws, line-steps)
 
 loop-again : tie.Need-loop-again Inv-loop μ-loop
 loop-again c =
-    (search (needs, line-steps), search needs, search (needs, line-steps), search (needs, walk-laws), search (needs, walk-laws), search (needs, walk-on))
+    let L = c .before .before .before .before .loop in (
+      search (needs, line-steps),
+      search needs,
+      search (needs, line-steps),
+      ⊎-elim
+          (λ w. turn-nothing _ (L .t) (L .o) (L .w) (L .at) _ _ (search needs) (search needs) (c .before .before .line-at .result) (search needs) (c .before .step .result) (search needs) (search needs) _ _ (search needs) (search needs) (search needs))
+          (⊎-elim
+          (λ w. turn-says _ (L .t) (L .o) (L .w) (L .at) _ _ (search needs) (search needs) (c .before .before .line-at .result) (search needs) (c .before .step .result) (search needs) (search needs) _ _ _ (search needs) (w .4) (w .5 ∙ w .3 .ensures))
+          (⊎-elim
+          (λ w. turn-expects _ (L .t) (L .o) (L .w) (L .at) _ _ (search needs) (search needs) (c .before .before .line-at .result) (search needs) (c .before .step .result) (search needs) (search needs) _ _ _ (w .1 .given .1) (search needs) (search needs))
+          (λ w. turn-opens _ (L .t) (L .o) (L .w) (L .at) _ _ (search needs) (search needs) (c .before .before .line-at .result) (search needs) (c .before .step .result) (search needs) (search needs) _ _ _ (search needs) (w .1 .given .1) (w .5 ∙ w .3 .ensures) (w .6 ∙ w .4 .ensures))))
+          (c .match .came),
+    )
 
 close-on-requires : tie.Need-close-on-requires Inv-loop μ-loop
 close-on-requires c κs = search (needs, walk-laws, line-steps)
@@ -75,10 +103,16 @@ walk-spec =
     loop-holds
     line-at-requires
     step-requires
+    enum-told
     enum-known-role
+    say-on-requires
+    enum-told-2
+    add-t
+    enum-known-role-2
+    enter-requires
+    open-entry-requires
+    enum-known-role-3
     returns
-    count-on-requires
-    open-on-requires
     add-number
     loop-less
     loop-again
