@@ -1,8 +1,9 @@
 //! Times the functions of the proved library beside Rust's, in one run.
 //!
 //! First each function on several texts of about 30,000 bytes, then each on its own text at several lengths: an even
-//! row says that the time for a byte does not depend on the length.
+//! row says that the time for a byte does not depend on the length. At last Measure, on texts of its own.
 
+mod measure;
 mod reference;
 mod texts;
 mod timing;
@@ -136,4 +137,6 @@ fn main() {
     print_texts();
     println!();
     print_lengths();
+    println!();
+    measure::print();
 }

@@ -120,6 +120,19 @@ pub fn digits(len: usize) -> String {
     format!("{:0>len$}", u64::MAX)
 }
 
+/// The piece again and again between two others; it fits a whole number of times.
+pub fn filled(before: &str, piece: &str, after: &str, len: usize) -> String {
+    let room = len - before.len() - after.len();
+    assert_eq!(room % piece.len(), 0, "{piece:?} fills {room} bytes");
+    format!("{before}{}{after}", piece.repeat(room / piece.len()))
+}
+
+/// Argument lines whose keys are the numbers from 0, in hex.
+pub fn many_keys(before: &str, count: usize) -> String {
+    let lines: String = (0..count).map(|key| format!("\t{key:x}:\n")).collect();
+    before.to_string() + &lines
+}
+
 /// The piece again and again; blanks where a whole one no longer fits.
 fn repeated(piece: &str, len: usize) -> String {
     let text = piece.repeat(len / piece.len());

@@ -98,19 +98,31 @@ fn shrunk(s: &[u8], differs: impl Fn(&[u8]) -> bool) -> Vec<u8> {
 
 /// The functions compared so far.
 #[derive(Default)]
-pub struct Report(Vec<Tally>);
+pub struct Report {
+    tallies: Vec<Tally>,
+    /// Kinds of cases that were too few.
+    scarce: u64,
+}
 
 impl Report {
     /// Prints a function's line.
     pub fn add(&mut self, tally: Tally) {
         tally.print();
-        self.0.push(tally);
+        self.tallies.push(tally);
+    }
+
+    /// Counts a failed case, and says so, if fewer cases of a kind were met than there are to be.
+    pub fn ask_for(&mut self, kind: &str, met: u64, least: u64) {
+        if met < least {
+            println!("too few cases: {met} {kind}, and there are to be {least}");
+            self.scarce += 1;
+        }
     }
 
     /// Prints the last line and gives the exit status.
     pub fn finish(self) -> ExitCode {
-        let passed: u64 = self.0.iter().map(Tally::all_passed).sum();
-        let failed: u64 = self.0.iter().map(|tally| tally.failed).sum();
+        let passed: u64 = self.tallies.iter().map(Tally::all_passed).sum();
+        let failed = self.scarce + self.tallies.iter().map(|tally| tally.failed).sum::<u64>();
         println!("{passed} passed, {failed} failed");
         ExitCode::from(u8::from(failed > 0))
     }

@@ -8,7 +8,7 @@ use crate::report::{Finding, Report, Tally};
 const RANDOM: usize = 1_300_000;
 
 /// The 25 White_Space characters.
-const WHITE_SPACE: &str =
+pub const WHITE_SPACE: &str =
     "\t\n\u{B}\u{C}\r \u{85}\u{A0}\u{1680}\u{2000}\u{2001}\u{2002}\u{2003}\u{2004}\u{2005}\u{2006}\
     \u{2007}\u{2008}\u{2009}\u{200A}\u{2028}\u{2029}\u{202F}\u{205F}\u{3000}";
 

@@ -15,6 +15,15 @@ mod exports {
         pub fn nwscript_u16(s: *const u8, s_len: usize, value: *mut u64) -> bool;
         pub fn nwscript_u8(s: *const u8, s_len: usize, value: *mut u64) -> bool;
         pub fn nwscript_i64(s: *const u8, s_len: usize, value: *mut i64) -> bool;
+        pub fn nwscript_measure(
+            text: *const u8,
+            text_len: usize,
+            line: *mut usize,
+            entries: *mut usize,
+            items: *mut usize,
+            expectations: *mut usize,
+            store: *mut usize,
+        ) -> u64;
     }
 }
 
@@ -79,4 +88,65 @@ pub fn parse_u8(s: &[u8], value: &mut u64) -> bool {
 /// Reads s as an i64.
 pub fn parse_i64(s: &[u8], value: &mut i64) -> bool {
     unsafe { exports::nwscript_i64(s.as_ptr(), s.len(), value) }
+}
+
+/// What a script takes: records of three tables, and bytes of the store.
+#[derive(Debug, Clone, Copy, PartialEq, Eq)]
+pub struct Counts {
+    pub entries: usize,
+    pub items: usize,
+    pub expectations: usize,
+    pub store: usize,
+}
+
+/// What is said of a text: why it is refused and on which line (0 if on none), or what it takes.
+#[derive(Debug, Clone, Copy, PartialEq, Eq)]
+pub enum Measured {
+    Refused { number: u64, line: usize },
+    Read(Counts),
+}
+
+impl Measured {
+    /// The six numbers of `measure_numbers`: those that do not apply are 0.
+    pub fn numbers(self) -> [u64; 6] {
+        match self {
+            Measured::Refused { number, line } => [number, line as u64, 0, 0, 0, 0],
+            Measured::Read(counts) => {
+                let counts = [counts.entries, counts.items, counts.expectations, counts.store];
+                let [entries, items, expectations, store] = counts.map(|count| count as u64);
+                [0, 0, entries, items, expectations, store]
+            }
+        }
+    }
+}
+
+/// Measures a text.
+pub fn measure(text: &[u8]) -> Measured {
+    let (number, [line, entries, items, expectations, store]) = measured(text);
+    match number {
+        0 => Measured::Read(Counts {
+            entries,
+            items,
+            expectations,
+            store,
+        }),
+        _ => Measured::Refused { number, line },
+    }
+}
+
+/// Measures a text: the refusal's number (0 if it is read), its line, entries, items, expectations and store bytes,
+/// each as the library gives it.
+pub fn measure_numbers(text: &[u8]) -> [u64; 6] {
+    let (number, written) = measured(text);
+    let [line, entries, items, expectations, store] = written.map(|written| written as u64);
+    [number, line, entries, items, expectations, store]
+}
+
+fn measured(text: &[u8]) -> (u64, [usize; 5]) {
+    // Values that no answer has: one that is not written is seen.
+    let mut written = [usize::MAX; 5];
+    let [line, entries, items, expectations, store] = &mut written;
+    let number =
+        unsafe { exports::nwscript_measure(text.as_ptr(), text.len(), line, entries, items, expectations, store) };
+    (number, written)
 }
