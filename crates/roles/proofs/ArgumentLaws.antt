@@ -1,17 +1,15 @@
 -- Laws of argument lines for the proofs of code: what a line says, from the signs that were found in it. For `search` to use. Assumes nothing.
 use Prim.Native.Nat.{ℕ, _+_}
-use mathlib.Core.Path.{_≡_, refl, sym, ap, _∙_}
+use mathlib.Core.Path.{_≡_, _∙_}
 use mathlib.Core.Bool.{Bool, true, false}
 use mathlib.Core.List.{List}
-use mathlib.Core.Option.{Option, none, some}
-use Rattle.text.specs.Base.{if_then_else_, _&_, QUOTE}
+use Rattle.text.specs.Base.{QUOTE}
 use Rattle.text.specs.Parts.{span, startsWith, position, foundOf}
 use Rattle.text.specs.declared.parts.Span.{Span}
 use Rattle.text.specs.declared.parts.Found.{Found}
 use Rattle.text.specs.declared.parts.Found.the-variants.{At, Nothing}
 use Rattle.text.proofs.LiteralLaws.{codes}
-use Rattle.script.specs.Answers.{_>>=_}
-use Rattle.script.specs.Pieces.{bytes, behind, begins, trim, cut, cutAt}
+use Rattle.script.specs.Pieces.{bytes, trim, cutAt}
 use Rattle.script.specs.Operations.{keysOf, keyIn}
 use Rattle.script.specs.Expectations.{COLON}
 use Rattle.script.specs.Roles.{pairIn, keyed, keySaying, rawSaying, optionSaying, sayingIn}

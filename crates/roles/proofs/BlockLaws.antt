@@ -2,19 +2,17 @@
 use Prim.Native.Nat.{ℕ}
 use mathlib.Core.Path.{_≡_, refl, sym, ap, _∙_}
 use mathlib.Core.Bool.{Bool, true, false}
-use mathlib.Core.List.{List, [], _∷_}
+use mathlib.Core.List.{List}
 use mathlib.Core.Option.{Option, none, some}
-use types.Run.{OneOf, miss}
-use denote.Enum.Declared.{tagOf}
 use Rattle.text.specs.Base.{if_then_else_}
 use Rattle.text.specs.Parts.{startsWith}
 use Rattle.text.specs.declared.parts.Span.{Span}
 use Rattle.text.proofs.LiteralLaws.{codes}
 use Rattle.script.specs.Answers.{firstOf}
-use Rattle.script.specs.Pieces.{bytes, behind}
+use Rattle.script.specs.Pieces.{bytes}
 use Rattle.script.specs.Operations.{Kind, aNumber, aFlag, aQuoted, aSet, someData, aList, aHex, aVersion, aFeatureSet, aText, keyRow}
 use Rattle.script.specs.Values.{plainRules, framed, inlineOf}
-use Rattle.script.specs.Roles.{step, saysOr, opensList, afterKey, afterSaying, notClosed, refusalIn, refusalOfKind, refusalOf, sayingIn, argumentStep}
+use Rattle.script.specs.Roles.{step, opensList, afterKey, afterSaying, notClosed, refusalIn, refusalOfKind, refusalOf, sayingIn, argumentStep}
 use Rattle.script.specs.declared.roles.Key.{Key}
 use Rattle.script.specs.declared.roles.Takes.{Takes}
 use Rattle.script.specs.declared.roles.Where.{Where}

@@ -1,9 +1,9 @@
 -- Laws of keys: what the code's tests of a name say of the key that the definition finds. For `search` to use. Assumes nothing.
 use Prim.Native.Nat.{ℕ}
-use mathlib.Core.Path.{_≡_, refl, sym, ap, _∙_}
+use mathlib.Core.Path.{_≡_, sym, ap, _∙_}
 use mathlib.Core.Bool.{Bool, true, false}
 use mathlib.Core.List.{List, [], _∷_, _++_}
-use mathlib.Core.Option.{Option, none, some}
+use mathlib.Core.Option.{none, some}
 use Rattle.text.specs.Base.{if_then_else_}
 use Rattle.text.specs.Literal.{spells}
 use Rattle.text.specs.Parts.{sameBytes}

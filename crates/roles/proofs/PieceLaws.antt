@@ -1,15 +1,14 @@
 -- Laws of pieces for the proofs of code that holds spans: what a call on the slice of a piece says of the piece. For `search` to use. Assumes nothing.
-use Prim.Native.Nat.{ℕ, _+_, _-_, _≤_, _<_}
-use mathlib.Core.Path.{_≡_, refl, sym, ap, _∙_}
-use mathlib.Core.Bool.{Bool, true, false}
+use Prim.Native.Nat.{ℕ, _+_, _-_, _≤_}
+use mathlib.Core.Path.{_≡_, sym, _∙_}
+use mathlib.Core.Bool.{Bool, true}
 use mathlib.Core.List.{List, [], _∷_}
 use native.Mathlib.Omega.{arith}
 use lib.Dec.{eqb}
-use lib.ListN.{length, length-drop, length-take, drop}
-use lib.Seq.{length-take-le}
-use Rattle.text.specs.Base.{_&_, part}
+use lib.ListN.{length}
+use Rattle.text.specs.Base.{part}
 use Rattle.text.specs.Trim.{trimPlace}
-use Rattle.text.specs.Parts.{span, startsWith, endsWith, sameBytes}
+use Rattle.text.specs.Parts.{span, startsWith}
 use Rattle.text.specs.declared.parts.Span.{Span}
 use Rattle.text.specs.declared.trim.Place.{Place}
 use Rattle.text.proofs.Scan.{both, never}

@@ -18,7 +18,7 @@ use Rattle.script.specs.declared.roles.Role.the-variants.{Nothing}
 use Rattle.script.specs.declared.roles.Step.{Step}
 use Rattle.script.specs.declared.roles.Takes.{Takes}
 use Rattle.script.specs.declared.roles.Where.{Where}
-use Rattle.script.specs.declared.roles.Where.the-variants.{InPreamble, Outside, InBlock, InEntry}
+use Rattle.script.specs.declared.roles.Where.the-variants.{InEntry}
 use Rattle.roles.specs.StepRead.{frontOf}
 use Rattle.roles.specs.declared.steps.Front.{Front}
 use Rattle.roles.specs.declared.steps.Front.the-variants.{Skipped, Expect, Other}

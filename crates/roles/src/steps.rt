@@ -1,6 +1,5 @@
 // Every line: what it is, and where the next one stands.
 ghost use mathlib.Core.Path.{_≡_};
-ghost use Rattle.text.specs.Parts.{span};
 ghost use Rattle.script.specs.Values.{plainRules};
 ghost use Rattle.script.specs.Roles.{lineSpan, entryStep, blockStep, stepAt, stepOf};
 ghost use Rattle.script.specs.Inside.{In};

@@ -9,12 +9,11 @@ use mathlib.Core.List.{List, [], _∷_}
 use mathlib.Core.Option.{Option, none, some}
 use native.Mathlib.Omega.{arith}
 use native.Mathlib.Nat.{add-sub-cancel-left, sub-self}
-use lib.Dec.{eqb, eqb→eq}
+use lib.Dec.{eqb}
 use lib.ListN.{take, drop}
 use borrow.Author.Tests.{eqb-true}
 use Rattle.text.specs.Base.{if_then_else_, _&_, _or_, BLANK}
 use Rattle.text.specs.Literal.{spells, beginsWith}
-use Rattle.text.specs.Lines.{indented}
 use Rattle.text.specs.Parts.{span, positionFrom, position}
 use Rattle.text.specs.declared.parts.Span.{Span}
 use Rattle.text.specs.declared.lines.Line.{Line}
@@ -28,7 +27,7 @@ use Rattle.script.specs.Operations.{formOf}
 use Rattle.script.specs.Values.{Rules}
 use Rattle.script.specs.Timestamps.{Stamped, stamped}
 use Rattle.script.specs.Expectations.{expectation}
-use Rattle.script.specs.Roles.{step, lineSpan, expecting, expectRole, saying, commentRole, versionRole, protocolRole, wordRole, preambleExpect, preambleRole, preambleStep, setOn, openOn, withName, withStamp, openingRole, afterOpening, skipped, outsideStep, entryStep, argumentLine, sayingIn, refusalOf, saysOr, afterSaying, argumentStep, blockStep, stepAt, stepOf}
+use Rattle.script.specs.Roles.{step, expecting, expectRole, saying, commentRole, versionRole, protocolRole, wordRole, preambleExpect, preambleRole, preambleStep, setOn, openOn, withName, withStamp, openingRole, afterOpening, skipped, outsideStep, entryStep, argumentLine, sayingIn, refusalOf, saysOr, afterSaying, argumentStep, blockStep, stepAt, stepOf}
 use Rattle.script.specs.Roles as Roles
 use Rattle.script.specs.Contents.{expectationOf}
 use Rattle.script.specs.Plain.{PlainLine, expects, opens, other, Standing, above, below, taking, PlainStep, plainly, trimmedLine, inward, expectationLine, plainAbove, takenBy, takenOn, under, plainBelow, hasKey, remaining, plainStep, stated}

@@ -1,12 +1,11 @@
 -- Every text that is read has its tables as the plain judge's lines ask for them. Assumes nothing.
 use mathlib.Core.Path.{_≡_, refl, sym, ap, ap₂, _∙_, subst⁻¹}
-use mathlib.Core.Bool.{Bool, true, false, not, true≢false, false≢true}
-use mathlib.Core.List.{List, [], _∷_, _++_, map, append-assoc}
+use mathlib.Core.Bool.{Bool, true, false, not, false≢true}
+use mathlib.Core.List.{List, [], _∷_, _++_, map}
 use mathlib.Core.Option.{Option, none, some}
-use Prim.Native.Nat.{ℕ, zero, suc, _+_, _≤_}
+use Prim.Native.Nat.{ℕ, suc, _+_, _≤_}
 use native.Mathlib.Omega.{arith}
-use native.Mathlib.Nat.{add-zero, add-suc, suc-add, zero-add}
-use lib.ListN.{length, length-append}
+use lib.ListN.{length}
 use lib.Dec.{eqb, ltb}
 use borrow.Author.Tests.{eq-eqb, ltb-false}
 use Rattle.text.specs.Base.{if_then_else_, LF, CR}
@@ -20,17 +19,16 @@ use Rattle.script.specs.declared.roles.Where.the-variants.{InPreamble}
 use Rattle.script.specs.declared.roles.Role.{Role}
 use Rattle.script.specs.declared.roles.Role.the-variants.{Nothing, Says, Expects, Opens, Bad}
 use Rattle.script.specs.Contents.{ScriptContents, expectationOf, expectations, isOpening, lead, entryOf, entryOn, entries, preambleOf, contents}
-use Rattle.script.specs.Layout.{Reading, Tables, range, listed, laid, tablesFrom, laidPreamble, laidScript}
+use Rattle.script.specs.Layout.{Reading, range, listed, tablesFrom, laidPreamble, laidScript}
 use Rattle.script.specs.Reading.{Parsed, refusedAt, read, refusal, refusedBy, firstRefused, readMarked, readBy, parsedBy}
 use Rattle.script.specs.Plain.{PlainLine, expects, opens, other, Standing, above, plainStep, plainFrom, plainLines, opened, expectationLines, stated, statedOn, leading, rangesFrom}
 use Rattle.script.specs.Bridge.{AsPlain, Few}
 use Rattle.script.specs.Inside.{AllIn}
 use Rattle.script.proofs.Inside.{all-in}
 use Rattle.script.specs.declared.records.Items.{Items}
-use Rattle.script.specs.declared.records.Entry.{Entry}
 use Rattle.script.specs.declared.records.Expectation.{Expectation}
 use Rattle.script.specs.declared.records.Refusal.{Refusal}
-use Rattle.script.proofs.Agreement.{standing, plainOf, isBad, statedIn, Agree, agree}
+use Rattle.script.proofs.Agreement.{standing, plainOf, isBad, statedIn, agree}
 
 zero-one : _≡_ {A = ℕ} 0 1 → ⊥
 zero-one e = omega arith

@@ -1,14 +1,12 @@
 -- The plain judge's expectation lines are exactly the lines of the text that, trimmed, begin with `expect`. Assumes nothing.
-use Prim.Native.Nat.{ℕ, suc}
-use Prim.Native.Char.{code}
-use Prim.Native.String.{String, [] as []ˢ, _∷_ as _∷ˢ_}
+use Prim.Native.Nat.{ℕ}
 use mathlib.Core.Path.{_≡_, refl, sym, ap, _∙_}
-use mathlib.Core.Bool.{Bool, true, false, not, true≢false}
+use mathlib.Core.Bool.{Bool, true, false, not}
 use mathlib.Core.List.{List, [], _∷_}
 use native.Mathlib.Omega.{arith}
 use lib.Dec.{eqb}
 use borrow.Author.Tests.{eqb-true}
-use Rattle.text.specs.Base.{if_then_else_, _&_, _or_}
+use Rattle.text.specs.Base.{if_then_else_, _or_}
 use Rattle.text.specs.Literal.{spells, beginsWith}
 use Rattle.text.specs.Lines.{lines}
 use Rattle.text.specs.declared.parts.Span.{Span}
@@ -16,7 +14,7 @@ use Rattle.text.specs.declared.lines.Line.{Line}
 use Rattle.text.proofs.Scan.{both, never}
 use Rattle.script.specs.Pieces.{bytes, isEmpty, is, begins}
 use Rattle.script.specs.Roles.{argumentLine}
-use Rattle.script.specs.Plain.{PlainLine, expects, opens, other, Standing, above, below, taking, PlainStep, plainly, under, takenOn, remaining, trimmedLine, inward, expectationLine, plainAbove, plainBelow, plainStep, plainFrom, plainLines, expectationLines, beginningLines}
+use Rattle.script.specs.Plain.{PlainLine, expects, opens, other, Standing, above, below, taking, plainly, under, takenOn, remaining, trimmedLine, inward, expectationLine, plainAbove, plainBelow, plainStep, plainFrom, plainLines, expectationLines, beginningLines}
 use Rattle.script.specs.Timestamps.{stamped}
 use Rattle.script.proofs.Agreement.{empty-begins, hash-begins}
 

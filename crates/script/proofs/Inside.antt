@@ -2,7 +2,7 @@
 use Prim.Native.Nat.{ℕ, zero, suc, _+_, _-_, _≤_, _<_}
 use Prim.Native.Char.{code}
 use Prim.Native.String.{String, [] as []ˢ, _∷_ as _∷ˢ_}
-use mathlib.Core.Path.{_≡_, refl, sym, ap, _∙_}
+use mathlib.Core.Path.{_≡_, refl, sym}
 use mathlib.Core.Bool.{Bool, true, false}
 use mathlib.Core.List.{List, [], _∷_, _++_}
 use mathlib.Core.Option.{Option, none, some}
@@ -12,11 +12,10 @@ use lib.IntN.{ℤ}
 use lib.ListN.{length, length-drop, drop}
 use lib.Seq.{length-take-le}
 use borrow.Author.Tests.{ltb-true}
-use Rattle.text.specs.Base.{if_then_else_, _&_, _or_, part, LF, CR}
+use Rattle.text.specs.Base.{if_then_else_, _&_, _or_, LF, CR}
 use Rattle.text.specs.Literal.{beginsWith, wordLength}
 use Rattle.text.specs.Numbers.{signed}
 use Rattle.text.specs.Lines.{linesFrom, lines}
-use Rattle.text.specs.Trim.{trimPlace}
 use Rattle.text.specs.Parts.{span, positionFrom, position}
 use Rattle.text.specs.declared.parts.Span.{Span}
 use Rattle.text.specs.declared.lines.Line.{Line}
@@ -29,11 +28,10 @@ use Rattle.script.specs.Expectations.{COLON, SLASH, numbered, about, pat
 use Rattle.script.specs.Roles.{lineSpan, expecting, expectRole, argumentLine}
 use Rattle.script.specs.Contents.{expectationOf}
 use Rattle.script.specs.Plain.{PlainLine, expects, opens, other, Standing, above, below, taking, PlainStep, trimmedLine, inward, expectationLine, plainAbove, plainBelow, plainStep, plainFrom, plainLines, expectationLines, stated, statedOn}
-use Rattle.script.specs.declared.records.Place.{Place}
 use Rattle.script.specs.declared.records.Matcher.{Matcher}
-use Rattle.script.specs.declared.records.Matcher.the-variants.{Exact, Regex, GreaterThan, LessThan, GreaterOrEqual, LessOrEqual}
+use Rattle.script.specs.declared.records.Matcher.the-variants.{Regex, GreaterThan, LessThan, GreaterOrEqual, LessOrEqual}
 use Rattle.script.specs.declared.records.Expect.{Expect}
-use Rattle.script.specs.declared.records.Expect.the-variants.{Terminal, Result, ResultField, Error, StderrCount, Daemon, Trust, ServerFeatures}
+use Rattle.script.specs.declared.records.Expect.the-variants.{Result, ResultField, Error, StderrCount, Daemon, Trust, ServerFeatures}
 use Rattle.script.specs.declared.records.Expectation.{Expectation}
 use Rattle.script.specs.declared.roles.Role.{Role}
 use Rattle.script.specs.declared.roles.Role.the-variants.{Nothing, Says, Expects, Opens, Bad}

@@ -1,18 +1,17 @@
 -- Every piece is true: what is done to a piece is done to its bytes, and the place that a record keeps of it has its bytes. Assumes nothing.
-use Prim.Native.Nat.{ℕ, zero, suc, _+_, _-_, _≤_, _<_}
-use Prim.Native.String.{String}
-use mathlib.Core.Path.{_≡_, refl, sym, ap, ap₂, _∙_}
-use mathlib.Core.List.{List, [], _∷_, map}
+use Prim.Native.Nat.{ℕ, zero, suc, _+_, _-_, _≤_}
+use mathlib.Core.Path.{_≡_, refl, sym, _∙_}
+use mathlib.Core.List.{List, [], _∷_}
 use native.Mathlib.Omega.{arith}
 use native.Mathlib.Nat.{sub-zero, zero-sub, suc-sub-suc, add-sub-cancel-left}
-use lib.ListN.{length, take, drop}
-use lib.Seq.{take-take, take-nil, drop-nil, drop-drop}
+use lib.ListN.{take, drop}
+use lib.Seq.{take-take, take-nil, drop-drop}
 use Rattle.text.specs.Base.{part}
 use Rattle.text.specs.Trim.{trimmed, trimPlace}
 use Rattle.text.specs.Parts.{span}
 use Rattle.text.specs.declared.parts.Span.{Span}
 use Rattle.text.proofs.TrimLaws.{trim-inside, trimmed-part}
-use Rattle.script.specs.Pieces.{placeOf, place, bytes, trim, inner, Cut, cutAt}
+use Rattle.script.specs.Pieces.{placeOf, place, bytes, trim, inner, cutAt}
 use Rattle.script.specs.Inside.{In}
 use Rattle.script.proofs.Inside.{length-bytes}
 

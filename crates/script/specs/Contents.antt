@@ -6,7 +6,6 @@ use mathlib.Core.List.{List, [], _∷_, _++_}
 use mathlib.Core.Option.{Option, none, some}
 use Rattle.text.specs.Base.{if_then_else_, BLANK}
 use Rattle.text.specs.Numbers.{number}
-use Rattle.text.specs.Parts.{span}
 use Rattle.text.specs.declared.parts.Span.{Span}
 use Rattle.wire.specs.Version.{version, defaultVersion}
 use Rattle.wire.specs.declared.ops.Op.{Op}
@@ -14,11 +13,10 @@ use Rattle.wire.specs.declared.handshake.ProtocolVersion.{ProtocolVersion}
 use Rattle.script.specs.Answers.{Answer, given, refused, _>>=_}
 use Rattle.script.specs.Pieces.{bytes, is, trim, cutOr}
 use Rattle.script.specs.Operations.{sameKey, Shape, singlePath, singleString, pathSet, pathSetFlag, pathSetMode, noArgs, setOptions, collectGarbage, verifyStore, addPermRoot, addSignatures, addTextToStore, addToStore, addMultipleToStore, addBuildLog, registerDrvOutput, queryRealisation, querySubstitutablePathInfo, querySubstitutablePathInfos, rawBytes, formOf}
-use Rattle.script.specs.Values.{Rules, Framed, inline, fileRef, framed}
+use Rattle.script.specs.Values.{Rules, Framed, inline, framed}
 use Rattle.script.specs.Sets as Sets
 use Rattle.script.specs.Roles.{Marked}
 use Rattle.script.specs.declared.records.Stamp.{Stamp}
-use Rattle.script.specs.declared.records.Expect.{Expect}
 use Rattle.script.specs.declared.records.Expectation.{Expectation}
 use Rattle.script.specs.declared.roles.Key.{Key}
 use Rattle.script.specs.declared.roles.Key.the-variants as Key

@@ -1,6 +1,5 @@
 -- Document 01, "The script", and `parse_expect` and `parse_matcher` of the Rust: expectations and their matchers. Assumes nothing.
 use Prim.Native.Nat.{ℕ, _-_}
-use mathlib.Core.Bool.{Bool}
 use mathlib.Core.List.{List, [], _∷_}
 use mathlib.Core.Option.{Option, none, some}
 use lib.Dec.{ltb}
@@ -9,7 +8,7 @@ use Rattle.text.specs.Base.{if_then_else_, _&_}
 use Rattle.text.specs.Numbers.{signed}
 use Rattle.text.specs.declared.parts.Span.{Span}
 use Rattle.script.specs.Answers.{Answer, given, refused, _>>=_, firstOf}
-use Rattle.script.specs.Pieces.{Cut, place, bytes, begins, ends, behind, trim, inner, cut}
+use Rattle.script.specs.Pieces.{place, bytes, begins, ends, behind, trim, inner, cut}
 use Rattle.script.specs.declared.records.Matcher.{Matcher}
 use Rattle.script.specs.declared.records.Matcher.the-variants.{Exact, Regex, GreaterThan, LessThan, GreaterOrEqual, LessOrEqual}
 use Rattle.script.specs.declared.records.Expect.{Expect}

@@ -1,14 +1,13 @@
 -- Document 01, "The script": how what a script holds stands in the lent tables. Order: preamble, then entries; inside each, the field
 -- order. Only lists take items. An empty value, and an empty range, has start 0 and length 0. Assumes nothing.
 use Prim.Native.Nat.{ℕ, zero, suc, _+_}
-use mathlib.Core.Bool.{Bool}
 use mathlib.Core.List.{List, [], _∷_, _++_, map}
 use mathlib.Core.Option.{Option, none, some}
 use lib.ListN.{length}
 use Rattle.text.specs.declared.parts.Span.{Span}
 use Rattle.script.specs.Pieces.{placeOf, place}
 use Rattle.script.specs.Values.{Framed, inline, fileRef}
-use Rattle.script.specs.Contents.{OptionValues, Call, SinglePath, SingleString, PathSet, PathSetFlag, PathSetMode, NoArgs, SetOptions, CollectGarbage, VerifyStore, AddPermRoot, AddSignatures, AddTextToStore, AddToStore, AddMultipleToStore, AddBuildLog, RegisterDrvOutput, QueryRealisation, QuerySubstitutablePathInfo, QuerySubstitutablePathInfos, RawBytes, EntryContents, PreambleContents, ScriptContents, orNone}
+use Rattle.script.specs.Contents.{Call, SinglePath, SingleString, PathSet, PathSetFlag, PathSetMode, NoArgs, SetOptions, CollectGarbage, VerifyStore, AddPermRoot, AddSignatures, AddTextToStore, AddToStore, AddMultipleToStore, AddBuildLog, RegisterDrvOutput, QueryRealisation, QuerySubstitutablePathInfo, QuerySubstitutablePathInfos, RawBytes, EntryContents, PreambleContents, ScriptContents, orNone}
 use Rattle.script.specs.declared.records.Place.{Place}
 use Rattle.script.specs.declared.records.Items.{Items}
 use Rattle.script.specs.declared.records.Maybe.{Maybe}
@@ -18,7 +17,6 @@ use Rattle.script.specs.declared.records.OpCall.{OpCall}
 use Rattle.script.specs.declared.records.Expectation.{Expectation}
 use Rattle.script.specs.declared.records.Entry.{Entry}
 use Rattle.script.specs.declared.records.Preamble.{Preamble}
-use Rattle.script.specs.declared.records.Counts.{Counts}
 use Rattle.script.specs.declared.records.Script.{Script}
 
 -- the range of n records behind those that are there

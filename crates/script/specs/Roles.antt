@@ -1,6 +1,6 @@
 -- Document 01, "The script": what each line of a text is. One line after another, and all that is carried from line to line is where the line stands.
 -- Assumes nothing.
-use Prim.Native.Nat.{ℕ, _+_, _-_}
+use Prim.Native.Nat.{ℕ, _+_}
 use mathlib.Core.Bool.{Bool, true, false, not}
 use mathlib.Core.List.{List, [], _∷_}
 use mathlib.Core.Option.{Option, none, some}
@@ -17,8 +17,8 @@ use Rattle.wire.specs.declared.handshake.ProtocolVersion.{ProtocolVersion}
 use Rattle.script.specs.Answers.{Answer, given, refused, _>>=_, firstOf}
 use Rattle.script.specs.Pieces.{Cut, bytes, isEmpty, is, begins, behind, trim, cut, cutOr}
 use Rattle.script.specs.Operations.{Kind, aNumber, aFlag, aQuoted, aSet, someData, aList, aHex, aVersion, aFeatureSet, aText, keyRow, keysOf, keyIn, Syntax, ignored, oneText, oneSet, pathThenSet, pathThenText, formOf}
-use Rattle.script.specs.Values.{Rules, Framed, framed}
-use Rattle.script.specs.Sets.{PathSet, pathSet}
+use Rattle.script.specs.Values.{Rules, framed}
+use Rattle.script.specs.Sets.{pathSet}
 use Rattle.script.specs.Timestamps.{Stamped, stamped}
 use Rattle.script.specs.Expectations.{COLON, expectation}
 use Rattle.script.specs.declared.records.Stamp.{Stamp}

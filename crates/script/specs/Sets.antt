@@ -1,13 +1,12 @@
 -- Document 01, "The script": path sets and feature sets. Assumes nothing.
 use Prim.Native.Nat.{ℕ}
-use mathlib.Core.Bool.{Bool}
 use mathlib.Core.List.{List, [], _∷_, map}
 use mathlib.Core.Option.{Option, none, some}
 use Rattle.text.specs.Base.{if_then_else_, _&_}
 use Rattle.text.specs.Parts.{span}
 use Rattle.text.specs.declared.parts.Span.{Span}
 use Rattle.script.specs.Answers.{_>>=_}
-use Rattle.script.specs.Pieces.{Cut, isEmpty, begins, ends, behind, trim, inner, cut, split, words}
+use Rattle.script.specs.Pieces.{isEmpty, begins, ends, behind, trim, inner, cut, split, words}
 
 abbrev pub COMMA : ℕ
 COMMA = 0x2C

@@ -1,10 +1,9 @@
 -- Document 01, "Lines and words" and "The script": the values that stand in the store, and data. Assumes nothing.
 use Prim.Native.Nat.{ℕ}
-use mathlib.Core.Bool.{Bool}
 use mathlib.Core.List.{List, [], _∷_}
-use mathlib.Core.Option.{Option, none, some}
+use mathlib.Core.Option.{some}
 use lib.Dec.{eqb}
-use Rattle.text.specs.Base.{if_then_else_, _&_, QUOTE}
+use Rattle.text.specs.Base.{if_then_else_, QUOTE}
 use Rattle.text.specs.Hex.{hexDecoded}
 use Rattle.text.specs.Unquote.{unquoted}
 use Rattle.text.specs.declared.parts.Span.{Span}

@@ -1,6 +1,6 @@
 -- THE THEOREM OF LINES: every line of a well-formed text is well formed. A line is cut off at an LF, which stands inside no character. Assumes nothing.
 use Prim.Native.Nat.{ℕ, zero, suc, _+_, _-_, _≤_, _<_}
-use mathlib.Core.Path.{_≡_, refl, sym, ap, _∙_}
+use mathlib.Core.Path.{_≡_, refl, sym, _∙_}
 use mathlib.Core.Bool.{Bool, true, false}
 use mathlib.Core.List.{List, [], _∷_, _++_}
 use mathlib.Core.Option.{Option, none, some}
@@ -8,16 +8,16 @@ use native.Mathlib.Omega.{arith}
 use native.Mathlib.Nat.{le-refl}
 use native.Mathlib.Numerals.{add-one}
 use lib.Dec.{eqb, leb, ltb}
-use lib.ListN.{length, getD, take, drop, length-drop, take-append-drop}
-use lib.Seq.{take-all, take-suc, getD-drop, split-at, drop-drop}
+use lib.ListN.{length, getD, take, drop, length-drop}
+use lib.Seq.{take-all, getD-drop, split-at, drop-drop}
 use borrow.Author.Tests.{leb-true, ltb-true, ltb-false, eqb-true, eqb-false}
-use Rattle.text.proofs.Scan.{both, never, rest-none, rest-more, within-low}
+use Rattle.text.proofs.Scan.{both, never, rest-none, within-low}
 use Rattle.text.proofs.Utf8Laws.{after-ascii}
 use Rattle.text.proofs.LineLaws.{linesAt, known, lines-none, end-begun, over, at-lf, at-other}
 use Rattle.text.specs.Base.{if_then_else_, _&_, within, part, LF, CR}
 use Rattle.text.specs.Utf8.{Range, Row, table, after, wellFormedFrom, wellFormed}
 use Rattle.text.specs.declared.lines.Line.{Line}
-use Rattle.text.specs.Lines.{line, lineFrom, lineAt, lineBytes, linesFrom, lines}
+use Rattle.text.specs.Lines.{line, lineFrom, lineAt, lineBytes, lines}
 use Rattle.text.specs.LinesWalk.{endAt}
 
 -- ---- a text cut at an ASCII byte

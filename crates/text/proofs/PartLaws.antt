@@ -1,6 +1,6 @@
 -- The laws of the parts between separators that the proofs of callers cite: the parts from a place on are the part there and, where more follow, the
 -- parts from behind its separator. Assumes nothing.
-use Prim.Native.Nat.{ℕ, suc, _+_, _-_, _≤_, _<_}
+use Prim.Native.Nat.{ℕ, _+_, _-_, _≤_, _<_}
 use mathlib.Core.Path.{_≡_, refl, sym, ap, _∙_}
 use mathlib.Core.Bool.{Bool, true, false}
 use mathlib.Core.List.{List, [], _∷_}

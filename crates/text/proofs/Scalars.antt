@@ -1,19 +1,18 @@
 -- A scalar value and its encoding: how the rows of table 3-7 and the encodings of table 3-6 fit together. Assumes nothing.
-use Prim.Native.Nat.{ℕ, zero, suc, _+_, _*_, _/_, _%_, _≤_, _<_}
-use mathlib.Core.Path.{_≡_, refl, sym, ap, _∙_}
+use Prim.Native.Nat.{ℕ, _+_, _*_, _/_, _%_, _≤_, _<_}
+use mathlib.Core.Path.{_≡_, refl, _∙_}
 use mathlib.Core.Bool.{Bool, true, false}
 use mathlib.Core.List.{List, [], _∷_, _++_, reverse}
-use mathlib.Core.Option.{Option, none, some}
-use mathlib.Core.Logic.{_⊎_, inl, inr}
+use mathlib.Core.Option.{none, some}
 use native.Mathlib.Omega.{arith}
-use lib.Dec.{eqb, ltb, leb}
+use lib.Dec.{ltb, leb}
 use lib.ListN.{length, drop}
 use borrow.Author.Tests.{lt-ltb, le-ltb, ltb-true, ltb-false, leb-true, leb-false}
 use Rattle.text.proofs.Scan.{inside, within-true, within-low, within-high}
 use Rattle.text.proofs.Utf8Laws.{after-ascii}
 use Rattle.text.proofs.TrimChars.{off, front-1, back-1, front-2, back-2, front-3, back-3, front-4, back-4}
-use Rattle.text.specs.Base.{if_then_else_, _&_, _or_, within}
-use Rattle.text.specs.Utf8.{Range, _to_, table, after, wellFormedFrom}
+use Rattle.text.specs.Base.{_or_, within}
+use Rattle.text.specs.Utf8.{_to_, table, after, wellFormedFrom}
 use Rattle.text.specs.Unicode.{scalar, encoded, scalarsFrom}
 use Rattle.text.specs.Trim.{whiteBytes, backwards, sizeOf}
 

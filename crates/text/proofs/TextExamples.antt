@@ -1,13 +1,13 @@
 -- Worked examples of UTF-8, trimming, lines, parts and words, computed. Assumes nothing.
 use Prim.Native.Nat.{ℕ, zero, suc, _+_, _-_}
 use mathlib.Core.Path.{_≡_, refl}
-use mathlib.Core.Bool.{Bool, true, false}
+use mathlib.Core.Bool.{true, false}
 use mathlib.Core.List.{List, [], _∷_, _++_}
 use mathlib.Core.Option.{none, some}
 use Rattle.text.specs.Base.{within}
 use Rattle.text.specs.Literal.{utf8}
 use Rattle.text.specs.Utf8.{Range, table, after, wellFormedFrom, wellFormed}
-use Rattle.text.specs.Unicode.{scalar, allScalars, encoded, scalarsFrom, scalars, whiteSpace}
+use Rattle.text.specs.Unicode.{encoded, scalarsFrom, scalars, whiteSpace}
 use Rattle.text.specs.Trim.{whiteBytes, backwards, begins, sizeOf, stripFrom, trimmedFront, trimmedBack, trimmed, trimPlace}
 use Rattle.text.specs.Parts.{startsWith, endsWith, sameBytes, positionFrom, position, pairPositionFrom, pairPosition, span, partOf, splitFrom, split}
 use Rattle.text.specs.Words.{wordsFrom, words}

@@ -1,17 +1,14 @@
 -- A character of well-formed UTF-8 at the front of a text, or at its back: trimming by bytes takes it off just where its code point is White_Space.
 -- Assumes nothing.
-use Prim.Native.Nat.{ℕ, zero, suc, _+_, _-_, _*_, _%_, _≤_, _<_}
-use mathlib.Core.Path.{_≡_, refl, sym, ap, _∙_}
+use Prim.Native.Nat.{ℕ, _+_, _*_, _≤_, _<_}
+use mathlib.Core.Path.{_≡_, refl, sym, _∙_}
 use mathlib.Core.Bool.{Bool, true, false}
 use mathlib.Core.List.{List, [], _∷_}
 use native.Mathlib.Omega.{arith}
-use lib.Dec.{leb}
 use lib.ListN.{take}
-use borrow.Author.Tests.{leb-true}
 use Rattle.text.proofs.Scan.{both, inside, and-true, and-false, within-true, within-low, within-high}
 use Rattle.text.proofs.TrimLaws.{front-ascii, back-ascii}
 use Rattle.text.specs.Base.{if_then_else_, _&_, _or_, within}
-use Rattle.text.specs.Utf8.{Range, _to_}
 use Rattle.text.specs.Unicode.{whiteSpace, oneHas, white}
 use Rattle.text.specs.Trim.{whiteBytes, backwards, begins, sizeOf}
 

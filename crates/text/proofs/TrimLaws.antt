@@ -2,17 +2,17 @@
 use Prim.Native.Nat.{ℕ, zero, suc, _+_, _-_, _≤_, _<_}
 use mathlib.Core.Path.{_≡_, refl, sym, ap, _∙_}
 use mathlib.Core.Bool.{Bool, true, false}
-use mathlib.Core.List.{List, [], _∷_, _++_, reverse, reverse-append, reverse-reverse}
+use mathlib.Core.List.{List, [], _∷_, reverse, reverse-append, reverse-reverse}
 use native.Mathlib.Omega.{arith}
 use native.Mathlib.Nat.{add-zero, sub-zero, sub-self, le-refl}
-use native.Mathlib.Numerals.{add-one, sub-one}
+use native.Mathlib.Numerals.{sub-one}
 use lib.Dec.{eqb, eqb·suc-zero}
 use lib.ListN.{length, length-take, length-drop, length-reverse, getD, take, drop}
 use lib.Seq.{drop-nil, getD-drop, take-suc, take-all, take-length, length-take-le}
-use borrow.Author.Tests.{eq-eqb, ne-eqb, lt-leb}
-use Rattle.text.proofs.Scan.{by-cases, and-true, and-false, rest-more, rest-none, within-low, within-high}
+use borrow.Author.Tests.{lt-leb}
+use Rattle.text.proofs.Scan.{by-cases, and-true, and-false, rest-more, rest-none, within-low}
 use Rattle.text.specs.Base.{if_then_else_, _&_, within, part}
-use Rattle.text.specs.Utf8.{Range, _to_}
+use Rattle.text.specs.Utf8.{Range}
 use Rattle.text.specs.Trim.{whiteBytes, backwards, begins, sizeOf, stripFrom, trimmedFront, trimmedBack, trimmed, trimPlace}
 use Rattle.text.specs.declared.trim.Place.{Place}
 

@@ -1,18 +1,18 @@
 -- THE THEOREM OF TRIMMING: of the encodings of scalar values, and so of any well-formed text, trimming the bytes is trimming the scalar values; so what is
 -- trimmed is well formed again. Assumes nothing.
-use Prim.Native.Nat.{ℕ, _+_, _≤_}
+use Prim.Native.Nat.{ℕ, _≤_}
 use mathlib.Core.Path.{_≡_, refl, sym, ap, _∙_}
 use mathlib.Core.Bool.{Bool, true, false}
 use mathlib.Core.List.{List, [], _∷_, _++_, append-assoc, append-nil, reverse, reverse-append, reverse-reverse}
 use native.Mathlib.Omega.{arith}
-use lib.ListN.{length, length-reverse, drop}
+use lib.ListN.{length, length-reverse}
 use lib.Seq.{drop-append-seam}
 use Rattle.text.proofs.Scan.{both, by-cases}
-use Rattle.text.proofs.Scalars.{Coded, coded}
+use Rattle.text.proofs.Scalars.{coded}
 use Rattle.text.proofs.TrimLaws.{strip-on, strip-done}
 use Rattle.text.proofs.TrimChars.{off}
-use Rattle.text.proofs.Unicode.{encodings-are-well-formed, Decoded, well-formed-are-encodings}
-use Rattle.text.specs.Base.{if_then_else_, _&_}
+use Rattle.text.proofs.Unicode.{encodings-are-well-formed, well-formed-are-encodings}
+use Rattle.text.specs.Base.{if_then_else_}
 use Rattle.text.specs.Utf8.{Range, wellFormed}
 use Rattle.text.specs.Unicode.{scalar, allScalars, encoded, spread, encodedAll, scalars, white}
 use Rattle.text.specs.Trim.{frontTrimmed, scalarsTrimmed, whiteBytes, backwards, sizeOf, stripFrom, trimmedFront, trimmedBack, trimmed}

@@ -3,14 +3,14 @@
 use Prim.Native.Nat.{ℕ, zero, suc, _+_, _-_, _*_, _≤_}
 use mathlib.Core.Path.{_≡_, refl, sym, ap, _∙_}
 use mathlib.Core.Bool.{Bool, true, false}
-use mathlib.Core.List.{List, [], _∷_, _++_, append-assoc}
+use mathlib.Core.List.{List, [], _∷_, _++_}
 use native.Mathlib.Omega.{arith}
 use lib.Dec.{leb}
 use lib.ListN.{length}
 use borrow.Author.Tests.{leb-true, leb-false}
 use Rattle.text.proofs.Scan.{never, both, inside}
-use Rattle.text.proofs.Scalars.{scalar-low, scalar-high, Second3, Second4, Class, one, two, three, four, bad, classify, coded, is-1, is-2, is-3, is-4}
-use Rattle.text.specs.Base.{if_then_else_, _&_, within}
+use Rattle.text.proofs.Scalars.{scalar-low, scalar-high, Second3, Class, one, two, three, four, bad, classify, coded, is-1, is-2, is-3, is-4}
+use Rattle.text.specs.Base.{_&_, within}
 use Rattle.text.specs.Utf8.{wellFormedFrom, wellFormed}
 use Rattle.text.specs.Unicode.{scalar, allScalars, encoded, spread, encodedAll, scalarsFrom, scalars}
 

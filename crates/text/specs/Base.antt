@@ -1,6 +1,6 @@
 -- The words that every definition of this project is written in. A text is the list of its bytes.
 -- Assumes nothing.
-use Prim.Native.Nat.{ℕ, _+_, _-_}
+use Prim.Native.Nat.{ℕ}
 use mathlib.Core.Bool.{Bool, true, false}
 use mathlib.Core.List.{List, _++_}
 use lib.ListN.{length, take, drop}

@@ -4,7 +4,7 @@ use mathlib.Core.Bool.{Bool}
 use mathlib.Core.List.{List, [], _∷_}
 use lib.Dec.{eqb}
 use lib.ListN.{length, drop}
-use Rattle.text.specs.Base.{if_then_else_, _or_, part, TAB, LF, CR}
+use Rattle.text.specs.Base.{if_then_else_, _or_, part, LF, CR}
 use Rattle.text.specs.Literal.{utf8}
 use Rattle.text.specs.Parts.{startsWith}
 use Rattle.text.specs.Trim.{trimmed}

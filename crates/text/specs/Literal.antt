@@ -1,6 +1,6 @@
 -- How words are written down in definitions and worked examples: as quoted text. Assumes nothing.
 use Prim.Native.Nat.{ℕ, suc}
-use Prim.Native.Char.{Char, code}
+use Prim.Native.Char.{code}
 use Prim.Native.String.{String, [] as []ˢ, _∷_ as _∷ˢ_}
 use mathlib.Core.Bool.{Bool, true, false}
 use mathlib.Core.List.{List, [], _∷_, _++_}

@@ -1,6 +1,5 @@
 -- Document 01, "The script": a feature set without braces is split at white space. The words of a text stand between White_Space characters. Assumes nothing.
 use Prim.Native.Nat.{ℕ, zero, suc, _+_, _-_}
-use mathlib.Core.Bool.{Bool}
 use mathlib.Core.List.{List, [], _∷_}
 use lib.Dec.{eqb}
 use lib.ListN.{drop}

@@ -1,6 +1,4 @@
 -- `replay::case_in` is safe and ends. Assumes nothing.
-use Prim.Native.Nat.{_≤_}
-use native.Mathlib.Omega.{arith}
 use lib.Seq.{length-take-le}
 use mathlib.Core.Path.{sym}
 use borrow.Author.Needs.{needs}

@@ -1,5 +1,5 @@
 -- `roles::openings::cut_or` meets its contract. Assumes nothing.
-use Prim.Native.Nat.{ℕ, _+_, _-_}
+use Prim.Native.Nat.{ℕ, _+_}
 use mathlib.Core.Path.{_≡_, sym}
 use mathlib.Core.List.{List}
 use Rattle.text.specs.Parts.{span, position, foundOf}

@@ -1,5 +1,5 @@
 -- `roles::openings::opening_role` meets its contract. Assumes nothing.
-use Prim.Native.Nat.{ℕ, _-_}
+use Prim.Native.Nat.{ℕ}
 use mathlib.Core.Path.{_≡_, _∙_}
 use mathlib.Core.List.{List}
 use Rattle.text.specs.declared.parts.Span.{Span}

@@ -1,10 +1,10 @@
 -- `roles::timestamps::behind_sign` meets its contract. Assumes nothing.
-use Prim.Native.Nat.{ℕ, _+_, _-_, _≤_, _<_}
+use Prim.Native.Nat.{ℕ, _+_, _≤_, _<_}
 use mathlib.Core.Path.{_≡_}
 use mathlib.Core.List.{List}
 use lib.ListN.{length, getD, drop}
 use borrow.Author.Tests.{eq-eqb, ne-eqb}
-use Rattle.text.specs.Base.{_or_, PLUS, MINUS}
+use Rattle.text.specs.Base.{PLUS, MINUS}
 use Rattle.text.proofs.Scan.{rest-more, rest-none}
 use Rattle.script.specs.Timestamps.{unsigned}
 use borrow.Author.Needs.{needs}

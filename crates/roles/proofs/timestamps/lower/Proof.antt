@@ -1,5 +1,5 @@
 -- `roles::timestamps::lower` meets its contract. Assumes nothing.
-use Prim.Native.Nat.{ℕ, _+_, _-_, _≤_, _<_}
+use Prim.Native.Nat.{ℕ, _+_, _≤_, _<_}
 use mathlib.Core.Path.{_≡_}
 use Rattle.text.proofs.Scan.{within-true, within-low, within-high}
 use Rattle.script.specs.Timestamps.{small}

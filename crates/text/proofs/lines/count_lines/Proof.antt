@@ -1,11 +1,11 @@
 -- `text::lines::count_lines` meets its contract. The loop's invariant: the lines counted and those from `at` on are the text's lines.
 -- Assumes nothing.
 use Prim.Native.Nat.{ℕ, _+_, _-_, _≤_, _<_}
-use mathlib.Core.Path.{_≡_, sym, ap, _∙_}
-use mathlib.Core.List.{List, [], _∷_}
+use mathlib.Core.Path.{_≡_, ap}
+use mathlib.Core.List.{List}
 use native.Mathlib.Omega.{arith}
 use native.Mathlib.Nat.{zero-add}
-use lib.ListN.{length, drop}
+use lib.ListN.{length}
 use borrow.Author.Needs.{needs}
 use Rattle.text.specs.declared.lines.Line.{Line}
 use Rattle.text.specs.Lines.{lineAt, lines}

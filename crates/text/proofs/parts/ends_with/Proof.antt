@@ -1,6 +1,6 @@
 -- `text::parts::ends_with` meets its contract. Assumes nothing.
-use Prim.Native.Nat.{ℕ, suc, _-_, _<_}
-use mathlib.Core.Path.{_≡_, refl, sym}
+use Prim.Native.Nat.{ℕ, _-_}
+use mathlib.Core.Path.{_≡_, refl}
 use mathlib.Core.Bool.{false}
 use mathlib.Core.List.{List, [], _∷_}
 use native.Mathlib.Omega.{arith}

@@ -1,15 +1,13 @@
 -- `text::parts::find_pair` meets its contract. The loop's invariant: the search from here answers what the search of the whole answers. Assumes nothing.
-use Prim.Native.Nat.{ℕ, suc, _+_, _-_, _≤_, _<_}
-use mathlib.Core.Path.{_≡_, refl, sym, ap, _∙_}
-use mathlib.Core.Bool.{Bool, true, false}
+use Prim.Native.Nat.{ℕ, _+_, _-_, _≤_, _<_}
+use mathlib.Core.Path.{_≡_, refl, ap, _∙_}
 use mathlib.Core.List.{List, [], _∷_}
 use lib.Dec.{eqb}
 use lib.ListN.{length, getD, drop, length-drop}
 use borrow.Author.Tests.{eq-eqb, ne-eqb}
-use Rattle.text.proofs.Scan.{rest-more, rest-none}
+use Rattle.text.proofs.Scan.{rest-more}
 use mathlib.Core.Option.{Option, none, some}
 use native.Mathlib.Omega.{arith}
-use Rattle.text.specs.Base.{_&_}
 use Rattle.text.specs.Parts.{startsWith, pairPositionFrom, pairPosition, foundOf}
 use Rattle.text.proofs.Scan.{and-false}
 use borrow.Author.Needs.{needs}

@@ -1,10 +1,5 @@
 -- `text::trim::white_at` meets its contract. Assumes nothing.
 use borrow.Author.Needs.{needs}
-use mathlib.Core.Path.{_≡_, refl}
-use mathlib.Core.Bool.{Bool, true, false}
-use mathlib.Core.List.{List, [], _∷_}
-use Prim.Native.Nat.{ℕ}
-use Rattle.text.proofs.Scan.{flag}
 use Rattle.text.proofs.TrimLaws.{place-steps}
 use Rattle.text.proofs.trim.white_at.Statement.{statement}
 use Rattle.text.proofs.trim.white_at.Tie as tie

@@ -1,22 +1,19 @@
 -- `text::utf8::well_formed` meets its contract. The loop's invariant: the walk from here, with what is due, says what the walk of the whole text says.
 -- Assumes nothing.
 use Prim.Native.Nat.{ℕ, zero, suc, _+_, _-_, _≤_, _<_}
-use mathlib.Core.Path.{_≡_, refl, sym, ap, _∙_}
+use mathlib.Core.Path.{_≡_, refl, sym, _∙_}
 use mathlib.Core.Bool.{Bool, true, false}
 use mathlib.Core.List.{List, [], _∷_}
-use mathlib.Core.Option.{Option, none, some}
-use native.Mathlib.Omega.{arith}
 use native.Mathlib.Numerals.{sub-one}
 use lib.Dec.{eqb, eqb·suc-zero}
 use lib.ListN.{length, getD, drop}
 use borrow.Author.Needs.{needs}
-use borrow.Author.Tests.{eq-eqb, ne-eqb}
 use Rattle.text.specs.Base.{within}
 use Rattle.text.proofs.Scan.{rest-more, rest-none, flag}
 use Rattle.text.proofs.Utf8Laws.{ascii-on}
 use Rattle.text.specs.declared.utf8.Lead.{Lead}
 use Rattle.text.specs.declared.utf8.Lead.the-variants.{Bad, Due}
-use Rattle.text.specs.Utf8.{Range, _to_, table, after, wellFormedFrom, wellFormed}
+use Rattle.text.specs.Utf8.{_to_, table, after, wellFormedFrom, wellFormed}
 use Rattle.text.specs.Utf8Walk.{ranges, dueOf}
 use Rattle.text.proofs.utf8.well_formed.Statement.{statement}
 use Rattle.text.proofs.utf8.well_formed.Tie as tie

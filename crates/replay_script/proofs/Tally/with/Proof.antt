@@ -1,0 +1,78 @@
+-- `replay_script::Tally::with` meets its contract. Assumes nothing.
+use Prim.Native.Nat.{_+_}
+use mathlib.Core.Path.{_≡_}
+use Rattle.replay_script.specs.declared.Tally.{Tally}
+use Rattle.replay_script.specs.declared.Case.{Case}
+use Rattle.replay_script.specs.declared.Case.the-variants.{Read, Refused, Wrong, Nothing}
+use Rattle.replay_script.specs.Tallies.{tally, counted}
+use borrow.Author.Needs.{needs}
+use Rattle.replay_script.proofs.Tally.with.Statement.{statement}
+use Rattle.replay_script.proofs.Tally.with.Tie as tie
+
+module _ (t : Tally) (c : Case) where
+  one-read : c ≡ Read → tally (t .read + 1) (t .refused) (t .wrong) ≡ counted t c
+  unfolding counted
+  one-read e = rw e
+
+  one-refused : c ≡ Refused → tally (t .read) (t .refused + 1) (t .wrong) ≡ counted t c
+  unfolding counted
+  one-refused e = rw e
+
+  one-wrong : c ≡ Wrong → tally (t .read) (t .refused) (t .wrong + 1) ≡ counted t c
+  unfolding counted
+  one-wrong e = rw e
+
+  none : c ≡ Nothing → t ≡ counted t c
+  unfolding counted
+  none e = rw e
+
+ruleset counting = (one-read, one-refused, one-wrong, none)
+
+enum-told : tie.Need-enum-told
+enum-told c = search needs
+
+add-t4 : tie.Need-add-t4
+add-t4 c = search needs
+
+enum-told-2 : tie.Need-enum-told-2
+enum-told-2 c = search needs
+
+add-t7 : tie.Need-add-t7
+add-t7 c = search needs
+
+enum-told-3 : tie.Need-enum-told-3
+enum-told-3 c = search needs
+
+add-t10 : tie.Need-add-t10
+add-t10 c = search needs
+
+enum-told-4 : tie.Need-enum-told-4
+enum-told-4 c = search needs
+
+returns : tie.Need-returns
+returns c = search (needs, counting)
+
+returns-2 : tie.Need-returns-2
+returns-2 c = search (needs, counting)
+
+returns-3 : tie.Need-returns-3
+returns-3 c = search (needs, counting)
+
+returns-4 : tie.Need-returns-4
+returns-4 c = search (needs, counting)
+
+pub with-spec : {M : Type 1} → statement M
+with-spec =
+    tie.close
+    (tie.spec
+    enum-told
+    add-t4
+    enum-told-2
+    add-t7
+    enum-told-3
+    add-t10
+    enum-told-4
+    returns
+    returns-2
+    returns-3
+    returns-4)
