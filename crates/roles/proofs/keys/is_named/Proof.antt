@@ -1,0 +1,87 @@
+-- `roles::keys::is_named` meets its contract: the letters compared with are those of the name. Assumes nothing.
+use Prim.Native.Nat.{ℕ, _+_, _-_, _≤_, _<_}
+use mathlib.Core.Path.{_≡_}
+use mathlib.Core.Bool.{Bool}
+use mathlib.Core.List.{List}
+use native.Mathlib.Omega.{arith}
+use lib.ListN.{getD, length}
+use Rattle.text.specs.Base.{part}
+use Rattle.text.specs.Parts.{sameBytes}
+use Rattle.roles.specs.KeyTables.{argumentKeys, numbered, nameOf, letters, Starts}
+use borrow.Author.Needs.{needs}
+use Rattle.roles.proofs.keys.is_named.Statement.{statement}
+use Rattle.roles.proofs.keys.is_named.Tie as tie
+
+module _ (n : ℕ) (small : n < 27) (table : List ℕ) (t : Starts table) where
+  forward : getD table n 0 ≤ getD table (n + 1) 0
+  forward = t .rule n small .forward
+
+  inside : (names : List ℕ) → length names ≡ 257 → getD table (n + 1) 0 ≤ length names
+  inside names l = rw l (t .rule n small .inside)
+
+  compared : (names s : List ℕ) (r : Bool) → names ≡ letters argumentKeys
+      → r ≡ sameBytes s (part names (getD table n 0) (getD table (n + 1) 0 - getD table n 0)) → r ≡ sameBytes s (nameOf (numbered n))
+  compared names s r l e = rw (l, t .rule n small .bytes) at e
+
+ruleset places = (forward, inside, compared)
+
+starts-requires : tie.Need-starts-requires
+starts-requires c κs = search needs
+
+mul-start : tie.Need-mul-start
+mul-start c = search needs
+
+array-read-start : tie.Need-array-read-start
+array-read-start c = search needs
+
+cast-start : tie.Need-cast-start
+cast-start c = search needs
+
+add-end : tie.Need-add-end
+add-end c = search needs
+
+mul-end : tie.Need-mul-end
+mul-end c = search needs
+
+array-read-end : tie.Need-array-read-end
+array-read-end c = search needs
+
+cast-end : tie.Need-cast-end
+cast-end c = search needs
+
+names-requires : tie.Need-names-requires
+names-requires c κs = search needs
+
+sub-is-word : tie.Need-sub-is-word
+sub-is-word c = search (needs, places)
+
+part-is-word-start : tie.Need-part-is-word-start
+part-is-word-start c = search (needs, places)
+
+part-is-word-end : tie.Need-part-is-word-end
+part-is-word-end c = search (needs, places)
+
+is-word-requires : tie.Need-is-word-requires
+is-word-requires c κs = search needs
+
+returns : tie.Need-returns
+returns c = search (needs, places)
+
+pub is-named-spec : {M : Type 1} → statement M
+is-named-spec =
+    tie.close
+    (tie.spec
+    starts-requires
+    mul-start
+    array-read-start
+    cast-start
+    add-end
+    mul-end
+    array-read-end
+    cast-end
+    names-requires
+    sub-is-word
+    part-is-word-start
+    part-is-word-end
+    is-word-requires
+    returns)
