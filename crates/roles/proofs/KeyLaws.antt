@@ -1,5 +1,4 @@
--- Laws of keys: what all keys of a list pass, the one that is found passes; and the tables' rules, each from one test that antt computes.
--- Assumes nothing.
+-- Laws of keys: each table's rule, from one test that antt computes over all keys. Assumes nothing.
 use Prim.Native.Nat.{ℕ, zero, suc, _+_, _-_, _<_}
 use mathlib.Core.Path.{_≡_, refl, sym, ap, _∙_}
 use mathlib.Core.Bool.{Bool, true, false}
@@ -20,7 +19,7 @@ use Rattle.script.specs.declared.roles.Takes.{Takes}
 use Rattle.script.specs.declared.roles.Takes.the-variants.{NoLines, Options, Garbage, Verify, Texts, Store, Multiple, FirstData, FirstRaw}
 use Rattle.script.specs.declared.roles.Key.{Key}
 use Rattle.script.specs.declared.roles.Key.the-variants as Key
-use Rattle.roles.specs.KeyTables.{argumentKeys, first, numbered, nameOf, letters, Spelt, Starts, nameSum, Meant, Hints}
+use Rattle.roles.specs.KeyTables.{argumentKeys, keyAt, nameAt, letters, Spelt, Starts, nameSum, Meant, Hints}
 
 -- ---- one test for all
 
@@ -33,7 +32,7 @@ every-at test [] d t i h = absurd (not-suc-le-zero h)
 every-at test (x ∷ xs) d t zero h = both (test x) (every test xs) t .0
 every-at test (x ∷ xs) d t (suc i) h = every-at test xs d (both (test x) (every test xs) t .1) i (omega arith)
 
--- for every way to take lines
+-- whatever lines an operation takes
 abbrev everywhere : List Takes
 everywhere = NoLines ∷ Options ∷ Garbage ∷ Verify ∷ Texts ∷ Store ∷ Multiple ∷ FirstData ∷ FirstRaw ∷ []
 
@@ -48,12 +47,12 @@ anywhere test t Multiple = every-at test everywhere NoLines t 6 (omega arith)
 anywhere test t FirstData = every-at test everywhere NoLines t 7 (omega arith)
 anywhere test t FirstRaw = every-at test everywhere NoLines t 8 (omega arith)
 
--- for every number below n
+-- at every place below n
 abbrev pub below : (ℕ → Bool) → ℕ → Bool
 below test zero = true
 below test (suc n) = test n & below test n
 
-pub each-below : (test : ℕ → Bool) (n : ℕ) → below test n ≡ true → (i : ℕ) → i < n → test i ≡ true
+each-below : (test : ℕ → Bool) (n : ℕ) → below test n ≡ true → (i : ℕ) → i < n → test i ≡ true
 each-below test zero t i h = absurd (not-suc-le-zero h)
 each-below test (suc n) t i h = let p = both (test n) (below test n) t in go (eqb i n) refl (p .0) (each-below test n (p .1) i)
   where
@@ -63,42 +62,34 @@ each-below test (suc n) t i h = let p = both (test n) (below test n) t in go (eq
 
 -- ---- the key that is found
 
--- the first that passes a test passes it, and passes what all pass
-passes : (test also : Key → Bool) (ks : List Key) (k : Key) → first test ks ≡ some k → every also ks ≡ true → (test k ≡ true) × (also k ≡ true)
-unfolding first
-passes test also [] k e t = let z : _≡_ {A = ℕ} 0 1 = cc in absurd (omega arith)
-passes test also (j ∷ ks) k e t =
-    let all = both (also j) (every also ks) t in
-    go (test j) refl e (all .0) (λ f. passes test also ks k f (all .1))
-  where
-    go : (b : Bool) → test j ≡ b → (if b then some j else first test ks) ≡ some k → also j ≡ true
-        → (first test ks ≡ some k → (test k ≡ true) × (also k ≡ true)) → (test k ≡ true) × (also k ≡ true)
-    go true b f a later = let q : j ≡ k = cc in (sym (ap test q) ∙ b, sym (ap also q) ∙ a)
-    go false b f a later = later f
-
-named-first : (ks : List Key) (s : List ℕ) → keyIn ks s ≡ first (λ k. sameBytes s (codes (keyRow k .name))) ks
-unfolding keyIn first
-named-first [] s = refl
-named-first (k ∷ ks) s = rw (spells-as (keyRow k .name) s, named-first ks s)
-
 -- the same bytes are equal
-pub equal : (a b : List ℕ) → sameBytes a b ≡ true → a ≡ b
+equal : (a b : List ℕ) → sameBytes a b ≡ true → a ≡ b
 unfolding sameBytes
 equal [] [] e = refl
 equal [] (y ∷ b) e = never (sym e)
 equal (x ∷ a) [] e = never (sym e)
 equal (x ∷ a) (y ∷ b) e = let p = both (eqb x y) (sameBytes a b) e in let q = eqb-true x y (p .0) in let r = equal a b (p .1) in cc
 
+-- a key that is found has the name, and passes what all pass
+found : (s : List ℕ) (also : Key → Bool) (ks : List Key) (k : Key) → keyIn ks s ≡ some k → every also ks ≡ true → (s ≡ codes (keyRow k .name)) × (also k ≡ true)
+unfolding keyIn
+found s also [] k e t = let z : _≡_ {A = ℕ} 0 1 = cc in absurd (omega arith)
+found s also (j ∷ ks) k e t =
+    let all = both (also j) (every also ks) t in
+    go (spells (keyRow j .name) s) (sym (spells-as (keyRow j .name) s)) e (all .0) (λ f. found s also ks k f (all .1))
+  where
+    go : (b : Bool) → sameBytes s (codes (keyRow j .name)) ≡ b → (if b then some j else keyIn ks s) ≡ some k → also j ≡ true
+        → (keyIn ks s ≡ some k → (s ≡ codes (keyRow k .name)) × (also k ≡ true)) → (s ≡ codes (keyRow k .name)) × (also k ≡ true)
+    go true b f a later = let q : j ≡ k = cc in (equal s (codes (keyRow j .name)) b ∙ ap (λ (i : Key). codes (keyRow i .name)) q, sym (ap also q) ∙ a)
+    go false b f a later = later f
+
 -- ---- a number tells a key from all others
 
-abbrev keys : List Key
-keys =
-    Key.KeepFailed ∷ Key.KeepGoing ∷ Key.TryFallback ∷ Key.Verbosity ∷ Key.MaxBuildJobs ∷ Key.MaxSilentTime ∷ Key.UseBuildHook ∷ Key.VerboseBuild ∷ Key.LogType
-    ∷ Key.PrintBuildTrace ∷ Key.BuildCores ∷ Key.UseSubstitutes ∷ Key.Overrides ∷ Key.Action ∷ Key.Paths ∷ Key.IgnoreLiveness ∷ Key.MaxFreed
-    ∷ Key.CheckContents ∷ Key.Repair ∷ Key.Suffix ∷ Key.Text ∷ Key.Refs ∷ Key.Name ∷ Key.CamStr ∷ Key.Data ∷ Key.DontCheckSigs ∷ Key.Protocol
-    ∷ Key.Features ∷ Key.DaemonVersion ∷ Key.TrustStatus ∷ Key.ServerFeatures ∷ Key.Raw ∷ []
+abbrev byNumber : List Key
+byNumber =
+    Key.KeepFailed ∷ Key.KeepGoing ∷ Key.TryFallback ∷ Key.Verbosity ∷ Key.MaxBuildJobs ∷ Key.MaxSilentTime ∷ Key.UseBuildHook ∷ Key.VerboseBuild ∷ Key.LogType ∷ Key.PrintBuildTrace ∷ Key.BuildCores ∷ Key.UseSubstitutes ∷ Key.Overrides ∷ Key.Action ∷ Key.Paths ∷ Key.IgnoreLiveness ∷ Key.MaxFreed ∷ Key.CheckContents ∷ Key.Repair ∷ Key.Suffix ∷ Key.Text ∷ Key.Refs ∷ Key.Name ∷ Key.CamStr ∷ Key.Data ∷ Key.DontCheckSigs ∷ Key.Protocol ∷ Key.Features ∷ Key.DaemonVersion ∷ Key.TrustStatus ∷ Key.ServerFeatures ∷ Key.Raw ∷ []
 
-number-key : (k : Key) → getD keys (keyRow k .number - 1) Key.Raw ≡ k
+number-key : (k : Key) → getD byNumber (keyRow k .number - 1) Key.Raw ≡ k
 unfolding keyRow
 number-key Key.KeepFailed = refl
 number-key Key.KeepGoing = refl
@@ -126,37 +117,28 @@ number-key Key.Name = refl
 number-key Key.CamStr = refl
 number-key Key.Data = refl
 number-key Key.DontCheckSigs = refl
-number-key Key.Raw = refl
 number-key Key.Protocol = refl
 number-key Key.Features = refl
 number-key Key.DaemonVersion = refl
 number-key Key.TrustStatus = refl
 number-key Key.ServerFeatures = refl
+number-key Key.Raw = refl
 
 same-key : (j k : Key) → sameKey j k ≡ true → j ≡ k
 unfolding sameKey
 same-key j k e =
     let n = eqb-true (keyRow j .number) (keyRow k .number) e in
-    sym (number-key j) ∙ ap (λ (i : ℕ). getD keys (i - 1) Key.Raw) n ∙ number-key k
-
--- ---- the table of hints
-
--- nothing is found; the key is found
-abbrev nothing : Option Key → Bool
-nothing none = true
-nothing (some k) = false
+    sym (number-key j) ∙ ap (λ (i : ℕ). getD byNumber (i - 1) Key.Raw) n ∙ number-key k
 
 abbrev finds : Key → Option Key → Bool
 finds k none = false
 finds k (some j) = sameKey j k
 
-is-nothing : (x : Option Key) → nothing x ≡ true → none ≡ x
-is-nothing none t = refl
-is-nothing (some k) t = never (sym t)
-
 is-found : (k : Key) (x : Option Key) → finds k x ≡ true → some k ≡ x
 is-found k none t = never (sym t)
 is-found k (some j) t = ap some (sym (same-key j k t))
+
+-- ---- the table of hints
 
 module _ (table : List ℕ) (takes : Takes) where
   abbrev hint : List ℕ → ℕ
@@ -164,77 +146,65 @@ module _ (table : List ℕ) (takes : Takes) where
 
   -- the hint of a name of the operation leads to that name
   unfoldable pub led : Key → Bool
-  led k = sameBytes (codes (keyRow k .name)) (nameOf (numbered (hint (codes (keyRow k .name)))))
+  led k = sameBytes (codes (keyRow k .name)) (nameAt (hint (codes (keyRow k .name))))
 
-  -- and a hint that leads to a name leads to a key of the operation
-  unfoldable pub own : Key → Bool
-  own k = if eqb (hint (codes (keyRow k .name))) (keyRow k .number) then finds k (keyIn (keysOf takes) (codes (keyRow k .name))) else true
+  -- and a key that the hint of its name leads to is the operation's
+  unfoldable pub own : ℕ → Bool
+  own n = if eqb (hint (nameAt n)) n then finds (keyAt n) (keyIn (keysOf takes) (nameAt n)) else true
 
   unfoldable pub told : Bool
-  told = nothing (keyIn (keysOf takes) []) & every led (keysOf takes) & every own argumentKeys
+  told = every led (keysOf takes) & below own 26
 
-module _ (table : List ℕ) (takes : Takes) (t : told table takes ≡ true) (s : List ℕ) where
-  abbrev n : ℕ
-  n = hint table takes s
+  module _ (t : told ≡ true) (s : List ℕ) (small : hint s < 26) where
+    tests : (every led (keysOf takes) ≡ true) × (below own 26 ≡ true)
+    unfolding told
+    tests = both (every led (keysOf takes)) (below own 26) t
 
-  tests : (nothing (keyIn (keysOf takes) []) ≡ true) × (every (led table takes) (keysOf takes) ≡ true) × (every (own table takes) argumentKeys ≡ true)
-  unfolding told
-  tests =
-      let a = both (nothing (keyIn (keysOf takes) [])) (every (led table takes) (keysOf takes) & every (own table takes) argumentKeys) t in
-      let b = both (every (led table takes) (keysOf takes)) (every (own table takes) argumentKeys) (a .1) in
-      (a .0, b .0, b .1)
+    -- a key that is found has the name that is hinted
+    led-to : (k : Key) → keyIn (keysOf takes) s ≡ some k → sameBytes s (nameAt (hint s)) ≡ true
+    unfolding led
+    led-to k e = let p = found s led (keysOf takes) k e (tests .0) in rw (p .0) (p .1)
 
-  -- a key that is found has the number that is hinted
-  led-to : (k : Key) → keyIn (keysOf takes) s ≡ some k → sameBytes s (nameOf (numbered n)) ≡ true
-  unfolding led
-  led-to k e =
-      let p = passes _ (led table takes) (keysOf takes) k (sym (named-first (keysOf takes) s) ∙ e) (tests .1) in
-      rw (equal s (codes (keyRow k .name)) (p .0)) (p .1)
+    -- a key that is hinted and has the name is found
+    owned : s ≡ nameAt (hint s) → some (keyAt (hint s)) ≡ keyIn (keysOf takes) s
+    unfolding own
+    owned w =
+        let o = each-below own 26 (tests .1) (hint s) small in
+        let same : hint (nameAt (hint s)) ≡ hint s = ap hint (sym w) in
+        is-found (keyAt (hint s)) _ (rw (eq-eqb _ _ same) at o) ∙ ap (keyIn (keysOf takes)) (sym w)
 
-  -- a key whose number is hinted and whose name it is is found
-  owned : (k : Key) → numbered n ≡ some k → s ≡ codes (keyRow k .name) → some k ≡ keyIn (keysOf takes) s
-  unfolding numbered own
-  owned k e w =
-      let p = passes _ (own table takes) argumentKeys k e (tests .2) in
-      let same : hint table takes (codes (keyRow k .name)) ≡ keyRow k .number = ap (hint table takes) (sym w) ∙ eqb-true n (keyRow k .number) (p .0) in
-      rw w (is-found k _ (rw (eq-eqb _ _ same) at p .1))
+    only : (if sameBytes s (nameAt (hint s)) then some (keyAt (hint s)) else none) ≡ keyIn (keysOf takes) s
+    only = go (sameBytes s (nameAt (hint s))) refl
+      where
+        absent : (x : Option Key) → keyIn (keysOf takes) s ≡ x → sameBytes s (nameAt (hint s)) ≡ false → none ≡ x
+        absent none e f = refl
+        absent (some k) e f = never (sym (led-to k e) ∙ f)
 
-  only : (if sameBytes s (nameOf (numbered n)) then numbered n else none) ≡ keyIn (keysOf takes) s
-  unfolding nameOf
-  only = go (sameBytes s (nameOf (numbered n))) refl
-    where
-      absent : (x : Option Key) → keyIn (keysOf takes) s ≡ x → sameBytes s (nameOf (numbered n)) ≡ false → none ≡ x
-      absent none e f = refl
-      absent (some k) e f = never (sym (led-to k e) ∙ f)
-
-      present : (x : Option Key) → numbered n ≡ x → s ≡ nameOf x → x ≡ keyIn (keysOf takes) s
-      present none e w = rw w (is-nothing _ (tests .0))
-      present (some k) e w = owned k e w
-
-      go : (b : Bool) → sameBytes s (nameOf (numbered n)) ≡ b → (if b then numbered n else none) ≡ keyIn (keysOf takes) s
-      go true e = present (numbered n) refl (equal s (nameOf (numbered n)) e)
-      go false e = absent (keyIn (keysOf takes) s) refl e
+        go : (b : Bool) → sameBytes s (nameAt (hint s)) ≡ b → (if b then some (keyAt (hint s)) else none) ≡ keyIn (keysOf takes) s
+        go true e = owned (equal s (nameAt (hint s)) e)
+        go false e = absent (keyIn (keysOf takes) s) refl e
 
 -- the test of the table, and what it says
 unfoldable pub hinted : List ℕ → Bool
-hinted table = every (told table) everywhere & below (λ i. ltb (getD table i 0) 27) 36
+hinted table = every (told table) everywhere & below (λ i. ltb (getD table i 0) 26) 36
 
 pub hints-right : (table : List ℕ) → hinted table ≡ true → Hints table
 unfolding hinted
-hints-right table t =
-    let p = both (every (told table) everywhere) (below (λ i. ltb (getD table i 0) 27) 36) t in
-    record {
-      rule = λ takes s.
-          record {
-            small = ltb-true _ 27 (each-below (λ i. ltb (getD table i 0) 27) 36 (p .1) (nameSum takes s) (mod-lt _ (omega arith)));
-            only = only table takes (anywhere (told table) (p .0) takes) s;
-          };
-    }
+hints-right table t = record { rule = λ takes s. meant takes s (small takes s) }
+  where
+    tests : (every (told table) everywhere ≡ true) × (below (λ i. ltb (getD table i 0) 26) 36 ≡ true)
+    tests = both (every (told table) everywhere) (below (λ i. ltb (getD table i 0) 26) 36) t
+
+    small : (takes : Takes) (s : List ℕ) → hint table takes s < 26
+    small takes s = ltb-true _ 26 (each-below (λ i. ltb (getD table i 0) 26) 36 (tests .1) (nameSum takes s) (mod-lt _ (omega arith)))
+
+    meant : (takes : Takes) (s : List ℕ) → hint table takes s < 26 → Meant takes s (hint table takes s)
+    meant takes s h = record { small = h; only = only table takes (anywhere (told table) (tests .0) takes) s h }
 
 -- ---- the table of places
 
 unfoldable pub spelt : (n start end : ℕ) → Bool
-spelt n start end = leb start end & leb end 257 & sameBytes (part (letters argumentKeys) start (end - start)) (nameOf (numbered n))
+spelt n start end = leb start end & leb end 257 & sameBytes (part (letters argumentKeys) start (end - start)) (nameAt n)
 
 is-spelt : (n start end : ℕ) → spelt n start end ≡ true → Spelt n start end
 unfolding spelt
@@ -246,6 +216,6 @@ is-spelt n start end t =
 unfoldable pub placed : List ℕ → ℕ → Bool
 placed table n = spelt n (getD table n 0) (getD table (n + 1) 0)
 
-pub starts-right : (table : List ℕ) → below (placed table) 27 ≡ true → Starts table
+pub starts-right : (table : List ℕ) → below (placed table) 26 ≡ true → Starts table
 unfolding placed
-starts-right table t = record { rule = λ n h. is-spelt n _ _ (each-below (placed table) 27 t n h) }
+starts-right table t = record { rule = λ n h. is-spelt n _ _ (each-below (placed table) 26 t n h) }

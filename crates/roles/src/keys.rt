@@ -6,7 +6,7 @@ ghost use Rattle.script.specs.Pieces.{bytes};
 ghost use Rattle.script.specs.Operations.{keysOf, keyIn};
 ghost use Rattle.script.specs.Inside.{In};
 ghost use Rattle.roles.specs.KeyRead.{keyOf};
-ghost use Rattle.roles.specs.KeyTables.{argumentKeys, numbered, nameOf, letters, Starts, shiftOf, Meant, Hints};
+ghost use Rattle.roles.specs.KeyTables.{argumentKeys, keyAt, nameAt, letters, Starts, shiftOf, Meant, Hints};
 use script::roles::Key;
 use script::roles::Takes;
 use text::parts::Span;
@@ -17,7 +17,7 @@ pub enum KeyFound {
     Unknown,
 }
 
-// The names, one behind the other, by rising number.
+// The names of the 26 keys, one behind the other.
 const NAMES: [u8; 257] = *b"\
     keep_failed\
     keep_going\
@@ -46,9 +46,8 @@ const NAMES: [u8; 257] = *b"\
     data\
     dont_check_sigs";
 
-// By number, where the name begins in NAMES. It ends where that of the next number begins: 0 is no key's, and has none.
-const STARTS: [u16; 28] = [
-    0,
+// By the key's place among the 26, where its name begins in NAMES. It ends where that of the next begins.
+const STARTS: [u16; 27] = [
     0, // keep_failed
     11, // keep_going
     21, // try_fallback
@@ -78,44 +77,44 @@ const STARTS: [u16; 28] = [
     257,
 ];
 
-// By the sum of `key_hint`, the number of the only key that comes to it, or 0. A key of several operations may stand here several times.
+// By the sum of `key_hint`, the place of the only key that comes to it. Where none does, any stands.
 const HINTS: [u8; 36] = [
+    25, // dont_check_sigs
+    24, // data
     0,
-    22, // refs
+    1, // keep_going
+    0, // keep_failed
+    6, // use_build_hook
+    11, // use_substitutes
+    3, // verbosity
+    8, // log_type
+    9, // print_build_trace
     0,
-    2, // keep_going
-    1, // keep_failed
-    7, // use_build_hook
-    12, // use_substitutes
-    4, // verbosity
-    9, // log_type
-    10, // print_build_trace
-    20, // suffix
-    8, // verbose_build
-    17, // max_freed
-    11, // build_cores
+    7, // verbose_build
+    15, // ignore_liveness
+    10, // build_cores
+    21, // refs
+    14, // paths
+    24, // data
+    18, // repair
     0,
-    21, // text
-    19, // repair
-    22, // refs
+    13, // action
+    18, // repair
+    4, // max_build_jobs
+    5, // max_silent_time
+    19, // suffix
     0,
-    19, // repair
-    19, // repair
-    5, // max_build_jobs
-    6, // max_silent_time
-    24, // cam_str
-    25, // data
-    23, // name
-    16, // ignore_liveness
-    25, // data
+    24, // data
     0,
-    15, // paths
-    13, // overrides
-    18, // check_contents
-    3, // try_fallback
-    14, // action
-    25, // data
-    26, // dont_check_sigs
+    21, // refs
+    20, // text
+    18, // repair
+    12, // overrides
+    17, // check_contents
+    2, // try_fallback
+    23, // cam_str
+    16, // max_freed
+    22, // name
 ];
 
 // The tables, each tested here, once for all who use it.
@@ -125,7 +124,7 @@ fn names() -> [u8; 257]
     NAMES
 }
 
-fn starts() -> [u16; 28]
+fn starts() -> [u16; 27]
     ensures { λ r. ⌜ Starts r ⌝ }
 {
     STARTS
@@ -145,17 +144,17 @@ fn shift(takes: Takes) -> usize
     match takes {
         Takes::NoLines => 1,
         Takes::Options => 0,
-        Takes::Garbage => 32,
+        Takes::Garbage => 18,
         Takes::Verify => 8,
-        Takes::Texts => 27,
-        Takes::Store => 7,
-        Takes::Multiple => 4,
-        Takes::FirstData => 14,
+        Takes::Texts => 4,
+        Takes::Store => 17,
+        Takes::Multiple => 5,
+        Takes::FirstData => 32,
         Takes::FirstRaw => 1,
     }
 }
 
-// The number of the only key that the piece can name: no two keys of one operation have the same length and the same first byte.
+// The place of the only key of the operation that the piece can name: no two have the same length and the same first byte.
 fn key_hint(text: &[u8], takes: Takes, p: Span) -> usize
     requires { ⌜ In (now text) p ⌝ }
     ensures { λ r. ⌜ Meant takes (bytes (now (text .entry)) p) r ⌝ }
@@ -166,61 +165,61 @@ fn key_hint(text: &[u8], takes: Takes, p: Span) -> usize
     hints[sum % 36] as usize
 }
 
-// Whether the piece is the name of that number.
-fn is_named(text: &[u8], p: Span, number: usize) -> bool
+// Whether the piece is the name of the key at that place.
+fn is_named(text: &[u8], p: Span, place: usize) -> bool
     requires { ⌜ In (now text) p ⌝ }
-    requires { ⌜ number < 27 ⌝ }
-    ensures { λ r. ⌜ r ≡ sameBytes (bytes (now (text .entry)) p) (nameOf (numbered number)) ⌝ }
+    requires { ⌜ place < 26 ⌝ }
+    ensures { λ r. ⌜ r ≡ sameBytes (bytes (now (text .entry)) p) (nameAt place) ⌝ }
 {
     let starts = starts();
-    let start = starts[number] as usize;
-    let end = starts[number + 1] as usize;
+    let start = starts[place] as usize;
+    let end = starts[place + 1] as usize;
     let names = names();
     crate::pieces::is_word(text, p, &names[start..end])
 }
 
-fn key_numbered(number: usize) -> KeyFound
-    ensures { λ r. ⌜ keyOf r ≡ numbered number ⌝ }
+fn key_at(place: usize) -> Key
+    requires { ⌜ place < 26 ⌝ }
+    ensures { λ r. ⌜ r ≡ keyAt place ⌝ }
 {
-    match number {
-        1 => KeyFound::Is(Key::KeepFailed),
-        2 => KeyFound::Is(Key::KeepGoing),
-        3 => KeyFound::Is(Key::TryFallback),
-        4 => KeyFound::Is(Key::Verbosity),
-        5 => KeyFound::Is(Key::MaxBuildJobs),
-        6 => KeyFound::Is(Key::MaxSilentTime),
-        7 => KeyFound::Is(Key::UseBuildHook),
-        8 => KeyFound::Is(Key::VerboseBuild),
-        9 => KeyFound::Is(Key::LogType),
-        10 => KeyFound::Is(Key::PrintBuildTrace),
-        11 => KeyFound::Is(Key::BuildCores),
-        12 => KeyFound::Is(Key::UseSubstitutes),
-        13 => KeyFound::Is(Key::Overrides),
-        14 => KeyFound::Is(Key::Action),
-        15 => KeyFound::Is(Key::Paths),
-        16 => KeyFound::Is(Key::IgnoreLiveness),
-        17 => KeyFound::Is(Key::MaxFreed),
-        18 => KeyFound::Is(Key::CheckContents),
-        19 => KeyFound::Is(Key::Repair),
-        20 => KeyFound::Is(Key::Suffix),
-        21 => KeyFound::Is(Key::Text),
-        22 => KeyFound::Is(Key::Refs),
-        23 => KeyFound::Is(Key::Name),
-        24 => KeyFound::Is(Key::CamStr),
-        25 => KeyFound::Is(Key::Data),
-        26 => KeyFound::Is(Key::DontCheckSigs),
-        _ => KeyFound::Unknown,
+    match place {
+        0 => Key::KeepFailed,
+        1 => Key::KeepGoing,
+        2 => Key::TryFallback,
+        3 => Key::Verbosity,
+        4 => Key::MaxBuildJobs,
+        5 => Key::MaxSilentTime,
+        6 => Key::UseBuildHook,
+        7 => Key::VerboseBuild,
+        8 => Key::LogType,
+        9 => Key::PrintBuildTrace,
+        10 => Key::BuildCores,
+        11 => Key::UseSubstitutes,
+        12 => Key::Overrides,
+        13 => Key::Action,
+        14 => Key::Paths,
+        15 => Key::IgnoreLiveness,
+        16 => Key::MaxFreed,
+        17 => Key::CheckContents,
+        18 => Key::Repair,
+        19 => Key::Suffix,
+        20 => Key::Text,
+        21 => Key::Refs,
+        22 => Key::Name,
+        23 => Key::CamStr,
+        24 => Key::Data,
+        _ => Key::DontCheckSigs,
     }
 }
 
-// The key of that name among those of the operation: one can have the name, and one comparison tells whether it has.
+// The key of that name among those of the operation: one can have it, and one comparison tells whether it has.
 pub fn key_in(text: &[u8], takes: Takes, p: Span) -> KeyFound
     requires { ⌜ In (now text) p ⌝ }
     ensures { λ r. ⌜ keyOf r ≡ keyIn (keysOf takes) (bytes (now (text .entry)) p) ⌝ }
 {
-    let number = key_hint(text, takes, p);
-    if is_named(text, p, number) {
-        return key_numbered(number);
+    let place = key_hint(text, takes, p);
+    if is_named(text, p, place) {
+        return KeyFound::Is(key_at(place));
     }
     KeyFound::Unknown
 }

@@ -3,13 +3,13 @@ use mathlib.Core.Path.{refl}
 use Rattle.text.specs.Literal.{spells}
 use Rattle.text.specs.Parts.{sameBytes}
 use Rattle.script.specs.Operations.{keyRow, sameKey, keysOf, keyIn}
-use Rattle.roles.specs.KeyTables.{first, numbered, nameOf}
+use Rattle.roles.specs.KeyTables.{keyAt, nameAt}
 use Rattle.roles.proofs.KeyLaws.{led, own, told, hinted, hints-right}
 use Rattle.roles.proofs.keys.hints.Statement.{statement}
 use Rattle.roles.proofs.keys.hints.Tie as tie
 
 returns : tie.Need-returns
-unfolding spells sameBytes keyRow sameKey keysOf keyIn first numbered nameOf led own told hinted
+unfolding spells sameBytes keyRow sameKey keysOf keyIn keyAt nameAt led own told hinted
 returns c = hints-right _ refl
 
 pub hints-spec : {M : Type 1} → statement M

@@ -7,12 +7,12 @@ use native.Mathlib.Omega.{arith}
 use lib.ListN.{getD, length}
 use Rattle.text.specs.Base.{part}
 use Rattle.text.specs.Parts.{sameBytes}
-use Rattle.roles.specs.KeyTables.{argumentKeys, numbered, nameOf, letters, Starts}
+use Rattle.roles.specs.KeyTables.{argumentKeys, nameAt, letters, Starts}
 use borrow.Author.Needs.{needs}
 use Rattle.roles.proofs.keys.is_named.Statement.{statement}
 use Rattle.roles.proofs.keys.is_named.Tie as tie
 
-module _ (n : ℕ) (small : n < 27) (table : List ℕ) (t : Starts table) where
+module _ (n : ℕ) (small : n < 26) (table : List ℕ) (t : Starts table) where
   forward : getD table n 0 ≤ getD table (n + 1) 0
   forward = t .rule n small .forward
 
@@ -20,7 +20,7 @@ module _ (n : ℕ) (small : n < 27) (table : List ℕ) (t : Starts table) where
   inside names l = rw l (t .rule n small .inside)
 
   compared : (names s : List ℕ) (r : Bool) → names ≡ letters argumentKeys
-      → r ≡ sameBytes s (part names (getD table n 0) (getD table (n + 1) 0 - getD table n 0)) → r ≡ sameBytes s (nameOf (numbered n))
+      → r ≡ sameBytes s (part names (getD table n 0) (getD table (n + 1) 0 - getD table n 0)) → r ≡ sameBytes s (nameAt n)
   compared names s r l e = rw (l, t .rule n small .bytes) at e
 
 ruleset places = (forward, inside, compared)

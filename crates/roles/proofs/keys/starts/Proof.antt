@@ -1,14 +1,14 @@
--- `roles::keys::starts` meets its contract: one test, which antt computes, goes over all numbers. Assumes nothing.
+-- `roles::keys::starts` meets its contract: one test, which antt computes, goes over all 26 names. Assumes nothing.
 use mathlib.Core.Path.{refl}
 use Rattle.text.specs.Parts.{sameBytes}
 use Rattle.script.specs.Operations.{keyRow}
-use Rattle.roles.specs.KeyTables.{first, numbered, nameOf, letters}
+use Rattle.roles.specs.KeyTables.{keyAt, nameAt, letters}
 use Rattle.roles.proofs.KeyLaws.{spelt, placed, starts-right}
 use Rattle.roles.proofs.keys.starts.Statement.{statement}
 use Rattle.roles.proofs.keys.starts.Tie as tie
 
 returns : tie.Need-returns
-unfolding sameBytes keyRow first numbered nameOf letters spelt placed
+unfolding sameBytes keyRow keyAt nameAt letters spelt placed
 returns c = starts-right _ refl
 
 pub starts-spec : {M : Type 1} → statement M
