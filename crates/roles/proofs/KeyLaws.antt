@@ -2,7 +2,7 @@
 use Prim.Native.Nat.{ℕ, zero, suc, _+_, _-_, _<_}
 use mathlib.Core.Path.{_≡_, refl, sym, ap, _∙_}
 use mathlib.Core.Bool.{Bool, true, false}
-use mathlib.Core.List.{List, [], _∷_}
+use mathlib.Core.List.{List, [], _∷_, _++_}
 use mathlib.Core.Option.{Option, none, some}
 use native.Mathlib.Omega.{arith}
 use native.Mathlib.Nat.{mod-lt, not-suc-le-zero}
@@ -86,8 +86,7 @@ found s also (j ∷ ks) k e t =
 -- ---- a number tells a key from all others
 
 abbrev byNumber : List Key
-byNumber =
-    Key.KeepFailed ∷ Key.KeepGoing ∷ Key.TryFallback ∷ Key.Verbosity ∷ Key.MaxBuildJobs ∷ Key.MaxSilentTime ∷ Key.UseBuildHook ∷ Key.VerboseBuild ∷ Key.LogType ∷ Key.PrintBuildTrace ∷ Key.BuildCores ∷ Key.UseSubstitutes ∷ Key.Overrides ∷ Key.Action ∷ Key.Paths ∷ Key.IgnoreLiveness ∷ Key.MaxFreed ∷ Key.CheckContents ∷ Key.Repair ∷ Key.Suffix ∷ Key.Text ∷ Key.Refs ∷ Key.Name ∷ Key.CamStr ∷ Key.Data ∷ Key.DontCheckSigs ∷ Key.Protocol ∷ Key.Features ∷ Key.DaemonVersion ∷ Key.TrustStatus ∷ Key.ServerFeatures ∷ Key.Raw ∷ []
+byNumber = argumentKeys ++ (Key.Protocol ∷ Key.Features ∷ Key.DaemonVersion ∷ Key.TrustStatus ∷ Key.ServerFeatures ∷ Key.Raw ∷ [])
 
 number-key : (k : Key) → getD byNumber (keyRow k .number - 1) Key.Raw ≡ k
 unfolding keyRow
