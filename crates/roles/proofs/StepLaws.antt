@@ -2,24 +2,28 @@
 use Prim.Native.Nat.{ℕ, _-_}
 use mathlib.Core.Path.{_≡_, refl, sym, ap, _∙_}
 use mathlib.Core.Bool.{Bool, true, false, not}
-use mathlib.Core.List.{List}
+use mathlib.Core.List.{List, []}
+use native.Mathlib.Omega.{arith}
+use lib.ListN.{length}
 use borrow.Author.Tests.{eq-eqb, ne-eqb}
 use Rattle.text.specs.Base.{if_then_else_, _&_, _or_, part}
 use Rattle.text.specs.Lines.{indented}
 use Rattle.text.specs.Parts.{span, startsWith}
 use Rattle.text.specs.declared.lines.Line.{Line}
 use Rattle.text.specs.declared.parts.Span.{Span}
+use Rattle.text.specs.Literal.{spells, utf8}
 use Rattle.text.proofs.LiteralLaws.{codes}
-use Rattle.script.specs.Pieces.{bytes, isEmpty, begins, trim}
+use Rattle.text.proofs.TrimLaws.{trim-inside}
+use Rattle.script.specs.Pieces.{bytes, isEmpty, is, begins, trim}
 use Rattle.script.specs.Values.{plainRules}
-use Rattle.script.specs.Roles.{step, expectRole, outsideStep, entryStep, argumentLine, argumentStep, blockStep, stepAt, stepOf}
+use Rattle.script.specs.Roles.{lineSpan, step, expectRole, preambleRole, preambleStep, skipped, outsideStep, entryStep, argumentLine, argumentStep, blockStep, stepAt, stepOf}
 use Rattle.script.specs.declared.roles.Role.{Role}
 use Rattle.script.specs.declared.roles.Role.the-variants.{Nothing}
 use Rattle.script.specs.declared.roles.Step.{Step}
 use Rattle.script.specs.declared.roles.Takes.{Takes}
 use Rattle.script.specs.declared.roles.Where.{Where}
-use Rattle.script.specs.declared.roles.Where.the-variants.{InEntry}
-use Rattle.roles.specs.StepRead.{frontOf}
+use Rattle.script.specs.declared.roles.Where.the-variants.{InPreamble, Outside, InBlock, InEntry}
+use Rattle.roles.specs.StepRead.{frontOf, belowEmpty}
 use Rattle.roles.specs.declared.steps.Front.{Front}
 use Rattle.roles.specs.declared.steps.Front.the-variants.{Skipped, Expect, Other}
 use Rattle.roles.proofs.BehindLaws.{begins-is}
@@ -127,6 +131,29 @@ module _ (text : List ℕ) (t : Span) where
 pub step-is : (text : List ℕ) (w : Where) (l : Line) (inward : Bool) (t : Span) (s : Step) → inward ≡ indented (part text (l .start) (l .end - l .start)) → t ≡ trim text (span (l .start) (l .end)) → s ≡ stepAt plainRules text w inward t → s ≡ stepOf plainRules text w l
 unfolding stepOf bytes
 step-is text w l inward t s i k q = q ∙ rw (i, k)
+
+-- ---- an empty line
+
+module _ (text : List ℕ) where
+  -- a piece that begins where it ends has no bytes
+  no-bytes : (p : Span) → p .start ≡ p .end → bytes text p ≡ []
+  unfolding bytes
+  no-bytes p h = let z : p .end - p .start ≡ 0 = omega arith in rw z
+
+  nothing-at : (w : Where) (t : Span) → t .start ≡ t .end → stepAt plainRules text w false t ≡ step Nothing (belowEmpty w)
+  unfolding stepAt preambleStep preambleRole outsideStep skipped entryStep blockStep argumentLine isEmpty is spells belowEmpty
+  nothing-at InPreamble t h = rw (no-bytes t h, eq-eqb _ _ h)
+  nothing-at Outside t h = rw (eq-eqb _ _ h)
+  nothing-at (InBlock takes listOpen) t h = rw (eq-eqb _ _ h)
+  nothing-at InEntry t h = rw (eq-eqb _ _ h)
+
+  trim-nothing : (p : Span) → p .start ≡ p .end → trim text p .start ≡ trim text p .end
+  unfolding trim
+  trim-nothing p h = let z = ap length (no-bytes p h) in omega (arith, trim-inside (bytes text p))
+
+  pub empty-is : (w next : Where) (l : Line) → l .start ≡ l .end → next ≡ belowEmpty w → step Nothing next ≡ stepOf plainRules text w l
+  unfolding stepOf indented startsWith utf8
+  empty-is w next l h e = rw (no-bytes (lineSpan l) h, e) (sym (nothing-at w (trim text (lineSpan l)) (trim-nothing (lineSpan l) h)))
 
 pub ruleset front-words = (front-blank, front-comment, front-expect, front-other)
 

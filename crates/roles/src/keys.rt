@@ -174,6 +174,10 @@ fn is_named(text: &[u8], p: Span, place: usize) -> bool
     let starts = starts();
     let start = starts[place] as usize;
     let end = starts[place + 1] as usize;
+    // Most lines that name no key differ in length: then the names need not be laid out.
+    if p.end - p.start != end - start {
+        return false;
+    }
     let names = names();
     crate::pieces::is_word(text, p, &names[start..end])
 }

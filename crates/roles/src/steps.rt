@@ -3,7 +3,7 @@ ghost use mathlib.Core.Path.{_≡_};
 ghost use Rattle.script.specs.Values.{plainRules};
 ghost use Rattle.script.specs.Roles.{lineSpan, entryStep, blockStep, stepAt, stepOf};
 ghost use Rattle.script.specs.Inside.{In};
-ghost use Rattle.roles.specs.StepRead.{frontOf};
+ghost use Rattle.roles.specs.StepRead.{frontOf, belowEmpty};
 use script::roles::Role;
 use script::roles::Step;
 use script::roles::Takes;
@@ -88,6 +88,16 @@ fn step_at(text: &[u8], w: Where, inward: bool, t: Span) -> Step
     }
 }
 
+// Where the line below an empty one stands.
+fn below_empty(w: Where) -> Where
+    ensures { λ r. ⌜ r ≡ belowEmpty w ⌝ }
+{
+    match w {
+        Where::InPreamble => Where::InPreamble,
+        _ => Where::Outside,
+    }
+}
+
 // What a line of the text is. "Begins with" is about the trimmed line, "indented" about the line as it stands in the text.
 pub fn step(text: &[u8], w: Where, l: Line) -> Step
     requires { ⌜ In (now text) (lineSpan l) ⌝ }
@@ -95,6 +105,13 @@ pub fn step(text: &[u8], w: Where, l: Line) -> Step
 {
     let start = l.start;
     let end = l.end;
+    // An empty line is nothing wherever it stands: a text may have very many.
+    if start == end {
+        return Step {
+            role: Role::Nothing,
+            next: below_empty(w),
+        };
+    }
     let inward = text::lines::indented(&text[start..end]);
     let t = crate::pieces::trimmed(text, Span { start, end });
     step_at(text, w, inward, t)

@@ -2,12 +2,13 @@
 use Prim.Native.Nat.{ℕ, suc}
 use Prim.Native.Char.{code}
 use Prim.Native.String.{String, [] as []ˢ, _∷_ as _∷ˢ_}
-use mathlib.Core.Path.{_≡_, refl, sym, ap}
+use mathlib.Core.Path.{_≡_, refl, sym, ap, _∙_}
 use mathlib.Core.Bool.{Bool, true, false}
 use mathlib.Core.List.{List, [], _∷_}
 use lib.Dec.{eqb}
 use lib.ListN.{length}
 use borrow.Author.Tests.{eq-eqb, ne-eqb, eqb-true, eqb-false}
+use Rattle.text.proofs.Scan.{and-false}
 use Rattle.text.specs.Base.{if_then_else_, _&_}
 use Rattle.text.specs.Literal.{spells, beginsWith, wordLength}
 use Rattle.text.specs.Parts.{startsWith, sameBytes}
@@ -49,3 +50,11 @@ pub length-as : (w : String) → wordLength w ≡ length (codes w)
 unfolding wordLength
 length-as []ˢ = refl
 length-as (c ∷ˢ w) = ap suc (length-as w)
+
+-- lists of other lengths are not the same
+pub other-length : (a b : List ℕ) → (length a ≡ length b → ⊥) → false ≡ sameBytes a b
+unfolding sameBytes
+other-length [] [] n = absurd (n refl)
+other-length [] (y ∷ b) n = refl
+other-length (x ∷ a) [] n = refl
+other-length (x ∷ a) (y ∷ b) n = sym (and-false (eqb x y)) ∙ ap (λ (t : Bool). eqb x y & t) (other-length a b (λ e. n (ap suc e)))

@@ -1,27 +1,17 @@
 -- `text::parts::same` meets its contract. The loop's invariant: the rests are the same just where the wholes are. Assumes nothing.
-use Prim.Native.Nat.{ℕ, suc, _+_, _-_, _≤_, _<_}
-use mathlib.Core.Path.{_≡_, refl, sym, ap, _∙_}
+use Prim.Native.Nat.{ℕ, _+_, _-_, _≤_, _<_}
+use mathlib.Core.Path.{_≡_, refl}
 use mathlib.Core.Bool.{Bool, true, false}
-use mathlib.Core.List.{List, [], _∷_}
-use lib.Dec.{eqb}
+use mathlib.Core.List.{List}
 use lib.ListN.{length, getD, drop}
 use borrow.Author.Tests.{eq-eqb, ne-eqb}
 use Rattle.text.proofs.Scan.{rest-more, rest-none}
 use native.Mathlib.Omega.{arith}
-use Rattle.text.specs.Base.{_&_}
 use Rattle.text.specs.Parts.{sameBytes}
-use Rattle.text.proofs.Scan.{and-false}
+use Rattle.text.proofs.LiteralLaws.{other-length}
 use borrow.Author.Needs.{needs}
 use Rattle.text.proofs.parts.same.Statement.{statement}
 use Rattle.text.proofs.parts.same.Tie as tie
-
--- lists of other lengths are not the same
-other-length : (a b : List ℕ) → (length a ≡ length b → ⊥) → false ≡ sameBytes a b
-unfolding sameBytes
-other-length [] [] n = absurd (n refl)
-other-length [] (y ∷ b) n = refl
-other-length (x ∷ a) [] n = refl
-other-length (x ∷ a) (y ∷ b) n = sym (and-false (eqb x y)) ∙ ap (λ (t : Bool). eqb x y & t) (other-length a b (λ e. n (ap suc e)))
 
 module _ (a b : List ℕ) (i : ℕ) (whole : Bool) where
   abbrev Here : Type 0
