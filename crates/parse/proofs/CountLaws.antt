@@ -44,8 +44,8 @@ use Rattle.roles.specs.declared.openings.SetPlace.{SetPlace}
 use Rattle.roles.specs.declared.openings.SetPlace.the-variants.{NoSet, AllOf, BehindBlank}
 use Rattle.parse.specs.Measure.{setCount, quotedCount, dataCount, rawCount, featureCount, inlineItems}
 use Rattle.script.proofs.Inside.{length-bytes, trim-in, position-in}
-use Rattle.roles.proofs.PieceLaws.{trim-end}
-use Rattle.roles.proofs.BehindLaws.{behind-none, behind-some, behind-in, cut-none, cut-some}
+use Rattle.pieces.proofs.PieceLaws.{trim-end}
+use Rattle.pieces.proofs.BehindLaws.{behind-none, behind-some, behind-in, cut-none, cut-some}
 use Rattle.roles.proofs.OpeningLaws.{cut-or-none, cut-or-some}
 use Rattle.script.proofs.RolesInside.{cut-or-in}
 

@@ -51,11 +51,11 @@ fn braced_count(text: &[u8], p: Span) -> usize
     requires { ⌜ In (now text) p ⌝ }
     ensures { λ r. ⌜ r ≡ length (bracedItems (now (text .entry)) p) ⌝ }
 {
-    let Found::At(n) = roles::pieces::find_in(text, p, 0x7D) else {
+    let Found::At(n) = pieces::pieces::find_in(text, p, 0x7D) else {
         return 0;
     };
     let start = p.start;
-    let items = roles::pieces::trimmed(
+    let items = pieces::pieces::trimmed(
         text,
         Span {
             start,
@@ -71,8 +71,8 @@ pub fn set_count(text: &[u8], v: Span) -> usize
     ensures { λ r. ⌜ r ≡ setCount (now (text .entry)) v ⌝ }
     ensures { λ r. ⌜ v .start + r ≤ v .end ⌝ }
 {
-    let q = roles::pieces::trimmed(text, v);
-    if roles::pieces::begins(text, q, b"{") {
+    let q = pieces::pieces::trimmed(text, v);
+    if pieces::pieces::begins(text, q, b"{") {
         return braced_count(
             text,
             Span {
@@ -101,7 +101,7 @@ fn filled_count(text: &[u8], p: Span) -> usize
         let part = text::parts::part_at(&text[first..last], 0x2C, at);
         let start = first + part.start;
         let end = first + part.end;
-        let item = roles::pieces::trimmed(text, Span { start, end });
+        let item = pieces::pieces::trimmed(text, Span { start, end });
         at = part.end + 1;
         more = part.more;
         if item.start != item.end {
@@ -133,8 +133,8 @@ fn in_braces(text: &[u8], q: Span) -> bool
     ensures { λ r. ⌜ r ≡ begins (now (text .entry)) "{" q & ends (now (text .entry)) q CLOSING-BRACE ⌝ }
     ensures { λ r. ⌜ (r ≡ true → q .start + 2 ≤ q .end) ⌝ }
 {
-    if roles::pieces::begins(text, q, b"{") {
-        return roles::pieces::ends_in(text, q, 0x7D);
+    if pieces::pieces::begins(text, q, b"{") {
+        return pieces::pieces::ends_in(text, q, 0x7D);
     }
     false
 }
@@ -145,7 +145,7 @@ pub fn feature_count(text: &[u8], v: Span) -> usize
     ensures { λ r. ⌜ r ≡ featureCount (now (text .entry)) v ⌝ }
     ensures { λ r. ⌜ v .start + r ≤ v .end ⌝ }
 {
-    let q = roles::pieces::trimmed(text, v);
+    let q = pieces::pieces::trimmed(text, v);
     let start = q.start;
     let end = q.end;
     if in_braces(text, q) {
@@ -188,7 +188,7 @@ pub fn data_count(text: &[u8], v: Span) -> usize
     ensures { λ r. ⌜ r ≡ dataCount (now (text .entry)) v ⌝ }
     ensures { λ r. ⌜ v .start + r ≤ v .end ⌝ }
 {
-    if roles::pieces::begins(text, v, b"x\"") {
+    if pieces::pieces::begins(text, v, b"x\"") {
         let start = v.start + 2;
         let end = v.end;
         return text::hex::hex_len(&text[start..end]);

@@ -23,7 +23,7 @@ use Rattle.roles.specs.KeyRead.{keyOf}
 use Rattle.roles.specs.ArgumentRead.{pairSaying, pairValue, pairBehind}
 use Rattle.roles.specs.declared.keys.KeyFound.{KeyFound}
 use Rattle.roles.specs.declared.keys.KeyFound.the-variants as found
-use Rattle.roles.proofs.BehindLaws.{begins-is, behind-some, behind-none, cut-some, cut-none}
+use Rattle.pieces.proofs.BehindLaws.{begins-is, behind-some, behind-none, cut-some, cut-none}
 
 module _ (text : List ℕ) where
   -- ---- `raw x"`

@@ -26,7 +26,7 @@ use Rattle.roles.specs.declared.blocks.ValueKind.{ValueKind}
 use Rattle.roles.specs.declared.blocks.ValueKind.the-variants.{Set, Data, Overrides, Other}
 use Rattle.roles.specs.declared.blocks.Refused.{Refused}
 use Rattle.roles.specs.declared.blocks.Refused.the-variants.{No, By}
-use Rattle.roles.proofs.BehindLaws.{behind-some, behind-none}
+use Rattle.pieces.proofs.BehindLaws.{behind-some, behind-none}
 
 -- ---- data: r and q are the answers of `pieces::begins`
 

@@ -1,11 +1,6 @@
 pub mod ArgumentLaws
-pub mod BehindLaws
 pub mod BlockLaws
-pub mod ExpectationLaws
 pub mod KeyLaws
-pub mod MatcherLaws
 pub mod OpeningLaws
-pub mod PieceLaws
 pub mod PreambleLaws
 pub mod StepLaws
-pub mod TimeLaws

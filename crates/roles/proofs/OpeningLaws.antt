@@ -10,7 +10,7 @@ use Rattle.text.specs.declared.parts.Found.the-variants.{At, Nothing}
 use Rattle.text.specs.declared.parts.Span.{Span}
 use Rattle.script.specs.Pieces.{cutInto, cutAt, bytes, cutOr}
 use Rattle.script.specs.Inside.{In}
-use Rattle.roles.proofs.BehindLaws.{cut-none, cut-some, cut-before, cut-after}
+use Rattle.pieces.proofs.BehindLaws.{cut-none, cut-some, cut-before, cut-after}
 
 -- ---- a piece cut at the first byte of a kind
 

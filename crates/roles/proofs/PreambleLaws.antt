@@ -29,7 +29,7 @@ use Rattle.script.specs.declared.roles.Where.the-variants.{InPreamble, Outside}
 use Rattle.script.specs.declared.roles.Role.{Role}
 use Rattle.script.specs.declared.roles.Role.the-variants.{Nothing, Says, Bad}
 use Rattle.roles.specs.PreambleSaid.{said}
-use Rattle.roles.proofs.BehindLaws.{begins-is, behind-some, behind-none, one-front, front-begins, front-behind}
+use Rattle.pieces.proofs.BehindLaws.{begins-is, behind-some, behind-none, one-front, front-begins, front-behind}
 
 -- ---- the signs at the front of a comment
 

@@ -26,7 +26,7 @@ use Rattle.script.specs.declared.roles.Where.the-variants.{InPreamble, Outside,
 use Rattle.roles.specs.StepRead.{frontOf, belowEmpty}
 use Rattle.roles.specs.declared.steps.Front.{Front}
 use Rattle.roles.specs.declared.steps.Front.the-variants.{Skipped, Expect, Other}
-use Rattle.roles.proofs.BehindLaws.{begins-is}
+use Rattle.pieces.proofs.BehindLaws.{begins-is}
 
 module _ (text : List ℕ) (t : Span) where
   -- ---- how a line begins

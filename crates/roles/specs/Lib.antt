@@ -1,9 +1,7 @@
 pub mod ArgumentRead
 pub mod BlockRead
-pub mod ExpectAnswers
 pub mod KeyRead
 pub mod KeyTables
 pub mod OpeningRead
 pub mod PreambleSaid
 pub mod StepRead
-pub mod TimeRead

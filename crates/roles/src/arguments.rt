@@ -20,14 +20,14 @@ fn pair_value(text: &[u8], name: Span, c: Span) -> Saying
     ensures { λ r. ⌜ r ≡ pairSaying (pairValue (now (text .entry)) name c) ⌝ }
     ensures { λ r. ⌜ SayingIn (now (text .entry)) r ⌝ }
 {
-    if !crate::pieces::begins(text, c, b"\"") {
+    if !pieces::pieces::begins(text, c, b"\"") {
         return Saying::NoPair;
     }
     let quoted = Span {
         start: c.start + 1,
         end: c.end,
     };
-    let Found::At(n) = crate::pieces::find_in(text, quoted, b'"') else {
+    let Found::At(n) = pieces::pieces::find_in(text, quoted, b'"') else {
         return Saying::NoPair;
     };
     let start = quoted.start;
@@ -47,11 +47,11 @@ fn pair_behind(text: &[u8], name: Span, after: Span) -> Saying
     ensures { λ r. ⌜ r ≡ pairSaying (pairBehind (now (text .entry)) name after) ⌝ }
     ensures { λ r. ⌜ SayingIn (now (text .entry)) r ⌝ }
 {
-    let b = crate::pieces::trimmed(text, after);
-    if !crate::pieces::begins(text, b, b"=") {
+    let b = pieces::pieces::trimmed(text, after);
+    if !pieces::pieces::begins(text, b, b"=") {
         return Saying::NoPair;
     }
-    let c = crate::fronts::behind_trimmed(text, b, 1);
+    let c = pieces::fronts::behind_trimmed(text, b, 1);
     pair_value(text, name, c)
 }
 
@@ -80,14 +80,14 @@ fn pair_in(text: &[u8], t: Span) -> Saying
     ensures { λ r. ⌜ r ≡ pairSaying (pairIn (now (text .entry)) t) ⌝ }
     ensures { λ r. ⌜ SayingIn (now (text .entry)) r ⌝ }
 {
-    if !crate::pieces::begins(text, t, b"\"") {
+    if !pieces::pieces::begins(text, t, b"\"") {
         return Saying::NoPair;
     }
     let a = Span {
         start: t.start + 1,
         end: t.end,
     };
-    let Found::At(n) = crate::pieces::find_in(text, a, b'"') else {
+    let Found::At(n) = pieces::pieces::find_in(text, a, b'"') else {
         return Saying::NoPair;
     };
     pair_cut(text, a, n)
@@ -101,14 +101,14 @@ fn keyed(text: &[u8], takes: Takes, t: Span, n: usize) -> Saying
     ensures { λ r. ⌜ SayingIn (now (text .entry)) r ⌝ }
 {
     let colon = t.start + n;
-    let key = crate::pieces::trimmed(
+    let key = pieces::pieces::trimmed(
         text,
         Span {
             start: t.start,
             end: colon,
         },
     );
-    let value = crate::pieces::trimmed(
+    let value = pieces::pieces::trimmed(
         text,
         Span {
             start: colon + 1,
@@ -127,7 +127,7 @@ fn key_saying(text: &[u8], takes: Takes, t: Span) -> Saying
     ensures { λ r. ⌜ r ≡ keySaying (now (text .entry)) (keysOf takes) t ⌝ }
     ensures { λ r. ⌜ SayingIn (now (text .entry)) r ⌝ }
 {
-    let Found::At(n) = crate::pieces::find_in(text, t, b':') else {
+    let Found::At(n) = pieces::pieces::find_in(text, t, b':') else {
         return Saying::NoColon;
     };
     keyed(text, takes, t, n)
@@ -138,7 +138,7 @@ fn raw_saying(text: &[u8], t: Span) -> Saying
     ensures { λ r. ⌜ r ≡ rawSaying (now (text .entry)) t ⌝ }
     ensures { λ r. ⌜ SayingIn (now (text .entry)) r ⌝ }
 {
-    if !crate::pieces::begins(text, t, b"raw x\"") {
+    if !pieces::pieces::begins(text, t, b"raw x\"") {
         return Saying::NoRaw;
     }
     Saying::Known(
@@ -159,7 +159,7 @@ fn option_saying(text: &[u8], list_open: bool, t: Span) -> Saying
     if !list_open {
         return key_saying(text, Takes::Options, t);
     }
-    if crate::pieces::begins(text, t, b"\"") {
+    if pieces::pieces::begins(text, t, b"\"") {
         return pair_in(text, t);
     }
     key_saying(text, Takes::Options, t)

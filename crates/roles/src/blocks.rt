@@ -45,10 +45,10 @@ fn refused_data(text: &[u8], v: Span) -> Refused
     requires { ⌜ In (now text) v ⌝ }
     ensures { λ r. ⌜ refusedOf r ≡ refusalIn (framed plainRules (now (text .entry)) v) ⌝ }
 {
-    if crate::pieces::begins(text, v, b"x\"") {
+    if pieces::pieces::begins(text, v, b"x\"") {
         return Refused::No;
     }
-    if crate::pieces::begins(text, v, b"@file:") {
+    if pieces::pieces::begins(text, v, b"@file:") {
         return Refused::No;
     }
     Refused::By(11)

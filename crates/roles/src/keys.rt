@@ -159,7 +159,7 @@ fn key_hint(text: &[u8], takes: Takes, p: Span) -> usize
     requires { ⌜ In (now text) p ⌝ }
     ensures { λ r. ⌜ Meant takes (bytes (now (text .entry)) p) r ⌝ }
 {
-    let first = crate::fronts::first_byte(text, p) as usize;
+    let first = pieces::fronts::first_byte(text, p) as usize;
     let sum = shift(takes) + (p.end - p.start) + 7 * first;
     let hints = hints();
     hints[sum % 36] as usize
@@ -179,7 +179,7 @@ fn is_named(text: &[u8], p: Span, place: usize) -> bool
         return false;
     }
     let names = names();
-    crate::pieces::is_word(text, p, &names[start..end])
+    pieces::pieces::is_word(text, p, &names[start..end])
 }
 
 fn key_at(place: usize) -> Key

@@ -10,13 +10,13 @@ ghost use Rattle.script.specs.Timestamps.{stampedAs, stampedAt};
 ghost use Rattle.script.specs.Timestamps as definition;
 ghost use Rattle.script.specs.Inside.{In};
 ghost use Rattle.roles.specs.OpeningRead.{stampedRead, RestIn, halves, setPlace};
-use crate::timestamps::TimeAnswer;
 use script::records::Stamp;
 use script::roles::Opening;
 use script::roles::Role;
 use script::roles::Step;
 use script::roles::Takes;
 use script::roles::Where;
+use stamps::timestamps::TimeAnswer;
 use text::parts::Found;
 use text::parts::Span;
 use wire::ops::Op;
@@ -50,7 +50,7 @@ pub fn cut_or(text: &[u8], p: Span, b: u8) -> Halves
 {
     let start = p.start;
     let end = p.end;
-    let Found::At(n) = crate::pieces::find_in(text, p, b) else {
+    let Found::At(n) = pieces::pieces::find_in(text, p, b) else {
         return Halves {
             before: p,
             after: Span { start: end, end },
@@ -73,9 +73,9 @@ fn stamp_before(text: &[u8], p: Span, n: usize) -> StampedAnswer
     let start = p.start;
     let end = p.end;
     let ms = start + n;
-    match crate::timestamps::time(&text[start..ms]) {
+    match stamps::timestamps::time(&text[start..ms]) {
         TimeAnswer::Read(t) => {
-            let rest = crate::pieces::trimmed(text, Span { start: ms + 2, end });
+            let rest = pieces::pieces::trimmed(text, Span { start: ms + 2, end });
             StampedAnswer::Read(Stamp::At(t), rest)
         }
         TimeAnswer::Bad(k) => StampedAnswer::Bad(k),
@@ -88,7 +88,7 @@ pub fn stamped(text: &[u8], p: Span) -> StampedAnswer
     ensures { λ r. ⌜ stampedRead r ≡ definition.stamped (now (text .entry)) p ⌝ }
     ensures { λ r. ⌜ RestIn (now (text .entry)) r ⌝ }
 {
-    if !crate::pieces::begins(text, p, b"@") {
+    if !pieces::pieces::begins(text, p, b"@") {
         return StampedAnswer::Read(Stamp::Absent, p);
     }
     let start = p.start + 1;
@@ -104,15 +104,15 @@ pub fn not_closed(text: &[u8], p: Span) -> bool
     requires { ⌜ In (now text) p ⌝ }
     ensures { λ r. ⌜ r ≡ notClosed (now (text .entry)) p ⌝ }
 {
-    let q = crate::pieces::trimmed(text, p);
-    if !crate::pieces::begins(text, q, b"{") {
+    let q = pieces::pieces::trimmed(text, p);
+    if !pieces::pieces::begins(text, q, b"{") {
         return false;
     }
     let behind = Span {
         start: q.start + 1,
         end: q.end,
     };
-    let Found::At(_) = crate::pieces::find_in(text, behind, 0x7D) else {
+    let Found::At(_) = pieces::pieces::find_in(text, behind, 0x7D) else {
         return true;
     };
     false
@@ -160,7 +160,7 @@ fn named_role(text: &[u8], stamp: Stamp, rest: Span) -> Role
     let OpFound::Is(op) = Op::from_name(&text[start..end]) else {
         return Role::Bad(9);
     };
-    let args = crate::pieces::trimmed(text, c.after);
+    let args = pieces::pieces::trimmed(text, c.after);
     if set_open(text, op, args) {
         return Role::Bad(10);
     }
@@ -221,10 +221,10 @@ fn is_skipped(text: &[u8], t: Span) -> bool
     if t.start == t.end {
         return true;
     }
-    if !crate::pieces::begins(text, t, b"#") {
+    if !pieces::pieces::begins(text, t, b"#") {
         return false;
     }
-    !crate::pieces::begins(text, t, b"# nwscript")
+    !pieces::pieces::begins(text, t, b"# nwscript")
 }
 
 // Where the line below stands, by what an opening line is.

@@ -37,10 +37,10 @@ fn said(text: &[u8], c: Span, word: &[u8], key: Key) -> Role
     requires { ⌜ In (now text) c ⌝ }
     ensures { λ r. ⌜ r ≡ said (now (text .entry)) c (now (word .entry)) key ⌝ }
 {
-    if !crate::pieces::begins(text, c, word) {
+    if !pieces::pieces::begins(text, c, word) {
         return Role::Nothing;
     }
-    let value = crate::fronts::behind_trimmed(text, c, word.len());
+    let value = pieces::fronts::behind_trimmed(text, c, word.len());
     Role::Says(Saying::Known(key, value))
 }
 
@@ -51,8 +51,8 @@ fn comment_role(text: &[u8], t: Span) -> Role
 {
     let start = behind_signs(text, t);
     let comment = Span { start, end: t.end };
-    let c = crate::pieces::trimmed(text, comment);
-    let x = crate::fronts::first_byte(text, c);
+    let c = pieces::pieces::trimmed(text, comment);
+    let x = pieces::fronts::first_byte(text, c);
     if x == b'd' {
         return said(text, c, b"daemon:", Key::DaemonVersion);
     }
@@ -84,10 +84,10 @@ fn on_protocol(text: &[u8], t: Span) -> Role
     requires { ⌜ getD (bytes (now text) t) 0 0 ≡ 112 ⌝ }
     ensures { λ r. ⌜ r ≡ wordRole (now (text .entry)) t ⌝ }
 {
-    if !crate::pieces::begins(text, t, b"protocol:") {
+    if !pieces::pieces::begins(text, t, b"protocol:") {
         return Role::Bad(3);
     }
-    version_role(text, crate::fronts::behind_trimmed(text, t, 9))
+    version_role(text, pieces::fronts::behind_trimmed(text, t, 9))
 }
 
 // `protocol: version`, or `features: names`
@@ -95,17 +95,17 @@ fn word_role(text: &[u8], t: Span) -> Role
     requires { ⌜ In (now text) t ⌝ }
     ensures { λ r. ⌜ r ≡ wordRole (now (text .entry)) t ⌝ }
 {
-    let x = crate::fronts::first_byte(text, t);
+    let x = pieces::fronts::first_byte(text, t);
     if x == b'p' {
         return on_protocol(text, t);
     }
     if x != b'f' {
         return Role::Bad(3);
     }
-    if !crate::pieces::begins(text, t, b"features:") {
+    if !pieces::pieces::begins(text, t, b"features:") {
         return Role::Bad(3);
     }
-    let value = crate::fronts::behind_trimmed(text, t, 9);
+    let value = pieces::fronts::behind_trimmed(text, t, 9);
     Role::Says(Saying::Known(Key::Features, value))
 }
 
@@ -114,11 +114,11 @@ fn preamble_expect(text: &[u8], t: Span) -> Role
     requires { ⌜ In (now text) t ⌝ }
     ensures { λ r. ⌜ r ≡ preambleExpect (now (text .entry)) t ⌝ }
 {
-    if crate::pieces::begins(text, t, b"expect ") {
-        return crate::expectations::expect_role(text, t);
+    if pieces::pieces::begins(text, t, b"expect ") {
+        return matchers::expectations::expect_role(text, t);
     }
-    if crate::pieces::begins(text, t, b"expect:") {
-        return crate::expectations::expect_role(text, t);
+    if pieces::pieces::begins(text, t, b"expect:") {
+        return matchers::expectations::expect_role(text, t);
     }
     Role::Bad(3)
 }
@@ -131,7 +131,7 @@ fn preamble_role(text: &[u8], t: Span) -> Role
     if t.start == t.end {
         return Role::Nothing;
     }
-    let x = crate::fronts::first_byte(text, t);
+    let x = pieces::fronts::first_byte(text, t);
     if x == b'#' {
         return comment_role(text, t);
     }
@@ -146,7 +146,7 @@ pub fn preamble_step(text: &[u8], t: Span) -> Step
     requires { ⌜ In (now text) t ⌝ }
     ensures { λ r. ⌜ r ≡ preambleStep (now (text .entry)) t ⌝ }
 {
-    if crate::pieces::is_word(text, t, b"---") {
+    if pieces::pieces::is_word(text, t, b"---") {
         return Step {
             role: Role::Nothing,
             next: Where::Outside,

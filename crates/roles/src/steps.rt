@@ -25,10 +25,10 @@ fn begins_as(text: &[u8], t: Span) -> Front
     if t.start == t.end {
         return Front::Skipped;
     }
-    if crate::pieces::begins(text, t, b"#") {
+    if pieces::pieces::begins(text, t, b"#") {
         return Front::Skipped;
     }
-    if crate::pieces::begins(text, t, b"expect") {
+    if pieces::pieces::begins(text, t, b"expect") {
         return Front::Expect;
     }
     Front::Other
@@ -48,7 +48,7 @@ fn entry_step(text: &[u8], inward: bool, t: Span) -> Step
             next: Where::InEntry,
         },
         Front::Expect => Step {
-            role: crate::expectations::expect_role(text, t),
+            role: matchers::expectations::expect_role(text, t),
             next: Where::InEntry,
         },
         Front::Other => crate::openings::outside_step(text, t),
@@ -69,7 +69,7 @@ fn block_step(text: &[u8], takes: Takes, list_open: bool, inward: bool, t: Span)
             next: Where::InEntry,
         },
         Front::Expect => Step {
-            role: crate::expectations::expect_role(text, t),
+            role: matchers::expectations::expect_role(text, t),
             next: Where::InEntry,
         },
         Front::Other => crate::blocks::argument_step(text, takes, list_open, t),
@@ -113,6 +113,6 @@ pub fn step(text: &[u8], w: Where, l: Line) -> Step
         };
     }
     let inward = text::lines::indented(&text[start..end]);
-    let t = crate::pieces::trimmed(text, Span { start, end });
+    let t = pieces::pieces::trimmed(text, Span { start, end });
     step_at(text, w, inward, t)
 }

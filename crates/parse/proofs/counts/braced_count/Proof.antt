@@ -1,5 +1,5 @@
 -- `parse::counts::braced_count` meets its contract. Assumes nothing.
-use Rattle.roles.proofs.BehindLaws.{sums}
+use Rattle.pieces.proofs.BehindLaws.{sums}
 use Rattle.roles.proofs.OpeningLaws.{before-in}
 use Rattle.parse.proofs.CountLaws.{set-counts}
 use borrow.Author.Needs.{needs}

@@ -1,6 +1,6 @@
 -- `roles::arguments::key_saying` meets its contract: there is a colon or not. Assumes nothing.
 use borrow.Author.Tests.{not-true, not-false}
-use Rattle.roles.proofs.BehindLaws.{front-bounds, cut-bounds, sums}
+use Rattle.pieces.proofs.BehindLaws.{front-bounds, cut-bounds, sums}
 use Rattle.roles.proofs.ArgumentLaws.{colon-words}
 use borrow.Author.Needs.{needs}
 use Rattle.roles.proofs.arguments.key_saying.Statement.{statement}

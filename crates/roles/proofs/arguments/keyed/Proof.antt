@@ -1,6 +1,6 @@
 -- `roles::arguments::keyed` meets its contract: both parts are trimmed, and the key is looked up. Assumes nothing.
 use borrow.Author.Tests.{not-true, not-false}
-use Rattle.roles.proofs.BehindLaws.{front-bounds, cut-bounds, sums}
+use Rattle.pieces.proofs.BehindLaws.{front-bounds, cut-bounds, sums}
 use Rattle.roles.proofs.ArgumentLaws.{keyed-words}
 use borrow.Author.Needs.{needs}
 use Rattle.roles.proofs.arguments.keyed.Statement.{statement}

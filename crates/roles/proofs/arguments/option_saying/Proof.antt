@@ -1,6 +1,6 @@
 -- `roles::arguments::option_saying` meets its contract: a line of an open list that begins with a quote is a pair. Assumes nothing.
 use borrow.Author.Tests.{not-true, not-false}
-use Rattle.roles.proofs.BehindLaws.{front-bounds, cut-bounds, sums}
+use Rattle.pieces.proofs.BehindLaws.{front-bounds, cut-bounds, sums}
 use Rattle.roles.proofs.ArgumentLaws.{option-words}
 use borrow.Author.Needs.{needs}
 use Rattle.roles.proofs.arguments.option_saying.Statement.{statement}

@@ -1,6 +1,6 @@
 -- `roles::arguments::pair_behind` meets its contract: each sign of the pair is there or not. Assumes nothing.
 use borrow.Author.Tests.{not-true, not-false}
-use Rattle.roles.proofs.BehindLaws.{front-bounds, cut-bounds, sums}
+use Rattle.pieces.proofs.BehindLaws.{front-bounds, cut-bounds, sums}
 use Rattle.roles.proofs.ArgumentLaws.{pair-words}
 use borrow.Author.Needs.{needs}
 use Rattle.roles.proofs.arguments.pair_behind.Statement.{statement}

@@ -1,6 +1,6 @@
 -- `roles::arguments::pair_cut` meets its contract: the two parts stand around the quote. Assumes nothing.
 use borrow.Author.Tests.{not-true, not-false}
-use Rattle.roles.proofs.BehindLaws.{front-bounds, cut-bounds, sums}
+use Rattle.pieces.proofs.BehindLaws.{front-bounds, cut-bounds, sums}
 use Rattle.script.specs.Pieces.{cutAt}
 use borrow.Author.Needs.{needs}
 use Rattle.roles.proofs.arguments.pair_cut.Statement.{statement}

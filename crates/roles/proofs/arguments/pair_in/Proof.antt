@@ -1,6 +1,6 @@
 -- `roles::arguments::pair_in` meets its contract: the name is in quotes or not. Assumes nothing.
 use borrow.Author.Tests.{not-true, not-false}
-use Rattle.roles.proofs.BehindLaws.{front-bounds, cut-bounds, sums}
+use Rattle.pieces.proofs.BehindLaws.{front-bounds, cut-bounds, sums}
 use Rattle.roles.proofs.ArgumentLaws.{name-words}
 use borrow.Author.Needs.{needs}
 use Rattle.roles.proofs.arguments.pair_in.Statement.{statement}

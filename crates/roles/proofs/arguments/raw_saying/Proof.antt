@@ -1,6 +1,6 @@
 -- `roles::arguments::raw_saying` meets its contract: the line begins with the word or not. Assumes nothing.
 use borrow.Author.Tests.{not-true, not-false}
-use Rattle.roles.proofs.BehindLaws.{front-bounds, cut-bounds, sums}
+use Rattle.pieces.proofs.BehindLaws.{front-bounds, cut-bounds, sums}
 use Rattle.roles.proofs.ArgumentLaws.{raw-words}
 use borrow.Author.Needs.{needs}
 use Rattle.roles.proofs.arguments.raw_saying.Statement.{statement}

@@ -9,7 +9,7 @@ use Rattle.text.specs.declared.parts.Span.{Span}
 use Rattle.text.proofs.LiteralLaws.{codes}
 use Rattle.script.specs.Pieces.{bytes, isEmpty}
 use Rattle.script.specs.Roles.{skipped}
-use Rattle.roles.proofs.BehindLaws.{begins-is}
+use Rattle.pieces.proofs.BehindLaws.{begins-is}
 use borrow.Author.Needs.{needs}
 use Rattle.roles.proofs.openings.is_skipped.Statement.{statement}
 use Rattle.roles.proofs.openings.is_skipped.Tie as tie

@@ -13,7 +13,7 @@ use Rattle.text.proofs.LiteralLaws.{codes}
 use Rattle.script.specs.Pieces.{bytes, trim}
 use Rattle.script.specs.Sets.{CLOSING-BRACE, bracedSet, pathSet}
 use Rattle.script.specs.Roles.{notClosed}
-use Rattle.roles.proofs.BehindLaws.{behind-none, behind-some, behind-in, cut-none, cut-some}
+use Rattle.pieces.proofs.BehindLaws.{behind-none, behind-some, behind-in, cut-none, cut-some}
 use borrow.Author.Needs.{needs}
 use Rattle.roles.proofs.openings.not_closed.Statement.{statement}
 use Rattle.roles.proofs.openings.not_closed.Tie as tie

@@ -11,9 +11,9 @@ use Rattle.script.specs.Timestamps.{time, stampedAs, withTime, stampedAt}
 use Rattle.script.specs.declared.records.Time.{Time}
 use Rattle.script.specs.declared.records.Stamp.the-variants as stamp
 use Rattle.roles.specs.OpeningRead.{stampedRead}
-use Rattle.roles.specs.TimeRead.{timeRead}
-use Rattle.roles.specs.declared.timestamps.TimeAnswer.{TimeAnswer}
-use Rattle.roles.specs.declared.timestamps.TimeAnswer.the-variants as answer
+use Rattle.stamps.specs.TimeRead.{timeRead}
+use Rattle.stamps.specs.declared.timestamps.TimeAnswer.{TimeAnswer}
+use Rattle.stamps.specs.declared.timestamps.TimeAnswer.the-variants as answer
 use borrow.Author.Needs.{needs}
 use Rattle.roles.proofs.openings.stamp_before.Statement.{statement}
 use Rattle.roles.proofs.openings.stamp_before.Tie as tie

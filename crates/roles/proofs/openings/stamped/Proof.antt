@@ -18,7 +18,7 @@ use Rattle.script.specs.declared.records.Stamp.the-variants as stamp
 use Rattle.script.specs.Inside.{In}
 use Rattle.roles.specs.OpeningRead.{stampedRead}
 use Rattle.script.proofs.Inside.{length-bytes}
-use Rattle.roles.proofs.BehindLaws.{behind-none, behind-some, behind-in}
+use Rattle.pieces.proofs.BehindLaws.{behind-none, behind-some, behind-in}
 use Rattle.script.proofs.RolesInside.{pair-inside}
 use borrow.Author.Needs.{needs}
 use Rattle.roles.proofs.openings.stamped.Statement.{statement}

@@ -1,6 +1,6 @@
 -- `roles::preamble::on_protocol` meets its contract: what follows the word, trimmed, is a version or leaves the one so far. Assumes nothing.
 use borrow.Author.Tests.{not-true, not-false}
-use Rattle.roles.proofs.BehindLaws.{front-bounds}
+use Rattle.pieces.proofs.BehindLaws.{front-bounds}
 use Rattle.roles.proofs.PreambleLaws.{protocol-words}
 use borrow.Author.Needs.{needs}
 use Rattle.roles.proofs.preamble.on_protocol.Statement.{statement}

@@ -1,6 +1,6 @@
 -- `roles::preamble::said` meets its contract: what follows the word, trimmed, is said. Assumes nothing.
 use borrow.Author.Tests.{not-true, not-false}
-use Rattle.roles.proofs.BehindLaws.{front-bounds}
+use Rattle.pieces.proofs.BehindLaws.{front-bounds}
 use Rattle.roles.proofs.PreambleLaws.{said-none, said-some}
 use borrow.Author.Needs.{needs}
 use Rattle.roles.proofs.preamble.said.Statement.{statement}

@@ -1,6 +1,6 @@
 -- `roles::preamble::word_role` meets its contract: the first byte tells the word. Assumes nothing.
 use borrow.Author.Tests.{not-true, not-false}
-use Rattle.roles.proofs.BehindLaws.{front-bounds}
+use Rattle.pieces.proofs.BehindLaws.{front-bounds}
 use Rattle.roles.proofs.PreambleLaws.{preamble-words}
 use borrow.Author.Needs.{needs}
 use Rattle.roles.proofs.preamble.word_role.Statement.{statement}

@@ -1,0 +1,2 @@
+pub mod ExpectationLaws
+pub mod MatcherLaws

@@ -1,0 +1,68 @@
+-- `matchers::expectations::expectation` meets its contract: the first byte tells the form. Assumes nothing.
+use Rattle.matchers.specs.ExpectAnswers.{expectOf}
+use Rattle.matchers.proofs.ExpectationLaws.{expect-words}
+use borrow.Author.Needs.{needs}
+use Rattle.matchers.proofs.expectations.expectation.Statement.{statement}
+use Rattle.matchers.proofs.expectations.expectation.Tie as tie
+
+first-byte-requires : tie.Need-first-byte-requires
+first-byte-requires c κs = search needs
+
+terminal-requires : tie.Need-terminal-requires
+terminal-requires c κs = search needs
+
+returns : tie.Need-returns
+returns c = search needs
+
+on-result-requires : tie.Need-on-result-requires
+on-result-requires c κs = search needs
+
+returns-2 : tie.Need-returns-2
+returns-2 c = search needs
+
+on-error-requires : tie.Need-on-error-requires
+on-error-requires c κs = search needs
+
+returns-3 : tie.Need-returns-3
+returns-3 c = search needs
+
+on-count-or-features-requires : tie.Need-on-count-or-features-requires
+on-count-or-features-requires c κs = search needs
+
+returns-4 : tie.Need-returns-4
+returns-4 c = search needs
+
+on-daemon-requires : tie.Need-on-daemon-requires
+on-daemon-requires c κs = search needs
+
+returns-5 : tie.Need-returns-5
+returns-5 c = search needs
+
+on-trust-requires : tie.Need-on-trust-requires
+on-trust-requires c κs = search needs
+
+returns-6 : tie.Need-returns-6
+returns-6 c = search needs
+
+returns-7 : tie.Need-returns-7
+unfolding expectOf
+returns-7 c = search (needs, expect-words)
+
+pub expectation-spec : {M : Type 1} → statement M
+expectation-spec =
+    tie.close
+    (tie.spec
+    first-byte-requires
+    terminal-requires
+    returns
+    on-result-requires
+    returns-2
+    on-error-requires
+    returns-3
+    on-count-or-features-requires
+    returns-4
+    on-daemon-requires
+    returns-5
+    on-trust-requires
+    returns-6
+    returns-7)

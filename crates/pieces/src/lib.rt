@@ -1,0 +1,3 @@
+// Pieces of the text, as the definitions speak of them: spans that lie inside it.
+pub mod fronts;
+pub mod pieces;

@@ -1,9 +1,0 @@
--- What the code's answer about a timestamp says. Assumes nothing.
-use Rattle.script.specs.Answers.{Answer, given, refused}
-use Rattle.script.specs.declared.records.Time.{Time}
-use Rattle.roles.specs.declared.timestamps.TimeAnswer.{TimeAnswer}
-use Rattle.roles.specs.declared.timestamps.TimeAnswer.the-variants.{Read, Bad}
-
-unfoldable pub timeRead : TimeAnswer → Answer Time
-timeRead (Read t) = given t
-timeRead (Bad n) = refused n
