@@ -12,7 +12,7 @@ use borrow.Author.Tests.{eq-eqb, ne-eqb, eqb-true, eqb-false}
 use Rattle.text.specs.Base.{if_then_else_, _&_, part, QUOTE, BLANK}
 use Rattle.text.specs.Hex.{hexDecoded}
 use Rattle.text.specs.Unquote.{unquoted}
-use Rattle.text.specs.Parts.{span, partOf, startsWith, endsWith, position, foundOf, splitFrom, split, partAt}
+use Rattle.text.specs.Parts.{span, partOf, startsWith, position, foundOf, splitFrom, split, partAt}
 use Rattle.text.specs.Words.{wordsFrom, words, wordAt}
 use Rattle.text.specs.declared.parts.Found.{Found}
 use Rattle.text.specs.declared.parts.Found.the-variants.{At, Nothing}
@@ -20,7 +20,7 @@ use Rattle.text.specs.Trim.{trimPlace, whiteBytes, sizeOf}
 use Rattle.text.specs.declared.parts.Span.{Span}
 use Rattle.text.specs.declared.parts.Part.{Part}
 use Rattle.text.proofs.LiteralLaws.{codes, begins-as}
-use Rattle.text.proofs.Scan.{rest-more, rest-none, by-cases, by-test, both, never}
+use Rattle.text.proofs.Scan.{rest-more, rest-none, by-cases, by-test, both}
 use Rattle.text.proofs.PartLaws.{partsAt}
 use Rattle.text.proofs.PartLaws as Parts
 use Rattle.text.proofs.WordLaws.{wordsAt, known}
@@ -32,12 +32,13 @@ use Rattle.script.specs.Answers.{firstOf}
 use Rattle.script.specs.Pieces.{Cut, cutAt, bytes, isEmpty, inner, begins, ends, behind, trim, cutOr}
 use Rattle.script.specs.Pieces as Pieces
 use Rattle.script.specs.Operations.{formOf}
-use Rattle.script.specs.Sets.{COMMA, CLOSING-BRACE, PathSet, nonEmpty, trimmedItems, pathItems, bracedSet, plainSet, pathSet, features}
+use Rattle.script.specs.Sets.{COMMA, CLOSING-BRACE, nonEmpty, trimmedItems, pathItems, bracedSet, plainSet, features}
 use Rattle.script.specs.Values.{withoutQuotes, inlineOf, framed}
-use Rattle.script.specs.Contents.{itemsIn, givenBytes, givenData, unquotedOf, hexOf, dataOf}
+use Rattle.script.specs.Contents.{givenBytes, givenData, unquotedOf, hexOf, dataOf}
 use Rattle.script.specs.Layout.{storedOf}
 use Rattle.script.specs.Inside.{In}
-use Rattle.parse.specs.CountRead.{itemsOr, bracedItems, itemsBy}
+use Rattle.tables.proofs.ItemLaws.{items-by, end-fits}
+use Rattle.tables.specs.SetRead.{itemsOr, bracedItems, itemsBy}
 use Rattle.roles.specs.OpeningRead.{halves, setPlace}
 use Rattle.roles.specs.declared.openings.Halves.{Halves}
 use Rattle.roles.specs.declared.openings.SetPlace.{SetPlace}
@@ -46,7 +47,7 @@ use Rattle.parse.specs.Measure.{setCount, quotedCount, dataCount, rawCou
 use Rattle.script.proofs.Inside.{length-bytes, trim-in, position-in}
 use Rattle.pieces.proofs.PieceLaws.{trim-end}
 use Rattle.pieces.proofs.BehindLaws.{behind-none, behind-some, behind-in, cut-none, cut-some}
-use Rattle.roles.proofs.OpeningLaws.{cut-or-none, cut-or-some}
+use Rattle.pieces.proofs.CutLaws.{cut-or-none, cut-or-some}
 use Rattle.script.proofs.RolesInside.{cut-or-in}
 
 -- ---- the parts between separators
@@ -160,25 +161,15 @@ braced-fit text p i = go (position CLOSING-BRACE (bytes text p)) refl
 
 -- by what stands behind the opening brace
 module _ (text : List ℕ) (v : Span) where
-  in-braces : (r : Span) → behind text "{" (trim text v) ≡ some r → (o : Option PathSet) → bracedSet text r ≡ o → itemsIn text v ≡ itemsOr o
-  unfolding itemsIn pathSet itemsOr
-  in-braces r e none h = rw (e, pathSet, h, itemsIn)
-  in-braces r e (some s) h = rw (e, pathSet, h, itemsIn)
-
-  items-by : (o : Option Span) → behind text "{" (trim text v) ≡ o → itemsIn text v ≡ itemsBy text (trim text v) o
-  unfolding itemsIn pathSet itemsBy bracedItems itemsOr
-  items-by none e = rw (e, pathSet, itemsIn)
-  items-by (some r) e = in-braces r e (bracedSet text r) refl
-
   -- q is the value trimmed, b whether it begins with a brace
   module _ (q : Span) (z : q ≡ trim text v) (b : Bool) (e : b ≡ startsWith (codes "{") (bytes text q)) where
     pub set-braced : (n : ℕ) → b ≡ true → n ≡ length (bracedItems text (span (q .start + 1) (q .end))) → n ≡ setCount text v
     unfolding setCount itemsBy
-    set-braced n t k = k ∙ ap length (sym (items-by (some (span (q .start + 1) (q .end))) (rw (← z) (behind-some text q "{" b e t))))
+    set-braced n t k = k ∙ ap length (sym (items-by text v (some (span (q .start + 1) (q .end))) (rw (← z) (behind-some text q "{" b e t))))
 
     set-plain : b ≡ false → setCount text v ≡ length (if isEmpty q then [] else (q ∷ []))
     unfolding setCount itemsBy plainSet
-    set-plain f = rw z (ap length (items-by none (rw (← z) (behind-none text q "{" b e f))))
+    set-plain f = rw z (ap length (items-by text v none (rw (← z) (behind-none text q "{" b e f))))
 
     pub set-empty : b ≡ false → q .start ≡ q .end → 0 ≡ setCount text v
     unfolding isEmpty
@@ -459,35 +450,6 @@ module _ (text : List ℕ) (first last : ℕ) where
 pub ruleset filled-counts = (left-over, part-start, part-end, part-in, part-next, left-in, left-far, left-fall, part-more, left-few, left-few-1, left-same, left-next)
 
 -- ---- feature sets
-
--- no byte is both an opening and a closing brace
-two-braces : (s : List ℕ) → startsWith (0x7B ∷ []) s ≡ true → endsWith s CLOSING-BRACE ≡ true → 2 ≤ length s
-unfolding startsWith endsWith
-two-braces [] b d = never (sym b)
-two-braces (x ∷ []) b d =
-    let k = eqb-true x 0x7B (both (eqb x 0x7B) true b .0) in
-    let l = eqb-true x CLOSING-BRACE d in
-    absurd (omega arith)
-two-braces (x ∷ y ∷ s) b d = omega arith
-
--- b and d are the answers of `pieces::begins` and `pieces::ends_in`
-module _ (text : List ℕ) (q : Span) (b : Bool) (e : b ≡ startsWith (codes "{") (bytes text q)) where
-  pub unbraced : b ≡ false → false ≡ begins text "{" q & ends text q CLOSING-BRACE
-  unfolding begins
-  unbraced f = rw (begins-as "{" (bytes text q), ← e, f)
-
-  module _ (d : Bool) (k : d ≡ endsWith (bytes text q) CLOSING-BRACE) (t : b ≡ true) where
-    pub by-end : d ≡ begins text "{" q & ends text q CLOSING-BRACE
-    unfolding begins ends
-    by-end = rw (begins-as "{" (bytes text q), ← e, t, ← k)
-
-    pub end-fits : In text q → d ≡ true → q .start + 2 ≤ q .end
-    end-fits i f = omega (arith, two-braces (bytes text q) (sym e ∙ t) (sym k ∙ f), length-bytes text q i, i .forward)
-
-pub no-end : (q : Span) → false ≡ true → q .start + 2 ≤ q .end
-no-end q e = never (sym e)
-
-pub ruleset brace-tests = (unbraced, by-end, end-fits, no-end)
 
 -- b is the answer of `in_braces`
 module _ (text : List ℕ) (v q : Span) (z : q ≡ trim text v) (b : Bool) (e : b ≡ begins text "{" q & ends text q CLOSING-BRACE) where

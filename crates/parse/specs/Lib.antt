@@ -1,4 +1,3 @@
 pub mod Bounds
-pub mod CountRead
 pub mod Measure
 pub mod MeasureRead

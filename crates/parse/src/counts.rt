@@ -3,14 +3,12 @@ ghost use mathlib.Core.Path.{_≡_};
 ghost use mathlib.Core.Bool.{true};
 ghost use Prim.Native.Nat.{_+_, _≤_};
 ghost use lib.ListN.{length};
-ghost use Rattle.text.specs.Base.{_&_};
 ghost use Rattle.text.specs.Parts.{split};
 ghost use Rattle.text.specs.Words.{words};
 ghost use Rattle.script.specs.Operations.{formOf};
-ghost use Rattle.script.specs.Pieces.{begins, ends};
-ghost use Rattle.script.specs.Sets.{COMMA, CLOSING-BRACE, nonEmpty, trimmedItems, pathItems};
+ghost use Rattle.script.specs.Sets.{COMMA, nonEmpty, trimmedItems, pathItems};
 ghost use Rattle.script.specs.Inside.{In};
-ghost use Rattle.parse.specs.CountRead.{bracedItems};
+ghost use Rattle.tables.specs.SetRead.{bracedItems};
 ghost use Rattle.parse.specs.Measure.{setCount, quotedCount, dataCount, rawCount, featureCount, inlineItems};
 use roles::openings::SetPlace;
 use text::parts::Found;
@@ -127,18 +125,6 @@ fn word_count(s: &[u8]) -> usize
     n
 }
 
-// Whether the piece stands in braces.
-fn in_braces(text: &[u8], q: Span) -> bool
-    requires { ⌜ In (now text) q ⌝ }
-    ensures { λ r. ⌜ r ≡ begins (now (text .entry)) "{" q & ends (now (text .entry)) q CLOSING-BRACE ⌝ }
-    ensures { λ r. ⌜ (r ≡ true → q .start + 2 ≤ q .end) ⌝ }
-{
-    if pieces::pieces::begins(text, q, b"{") {
-        return pieces::pieces::ends_in(text, q, 0x7D);
-    }
-    false
-}
-
 // The items of a feature set.
 pub fn feature_count(text: &[u8], v: Span) -> usize
     requires { ⌜ In (now text) v ⌝ }
@@ -148,7 +134,7 @@ pub fn feature_count(text: &[u8], v: Span) -> usize
     let q = pieces::pieces::trimmed(text, v);
     let start = q.start;
     let end = q.end;
-    if in_braces(text, q) {
+    if tables::sets::in_braces(text, q) {
         return filled_count(
             text,
             Span {

@@ -1,2 +1,3 @@
 pub mod BehindLaws
+pub mod CutLaws
 pub mod PieceLaws

@@ -1,6 +1,6 @@
 -- `parse::counts::braced_count` meets its contract. Assumes nothing.
 use Rattle.pieces.proofs.BehindLaws.{sums}
-use Rattle.roles.proofs.OpeningLaws.{before-in}
+use Rattle.pieces.proofs.CutLaws.{before-in}
 use Rattle.parse.proofs.CountLaws.{set-counts}
 use borrow.Author.Needs.{needs}
 use Rattle.parse.proofs.counts.braced_count.Statement.{statement}

@@ -8,7 +8,7 @@ use Rattle.text.specs.declared.parts.Found.the-variants.{At, Nothing}
 use Rattle.text.specs.declared.parts.Span.{Span}
 use Rattle.script.specs.Pieces.{cutInto, bytes, cutOr}
 use Rattle.pieces.proofs.BehindLaws.{sums}
-use Rattle.roles.proofs.OpeningLaws.{cut-or-none, cut-or-some, before-in, after-in, empty-in}
+use Rattle.pieces.proofs.CutLaws.{cut-or-none, cut-or-some, before-in, after-in, empty-in}
 use borrow.Author.Needs.{needs}
 use Rattle.roles.proofs.openings.cut_or.Statement.{statement}
 use Rattle.roles.proofs.openings.cut_or.Tie as tie

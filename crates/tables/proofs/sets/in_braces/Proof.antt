@@ -1,8 +1,8 @@
--- `parse::counts::in_braces` meets its contract. Assumes nothing.
-use Rattle.parse.proofs.CountLaws.{brace-tests}
+-- `tables::sets::in_braces` meets its contract. Assumes nothing.
+use Rattle.tables.proofs.ItemLaws.{brace-tests}
 use borrow.Author.Needs.{needs}
-use Rattle.parse.proofs.counts.in_braces.Statement.{statement}
-use Rattle.parse.proofs.counts.in_braces.Tie as tie
+use Rattle.tables.proofs.sets.in_braces.Statement.{statement}
+use Rattle.tables.proofs.sets.in_braces.Tie as tie
 
 slice-aggregate-begins : tie.Need-slice-aggregate-begins
 slice-aggregate-begins c = search needs

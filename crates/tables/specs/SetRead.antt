@@ -1,9 +1,15 @@
--- What the code counts on its way to the counts of `Measure`. Assumes nothing.
+-- What the code writes on its way to the items of a set. Assumes nothing.
 use Prim.Native.Nat.{ℕ}
+use mathlib.Core.Bool.{Bool, true, false}
 use mathlib.Core.List.{List, []}
 use mathlib.Core.Option.{Option, none, some}
 use Rattle.text.specs.declared.parts.Span.{Span}
-use Rattle.script.specs.Sets.{PathSet, bracedSet, plainSet}
+use Rattle.script.specs.Sets.{PathSet, nonEmpty, bracedSet, plainSet}
+
+-- the items that are written: all of them, or those that are not empty
+unfoldable pub taken : (keep : Bool) → List Span → List Span
+taken true ps = ps
+taken false ps = nonEmpty ps
 
 unfoldable pub itemsOr : Option PathSet → List Span
 itemsOr none = []

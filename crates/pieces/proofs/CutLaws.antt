@@ -1,5 +1,4 @@
--- Words at the front of a piece and the first byte of a kind in it: from what the code's tests answer to `behind`, `cut` and `cutOr` of the definition.
--- Assumes nothing.
+-- Laws of a piece cut at the first byte of a kind: from what the code's search answers to `cutOr` of the definition. Assumes nothing.
 use Prim.Native.Nat.{ℕ, _+_}
 use mathlib.Core.Path.{_≡_}
 use mathlib.Core.List.{List}

@@ -1,0 +1,157 @@
+-- Laws of what is written into a table: nothing, one more, two runs in a row, and a loop that writes one after another. Assumes nothing.
+use Prim.Native.Nat.{ℕ, suc, _+_, _-_, _≤_, _<_}
+use mathlib.Core.Path.{_≡_, sym, ap, _∙_}
+use mathlib.Core.List.{List, [], _∷_, _++_, append-assoc, append-nil}
+use native.Mathlib.Nat.{add-zero, zero-add}
+use native.Mathlib.Omega.{arith}
+use lib.ListN.{length, take, drop, set, length-append, length-drop, drop-of-length-le}
+use lib.Seq.{sets, sets-eq, length-sets, length-take-le, take-add, take-all, drop-drop}
+use borrow.Author.Tests.{le-leb}
+use borrow.Rule.Slice.PartMut.{midOf, putMid}
+use Rattle.text.specs.Base.{overlaid}
+use Rattle.tables.specs.Written.{writtenAt}
+
+module _ {A : Type 0} where
+  -- stored one by one
+  written-sets : (at : ℕ) (xs t : List A) → at + length xs ≤ length t → writtenAt at xs t ≡ sets t at xs
+  unfolding writtenAt
+  written-sets at xs t h = sym (sets-eq xs t at h)
+
+  sets-twice : (at : ℕ) (xs ys t : List A) → sets (sets t at xs) (at + length xs) ys ≡ sets t at (xs ++ ys)
+  sets-twice at [] ys t = rw (add-zero at)
+  sets-twice at (x ∷ xs) ys t = let e : at + suc (length xs) ≡ suc at + length xs = omega arith in rw e (sets-twice (suc at) xs ys (set t at x))
+
+  -- writing nothing changes nothing
+  pub written-none : (at : ℕ) (t : List A) → at ≤ length t → writtenAt at [] t ≡ t
+  written-none at t h = written-sets at [] t (omega arith)
+
+  -- a table keeps its length
+  pub written-length : (at : ℕ) (xs t : List A) → at + length xs ≤ length t → length (writtenAt at xs t) ≡ length t
+  written-length at xs t h = rw (written-sets at xs t h) (length-sets t at xs)
+
+  -- one element is one store
+  pub written-one : (at : ℕ) (x : A) (t : List A) → at < length t → writtenAt at (x ∷ []) t ≡ set t at x
+  written-one at x t h = written-sets at (x ∷ []) t (omega arith)
+
+  -- two runs in a row are one
+  pub written-twice : (at : ℕ) (xs ys t : List A) → at + length xs + length ys ≤ length t → writtenAt (at + length xs) ys (writtenAt at xs t) ≡ writtenAt at (xs ++ ys) t
+  written-twice at xs ys t h =
+      let k : at + length xs ≤ length t = omega arith in
+      rw (
+        written-sets (at + length xs) ys (writtenAt at xs t) (omega (arith, written-length at xs t k)),
+        written-sets at xs t k,
+        written-sets at (xs ++ ys) t (omega (arith, length-append xs ys)),
+      )
+      (sets-twice at xs ys t)
+
+  -- one element more
+  pub written-more : (at : ℕ) (xs : List A) (x : A) (t : List A) → at + length xs < length t → writtenAt at (xs ++ (x ∷ [])) t ≡ set (writtenAt at xs t) (at + length xs) x
+  written-more at xs x t h =
+      sym (written-twice at xs (x ∷ []) t (omega arith))
+      ∙ written-one (at + length xs) x (writtenAt at xs t) (omega (arith, written-length at xs t (omega arith)))
+
+-- ---- what a function writes is what another wrote, or little
+
+-- the same elements have the same room, are as many, and are written alike
+module _ {A : Type 0} (xs ys : List A) (e : xs ≡ ys) where
+  pub same-room : (at m : ℕ) → at + length xs ≤ m → at + length ys ≤ m
+  same-room at m h = rw e at h
+
+  pub same-count : (n : ℕ) → n ≡ length ys → n ≡ length xs
+  same-count n h = rw e h
+
+  pub same-written : (at : ℕ) (t u : List A) → u ≡ writtenAt at ys t → u ≡ writtenAt at xs t
+  same-written at t u h = rw e h
+
+pub ruleset same-laws = (same-room, same-count, same-written)
+
+-- nothing is written; one is
+module _ {A : Type 0} (xs : List A) where
+  pub none-count : xs ≡ [] → 0 ≡ length xs
+  none-count e = sym (ap length e)
+
+  pub none-written : (at : ℕ) (t : List A) → xs ≡ [] → at + length xs ≤ length t → t ≡ writtenAt at xs t
+  none-written at t e h = rw e (sym (written-none at t (omega arith)))
+
+  module _ (x : A) (e : xs ≡ x ∷ []) where
+    pub one-count : 1 ≡ length xs
+    one-count = sym (ap length e)
+
+    pub one-room : (at m : ℕ) → at + length xs ≤ m → at < m
+    one-room at m h = omega (arith, one-count)
+
+pub ruleset none-laws = (none-count, none-written)
+
+-- two, one after the other
+pub two-written : {A : Type 0} (at : ℕ) (x y : A) (t u w : List A) → u ≡ writtenAt at (x ∷ []) t → w ≡ writtenAt (at + 1) (y ∷ []) u → at + 2 ≤ length t → w ≡ writtenAt at (x ∷ y ∷ []) t
+two-written at x y t u w p q h = q ∙ ap (writtenAt (at + 1) (y ∷ [])) p ∙ written-twice at (x ∷ []) (y ∷ []) t (omega arith)
+
+-- ys, written at the front of the part from `at` on, if there is room
+pub part-written : (xs ys : List ℕ) (at : ℕ) (t u : List ℕ) → xs ≡ ys → at + length xs ≤ length t → u ≡ overlaid ys (midOf at (length t - at) t) → putMid at (length t - at) t u ≡ writtenAt at xs t
+unfolding overlaid writtenAt
+part-written xs ys at t u e h k =
+    let l = length-drop at t in
+    rw (
+      drop-of-length-le (drop at t) {i = length t - at} (omega arith),
+      append-nil u,
+      k,
+      take-all (length t - at) (drop at t) (omega arith),
+      ← e,
+      le-leb (length xs) (length (drop at t)) (omega arith),
+      drop-drop (length xs) at t,
+    )
+    (sym (append-assoc (take at t) xs (drop (at + length xs) t)))
+
+-- ---- a loop that writes one after another
+
+-- From `at` on, n of all are written; `left` is still to come. `first` is the table as it was, `now` as it is.
+pub record Filling {A : Type 0} (at : ℕ) (all first now : List A) (n : ℕ) (left : List A) : Type 0 where
+  pub room : at + length all ≤ length first
+  pub count : n + length left ≡ length all
+  pub rest : drop n all ≡ left
+  pub done : now ≡ writtenAt at (take n all) first
+
+module _ {A : Type 0} (at : ℕ) (all first : List A) where
+  -- nothing is written yet
+  pub filling-begun : (left : List A) → all ≡ left → at + length all ≤ length first → Filling at all first first 0 left
+  filling-begun left e h = record { room = h; count = zero-add (length left) ∙ sym (ap length e); rest = e; done = sym (written-none at first (omega arith)) }
+
+  module _ (now : List A) (n : ℕ) (left : List A) (f : Filling at all first now n left) where
+    so-far : length (take n all) ≡ n
+    so-far = length-take-le n all (omega (arith, f .count))
+
+    -- the table keeps its length
+    pub filling-length : length now ≡ length first
+    filling-length = ap length (f .done) ∙ written-length at (take n all) first (omega (arith, so-far, f .room, f .count))
+
+    -- nothing is left: all are written
+    pub filled : left ≡ [] → (n ≡ length all) × (now ≡ writtenAt at all first)
+    filled e =
+        let l : length left ≡ 0 = ap length e in
+        (omega (arith, f .count), f .done ∙ ap (λ (xs : List A). writtenAt at xs first) (take-all n all (omega (arith, f .count))))
+
+    -- x comes next
+    module _ (x : A) (later : List A) (e : left ≡ x ∷ later) where
+      longer : length left ≡ suc (length later)
+      longer = ap length e
+
+      -- there is room for it
+      pub filling-room : at + n < length now
+      filling-room = omega (arith, longer, filling-length, f .room, f .count)
+
+      next-taken : take (n + 1) all ≡ take n all ++ (x ∷ [])
+      next-taken = take-add n 1 all ∙ ap (λ (l : List A). take n all ++ take 1 l) (f .rest ∙ e)
+
+      -- it is written
+      pub filling-more : (after : List A) → after ≡ writtenAt (at + n) (x ∷ []) now → Filling at all first after (n + 1) later
+      filling-more after h = record {
+        room = f .room;
+        count = omega (arith, longer, f .count);
+        rest = sym (drop-drop 1 n all) ∙ ap (drop 1) (f .rest ∙ e);
+        done =
+            h
+            ∙ ap (λ (k : ℕ). writtenAt (at + k) (x ∷ []) now) (sym so-far)
+            ∙ ap (writtenAt (at + length (take n all)) (x ∷ [])) (f .done)
+            ∙ written-twice at (take n all) (x ∷ []) first (omega (arith, so-far, longer, f .room, f .count))
+            ∙ ap (λ (xs : List A). writtenAt at xs first) (sym next-taken);
+      }

@@ -1,0 +1,2 @@
+pub mod SetRead
+pub mod Written
