@@ -1,0 +1,4 @@
+pub mod CallLaws
+pub mod PreambleLaws
+pub mod RecordLaws
+pub mod SaidLaws

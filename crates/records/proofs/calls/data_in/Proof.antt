@@ -1,0 +1,54 @@
+-- `records::calls::data_in` meets its contract. Assumes nothing.
+use Rattle.records.proofs.CallLaws.{data-laws}
+use borrow.Author.Needs.{needs}
+use Rattle.records.proofs.calls.data_in.Statement.{statement}
+use Rattle.records.proofs.calls.data_in.Tie as tie
+
+slice-aggregate-begins : tie.Need-slice-aggregate-begins
+slice-aggregate-begins c = search needs
+
+begins-requires : tie.Need-begins-requires
+begins-requires c κs = search needs
+
+placed-requires : tie.Need-placed-requires
+placed-requires c κs = search needs
+
+returns : tie.Need-returns
+returns c = search (needs, data-laws)
+
+slice-aggregate-begins-2 : tie.Need-slice-aggregate-begins-2
+slice-aggregate-begins-2 c = search needs
+
+begins-requires-2 : tie.Need-begins-requires-2
+begins-requires-2 c κs = search needs
+
+add-t15 : tie.Need-add-t15
+add-t15 c = search needs
+
+place-of-requires : tie.Need-place-of-requires
+place-of-requires c κs = search (needs, data-laws)
+
+returns-2 : tie.Need-returns-2
+returns-2 c = search (needs, data-laws)
+
+placed-requires-2 : tie.Need-placed-requires-2
+placed-requires-2 c κs = search needs
+
+returns-3 : tie.Need-returns-3
+returns-3 c = search (needs, data-laws)
+
+pub data-in-spec : {M : Type 1} → statement M
+data-in-spec =
+    tie.close
+    (tie.spec
+    slice-aggregate-begins
+    begins-requires
+    placed-requires
+    returns
+    slice-aggregate-begins-2
+    begins-requires-2
+    add-t15
+    place-of-requires
+    returns-2
+    placed-requires-2
+    returns-3)

@@ -1,0 +1,3 @@
+pub mod RecordRead
+pub mod Records
+pub mod Said
