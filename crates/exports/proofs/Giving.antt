@@ -4,9 +4,9 @@ use mathlib.Core.Path.{_≡_}
 use mathlib.Core.Bool.{true, false}
 use mathlib.Core.Option.{Option, none, some}
 use lib.IntN.{ℤ}
-use Rattle.text.specs.Numbers.{numberOf, integerOf}
-use Rattle.text.specs.declared.number.Number.{Number}
-use Rattle.text.specs.declared.number.Integer.{Integer}
+use Rattle.values.specs.Numbers.{numberOf, integerOf}
+use Rattle.values.specs.declared.number.Number.{Number}
+use Rattle.values.specs.declared.number.Integer.{Integer}
 use Rattle.exports.specs.Given.{isGiven, givenOr}
 
 module _ {A : Type 0} (o : Option A) where

@@ -6,15 +6,15 @@ ghost use Rattle.text.specs.Base.{overlaid};
 ghost use Rattle.text.specs.Utf8.{wellFormed};
 ghost use Rattle.text.specs.Trim.{trimPlace};
 ghost use Rattle.text.specs.Lines.{lines, trimmedLength};
-ghost use Rattle.text.specs.Numbers.{number, signed, numberOf, integerOf};
-ghost use Rattle.text.specs.Hex.{hexDecoded};
-ghost use Rattle.text.specs.Unquote.{unquoted};
+ghost use Rattle.values.specs.Numbers.{number, signed, numberOf, integerOf};
+ghost use Rattle.values.specs.Hex.{hexDecoded};
+ghost use Rattle.values.specs.Unquote.{unquoted};
 ghost use Rattle.script.specs.Reading.{measured};
 ghost use Rattle.exports.specs.Answered.{refusedAs, lineOf, countsOr};
 ghost use Rattle.exports.specs.Given.{isGiven, givenOr};
 use parse::measure::Measured;
-use text::number::Integer;
-use text::number::Number;
+use values::number::Integer;
+use values::number::Number;
 
 // Whether the bytes are well-formed UTF-8.
 #[no_mangle]
@@ -56,7 +56,7 @@ pub extern "C" fn nwscript_trimmed_bytes(text: &[u8]) -> usize
 pub extern "C" fn nwscript_hex_len(s: &[u8]) -> usize
     ensures { λ r. ⌜ r ≡ length (hexDecoded (now (s .entry))) ⌝ }
 {
-    text::hex::hex_len(s)
+    values::hex::hex_len(s)
 }
 
 // The bytes that s spells in hex, at the front of out if there is room; how many they are.
@@ -65,7 +65,7 @@ pub extern "C" fn nwscript_hex(s: &[u8], out: &mut [u8]) -> usize
     ensures { λ r. ⌜ r ≡ length (hexDecoded (now (s .entry))) ⌝ }
     ensures { λ _. ⌜ now (out .exit) ≡ overlaid (hexDecoded (now (s .entry))) (now (out .entry)) ⌝ }
 {
-    text::hex::hex_decode(s, out)
+    values::hex::hex_decode(s, out)
 }
 
 // How many bytes s has unquoted.
@@ -73,7 +73,7 @@ pub extern "C" fn nwscript_hex(s: &[u8], out: &mut [u8]) -> usize
 pub extern "C" fn nwscript_unquoted_len(s: &[u8]) -> usize
     ensures { λ r. ⌜ r ≡ length (unquoted (now (s .entry))) ⌝ }
 {
-    text::unquote::unquoted_len(s)
+    values::unquote::unquoted_len(s)
 }
 
 // s unquoted, at the front of out if there is room; how many bytes that are.
@@ -82,7 +82,7 @@ pub extern "C" fn nwscript_unquote(s: &[u8], out: &mut [u8]) -> usize
     ensures { λ r. ⌜ r ≡ length (unquoted (now (s .entry))) ⌝ }
     ensures { λ _. ⌜ now (out .exit) ≡ overlaid (unquoted (now (s .entry))) (now (out .entry)) ⌝ }
 {
-    text::unquote::unquote(s, out)
+    values::unquote::unquote(s, out)
 }
 
 // A number that was read goes into value; else value is left alone.
@@ -105,7 +105,7 @@ pub extern "C" fn nwscript_u64(s: &[u8], value: &mut u64) -> bool
     ensures { λ r. ⌜ r ≡ isGiven (number (2 ^ 64) (now (s .entry))) ⌝ }
     ensures { λ _. ⌜ now (value .exit) ≡ givenOr (number (2 ^ 64) (now (s .entry))) (now (value .entry)) ⌝ }
 {
-    give(text::number::parse_u64(s), value)
+    give(values::number::parse_u64(s), value)
 }
 
 #[no_mangle]
@@ -113,7 +113,7 @@ pub extern "C" fn nwscript_u16(s: &[u8], value: &mut u64) -> bool
     ensures { λ r. ⌜ r ≡ isGiven (number (2 ^ 16) (now (s .entry))) ⌝ }
     ensures { λ _. ⌜ now (value .exit) ≡ givenOr (number (2 ^ 16) (now (s .entry))) (now (value .entry)) ⌝ }
 {
-    give(text::number::parse_u16(s), value)
+    give(values::number::parse_u16(s), value)
 }
 
 #[no_mangle]
@@ -121,7 +121,7 @@ pub extern "C" fn nwscript_u8(s: &[u8], value: &mut u64) -> bool
     ensures { λ r. ⌜ r ≡ isGiven (number (2 ^ 8) (now (s .entry))) ⌝ }
     ensures { λ _. ⌜ now (value .exit) ≡ givenOr (number (2 ^ 8) (now (s .entry))) (now (value .entry)) ⌝ }
 {
-    give(text::number::parse_u8(s), value)
+    give(values::number::parse_u8(s), value)
 }
 
 fn give_signed(n: Integer, value: &mut i64) -> bool
@@ -143,7 +143,7 @@ pub extern "C" fn nwscript_i64(s: &[u8], value: &mut i64) -> bool
     ensures { λ r. ⌜ r ≡ isGiven (signed (now (s .entry))) ⌝ }
     ensures { λ _. ⌜ now (value .exit) ≡ givenOr (signed (now (s .entry))) (now (value .entry)) ⌝ }
 {
-    give_signed(text::number::parse_i64(s), value)
+    give_signed(values::number::parse_i64(s), value)
 }
 
 // Measure: the number of the refusal, or 0. What is lent takes the refusal's line, or 0, and the counts, which are 0 where the text is refused.

@@ -10,11 +10,11 @@ use mir.Syntax.{w64}
 use mir.Val.{SFits, toZ, ofZ}
 use mir.ValLaws.{toZ-ofZ}
 use borrow.Author.Tests.{ne-eqb, le-ltb, lt-ltb}
-use Rattle.text.specs.Numbers.{signed, integerOf}
+use Rattle.values.specs.Numbers.{signed, integerOf}
 use Rattle.text.specs.Parts.{span, startsWith, endsWith}
 use Rattle.text.specs.declared.parts.Span.{Span}
-use Rattle.text.specs.declared.number.Integer.{Integer}
-use Rattle.text.specs.declared.number.Integer.the-variants.{Value, Bad}
+use Rattle.values.specs.declared.number.Integer.{Integer}
+use Rattle.values.specs.declared.number.Integer.the-variants.{Value, Bad}
 use Rattle.text.proofs.Scan.{and-false}
 use Rattle.script.specs.Answers.{Answer, given, refused, firstOf}
 use Rattle.script.specs.Pieces.{place, bytes, begins, ends, trim, inner}

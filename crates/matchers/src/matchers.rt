@@ -2,7 +2,7 @@
 ghost use mathlib.Core.Path.{_≡_};
 ghost use Prim.Native.Nat.{_+_, _≤_};
 ghost use lib.ListN.{getD};
-ghost use Rattle.text.specs.Numbers.{signed, integerOf};
+ghost use Rattle.values.specs.Numbers.{signed, integerOf};
 ghost use Rattle.text.specs.Parts.{span};
 ghost use Rattle.script.specs.Pieces.{bytes, trim, place};
 ghost use Rattle.script.specs.Expectations.{matcher};
@@ -10,8 +10,8 @@ ghost use Rattle.script.specs.Inside.{In};
 ghost use Rattle.matchers.specs.ExpectAnswers.{matcherOf};
 use script::records::Matcher;
 use script::records::Place;
-use text::number::Integer;
 use text::parts::Span;
+use values::number::Integer;
 
 // A matcher, or a refusal with its number in document 01.
 pub enum MatcherAnswer {
@@ -41,7 +41,7 @@ fn number_behind(text: &[u8], s: Span, n: usize) -> Integer
     let t = pieces::fronts::behind_trimmed(text, s, n);
     let start = t.start;
     let end = t.end;
-    text::number::parse_i64(&text[start..end])
+    values::number::parse_i64(&text[start..end])
 }
 
 // A matcher that begins with `>`.

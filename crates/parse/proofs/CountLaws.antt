@@ -10,8 +10,8 @@ use lib.Dec.{eqb}
 use lib.ListN.{length, getD, drop, replicate, length-map}
 use borrow.Author.Tests.{eq-eqb, ne-eqb, eqb-true, eqb-false}
 use Rattle.text.specs.Base.{if_then_else_, _&_, part, QUOTE, BLANK}
-use Rattle.text.specs.Hex.{hexDecoded}
-use Rattle.text.specs.Unquote.{unquoted}
+use Rattle.values.specs.Hex.{hexDecoded}
+use Rattle.values.specs.Unquote.{unquoted}
 use Rattle.text.specs.Parts.{span, partOf, startsWith, position, foundOf, splitFrom, split, partAt}
 use Rattle.text.specs.Words.{wordsFrom, words, wordAt}
 use Rattle.text.specs.declared.parts.Found.{Found}
@@ -24,8 +24,8 @@ use Rattle.text.proofs.Scan.{rest-more, rest-none, by-cases, by-test, both}
 use Rattle.text.proofs.PartLaws.{partsAt}
 use Rattle.text.proofs.PartLaws as Parts
 use Rattle.text.proofs.WordLaws.{wordsAt, known}
-use Rattle.text.proofs.HexLaws.{trailing-quotes, hex-half}
-use Rattle.text.proofs.UnquoteLaws.{unquoted-shorter}
+use Rattle.values.proofs.HexLaws.{trailing-quotes, hex-half}
+use Rattle.values.proofs.UnquoteLaws.{unquoted-shorter}
 use Rattle.wire.specs.declared.ops.Op.{Op}
 use Rattle.wire.specs.declared.ops.Op.the-variants.{IsValidPath, QueryReferrers, AddToStore, AddTextToStore, BuildPaths, EnsurePath, AddTempRoot, AddIndirectRoot, SyncWithGC, FindRoots, QueryDeriver, SetOptions, CollectGarbage, QuerySubstitutablePathInfo, QueryDerivationOutputs, QueryAllValidPaths, QueryPathInfo, QueryDerivationOutputNames, QueryPathFromHashPart, QuerySubstitutablePathInfos, QueryValidPaths, QuerySubstitutablePaths, QueryValidDerivers, OptimiseStore, VerifyStore, BuildDerivation, AddSignatures, NarFromPath, AddToStoreNar, QueryMissing, QueryDerivationOutputMap, RegisterDrvOutput, QueryRealisation, AddMultipleToStore, AddBuildLog, BuildPathsWithResults, AddPermRoot}
 use Rattle.script.specs.Answers.{firstOf}

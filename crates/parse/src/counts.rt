@@ -154,7 +154,7 @@ pub fn quoted_count(text: &[u8], v: Span) -> usize
 {
     let start = v.start;
     let end = v.end;
-    text::unquote::unquoted_len(&text[start..end])
+    values::unquote::unquoted_len(&text[start..end])
 }
 
 // The bytes of what follows `x"`. Quotes at its end are no hex digits, so they count for nothing.
@@ -165,7 +165,7 @@ pub fn raw_count(text: &[u8], v: Span) -> usize
 {
     let start = v.start;
     let end = v.end;
-    text::hex::hex_len(&text[start..end])
+    values::hex::hex_len(&text[start..end])
 }
 
 // The bytes of data that stands in the store; a file's name does not.
@@ -177,7 +177,7 @@ pub fn data_count(text: &[u8], v: Span) -> usize
     if pieces::pieces::begins(text, v, b"x\"") {
         let start = v.start + 2;
         let end = v.end;
-        return text::hex::hex_len(&text[start..end]);
+        return values::hex::hex_len(&text[start..end]);
     }
     0
 }

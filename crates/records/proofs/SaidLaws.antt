@@ -11,12 +11,12 @@ use lib.ListN.{length, getD, set, replicate, getD-replicate}
 use lib.Seq.{getD-set-same, getD-set-other}
 use borrow.Author.Tests.{lt-ltb, le-ltb, eqb-true, eqb-false}
 use Rattle.text.specs.Base.{if_then_else_}
-use Rattle.text.specs.Numbers.{number}
-use Rattle.text.specs.Numbers as Numbers
+use Rattle.values.specs.Numbers.{number}
+use Rattle.values.specs.Numbers as Numbers
 use Rattle.text.specs.Parts.{span, sameBytes}
 use Rattle.text.specs.declared.parts.Span.{Span}
-use Rattle.text.specs.declared.number.Number.{Number}
-use Rattle.text.specs.declared.number.Number.the-variants.{Value, Bad}
+use Rattle.values.specs.declared.number.Number.{Number}
+use Rattle.values.specs.declared.number.Number.the-variants.{Value, Bad}
 use Rattle.text.proofs.LiteralLaws.{codes, spells-as}
 use Rattle.script.specs.Pieces.{bytes}
 use Rattle.script.specs.Pieces as Pieces

@@ -8,8 +8,8 @@ ghost use Rattle.script.specs.Contents.{numberOf, flagOf};
 ghost use Rattle.script.specs.Inside.{In};
 ghost use Rattle.records.specs.Said.{pieceOf, pieceAt, SaidIn};
 use script::roles::Key;
-use text::number::Number;
 use text::parts::Span;
+use values::number::Number;
 
 // A value that may be missing.
 pub enum Piece {
@@ -88,7 +88,7 @@ fn number_in(text: &[u8], v: Span) -> u64
 {
     let start = v.start;
     let end = v.end;
-    match text::number::parse_u64(&text[start..end]) {
+    match values::number::parse_u64(&text[start..end]) {
         Number::Value(n) => n,
         Number::Bad => 0,
     }

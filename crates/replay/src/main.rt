@@ -50,7 +50,7 @@ fn case_of(word: &[u8], bytes: &[u8]) -> Case {
 
 // A case by its word and its bytes in hex, which are decoded into the room lent.
 fn case_in(word: &[u8], hex: &[u8], room: &mut [u8]) -> Case {
-    let n = text::hex::hex_decode(hex, room);
+    let n = values::hex::hex_decode(hex, room);
     if room.len() < n {
         return Case::Other;
     }

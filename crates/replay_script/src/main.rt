@@ -10,7 +10,7 @@ ghost use Rattle.replay_script.specs.Answers.{answerOf, sameAnswer, agre
 ghost use Rattle.replay_script.specs.Tallies.{counted, total};
 use libc::STDOUT_FILENO;
 use parse::measure::Measured;
-use text::number::Number;
+use values::number::Number;
 
 // An answer of Measure, in the numbers of a line.
 struct Answer {
@@ -108,7 +108,7 @@ fn replay(text: &[u8], stored: Answer) -> Case
 
 // A text in hex, which is decoded into the room lent. Decoding passes over what is no pair of digits, so the lengths are compared.
 fn replay_hex(hex: &[u8], room: &mut [u8], stored: Answer) -> Case {
-    let n = text::hex::hex_decode(hex, room);
+    let n = values::hex::hex_decode(hex, room);
     if room.len() < n {
         return Case::Wrong;
     }
@@ -133,7 +133,7 @@ fn numbers(line: &[u8], from: usize) -> Stored
         let w = text::words::word_at(line, at);
         let start = w.start;
         let end = w.end;
-        let Number::Value(v) = text::number::parse_u64(&line[start..end]) else {
+        let Number::Value(v) = values::number::parse_u64(&line[start..end]) else {
             return Stored::Bad;
         };
         n[i] = v;

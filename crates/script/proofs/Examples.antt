@@ -22,14 +22,14 @@ use Rattle.script.specs.Sets as script-Sets
 use Rattle.script.specs.Timestamps as script-Timestamps
 use Rattle.script.specs.Values as script-Values
 use Rattle.text.specs.Base as text-Base
-use Rattle.text.specs.Hex as text-Hex
+use Rattle.values.specs.Hex as text-Hex
 use Rattle.text.specs.Lines as text-Lines
 use Rattle.text.specs.Literal as text-Literal
-use Rattle.text.specs.Numbers as text-Numbers
+use Rattle.values.specs.Numbers as text-Numbers
 use Rattle.text.specs.Parts as text-Parts
 use Rattle.text.specs.Trim as text-Trim
 use Rattle.text.specs.Unicode as text-Unicode
-use Rattle.text.specs.Unquote as text-Unquote
+use Rattle.values.specs.Unquote as text-Unquote
 use Rattle.text.specs.Utf8 as text-Utf8
 use Rattle.text.specs.Words as text-Words
 use Rattle.wire.specs.Operations as wire-Operations

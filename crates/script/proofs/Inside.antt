@@ -14,7 +14,7 @@ use lib.Seq.{length-take-le}
 use borrow.Author.Tests.{ltb-true}
 use Rattle.text.specs.Base.{if_then_else_, _&_, _or_, LF, CR}
 use Rattle.text.specs.Literal.{beginsWith, wordLength}
-use Rattle.text.specs.Numbers.{signed}
+use Rattle.values.specs.Numbers.{signed}
 use Rattle.text.specs.Lines.{linesFrom, lines}
 use Rattle.text.specs.Parts.{span, positionFrom, position}
 use Rattle.text.specs.declared.parts.Span.{Span}

@@ -5,7 +5,7 @@ use mathlib.Core.Bool.{Bool, true, false, not}
 use mathlib.Core.List.{List, [], _∷_, _++_}
 use mathlib.Core.Option.{Option, none, some}
 use Rattle.text.specs.Base.{if_then_else_, BLANK}
-use Rattle.text.specs.Numbers.{number}
+use Rattle.values.specs.Numbers.{number}
 use Rattle.text.specs.declared.parts.Span.{Span}
 use Rattle.wire.specs.Version.{version, defaultVersion}
 use Rattle.wire.specs.declared.ops.Op.{Op}

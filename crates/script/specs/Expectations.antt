@@ -5,7 +5,7 @@ use mathlib.Core.Option.{Option, none, some}
 use lib.Dec.{ltb}
 use lib.IntN.{ℤ}
 use Rattle.text.specs.Base.{if_then_else_, _&_}
-use Rattle.text.specs.Numbers.{signed}
+use Rattle.values.specs.Numbers.{signed}
 use Rattle.text.specs.declared.parts.Span.{Span}
 use Rattle.script.specs.Answers.{Answer, given, refused, _>>=_, firstOf}
 use Rattle.script.specs.Pieces.{place, bytes, begins, ends, behind, trim, inner, cut}

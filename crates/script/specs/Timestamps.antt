@@ -9,7 +9,7 @@ use lib.IntN.{pos}
 use Rattle.text.specs.Base.{if_then_else_, _&_, _or_, within, PLUS, MINUS}
 use Rattle.text.specs.Literal.{spells}
 use Rattle.text.specs.Parts.{span, pairPosition}
-use Rattle.text.specs.Numbers.{allDigits, decimalFrom}
+use Rattle.values.specs.Numbers.{allDigits, decimalFrom}
 use Rattle.text.specs.declared.parts.Span.{Span}
 use Rattle.wire.specs.Version.{DOT}
 use Rattle.script.specs.Answers.{Answer, given, refused}

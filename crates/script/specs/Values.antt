@@ -4,8 +4,8 @@ use mathlib.Core.List.{List, [], _∷_}
 use mathlib.Core.Option.{some}
 use lib.Dec.{eqb}
 use Rattle.text.specs.Base.{if_then_else_, QUOTE}
-use Rattle.text.specs.Hex.{hexDecoded}
-use Rattle.text.specs.Unquote.{unquoted}
+use Rattle.values.specs.Hex.{hexDecoded}
+use Rattle.values.specs.Unquote.{unquoted}
 use Rattle.text.specs.declared.parts.Span.{Span}
 use Rattle.script.specs.Answers.{Answer, given, refused, _>>=_, firstOf}
 use Rattle.script.specs.Pieces.{bytes, behind}

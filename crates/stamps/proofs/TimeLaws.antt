@@ -9,7 +9,7 @@ use lib.Dec.{eqb}
 use lib.ListN.{length, getD, drop}
 use borrow.Author.Tests.{ne-eqb}
 use Rattle.text.specs.Base.{if_then_else_, _&_, within}
-use Rattle.text.specs.Numbers.{allDigits, decimalFrom}
+use Rattle.values.specs.Numbers.{allDigits, decimalFrom}
 use Rattle.text.proofs.Scan.{rest-more, rest-none, within-true, within-low, within-high, inside}
 use Rattle.script.specs.Timestamps.{Run, run, digitRun}
 

@@ -4,7 +4,7 @@ ghost use mathlib.Core.List.{[], map};
 ghost use Prim.Native.Nat.{_+_, _*_, _^_, _≤_};
 ghost use lib.ListN.{length, drop};
 ghost use Rattle.text.specs.Parts.{sameBytes};
-ghost use Rattle.text.specs.Numbers.{decimalFrom};
+ghost use Rattle.values.specs.Numbers.{decimalFrom};
 ghost use Rattle.script.specs.Timestamps.{run, digitRun, fraction, unsigned, negative, small, noFinite, exponent};
 ghost use Rattle.script.specs.Timestamps as definition;
 ghost use Rattle.stamps.specs.TimeRead.{timeRead};

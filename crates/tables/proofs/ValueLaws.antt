@@ -8,11 +8,11 @@ use lib.Dec.{eqb}
 use lib.ListN.{replicate}
 use borrow.Author.Tests.{eqb-true}
 use Rattle.text.specs.Base.{if_then_else_, QUOTE}
-use Rattle.text.specs.Hex.{hexDecoded}
-use Rattle.text.specs.Unquote.{unquoted}
+use Rattle.values.specs.Hex.{hexDecoded}
+use Rattle.values.specs.Unquote.{unquoted}
 use Rattle.text.specs.Parts.{span, startsWith}
 use Rattle.text.specs.declared.parts.Span.{Span}
-use Rattle.text.proofs.HexLaws.{trailing-quotes}
+use Rattle.values.proofs.HexLaws.{trailing-quotes}
 use Rattle.text.proofs.LiteralLaws.{codes}
 use Rattle.script.specs.Answers.{firstOf}
 use Rattle.script.specs.Pieces.{bytes, behind}

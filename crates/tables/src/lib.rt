@@ -1,3 +1,3 @@
 // What reading writes of one value into the table of items and into the store.
 pub mod sets;
-pub mod values;
+pub mod stored;

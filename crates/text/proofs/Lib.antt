@@ -1,9 +1,7 @@
 pub mod Front
-pub mod HexLaws
 pub mod LineLaws
 pub mod LineTheorem
 pub mod LiteralLaws
-pub mod NumberLaws
 pub mod PartLaws
 pub mod Scalars
 pub mod Scan
@@ -13,7 +11,5 @@ pub mod TrimChars
 pub mod TrimLaws
 pub mod TrimTheorem
 pub mod Unicode
-pub mod UnquoteLaws
 pub mod Utf8Laws
-pub mod ValueExamples
 pub mod WordLaws

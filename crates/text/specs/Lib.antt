@@ -1,15 +1,10 @@
 pub mod Base
-pub mod Hex
-pub mod HexWalk
 pub mod Lines
 pub mod LinesWalk
 pub mod Literal
-pub mod Numbers
 pub mod Parts
 pub mod Trim
 pub mod Unicode
-pub mod Unquote
-pub mod UnquoteWalk
 pub mod Utf8
 pub mod Utf8Walk
 pub mod Words

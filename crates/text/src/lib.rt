@@ -1,10 +1,7 @@
 // The words of document 01, "Lines and words": a text is a slice of bytes. Everything above this crate is built of these functions.
 pub mod byte;
-pub mod hex;
 pub mod lines;
-pub mod number;
 pub mod parts;
 pub mod trim;
-pub mod unquote;
 pub mod utf8;
 pub mod words;

@@ -7,12 +7,12 @@ use mathlib.Core.Option.{none, some}
 use native.Mathlib.Omega.{arith}
 use lib.ListN.{length}
 use Rattle.text.specs.Base.{part}
-use Rattle.text.specs.Numbers.{number, numberOf}
+use Rattle.values.specs.Numbers.{number, numberOf}
 use Rattle.text.specs.Parts.{split, partAt}
-use Rattle.text.specs.declared.number.Number.{Number}
-use Rattle.text.specs.declared.number.Number.the-variants as read
+use Rattle.values.specs.declared.number.Number.{Number}
+use Rattle.values.specs.declared.number.Number.the-variants as read
 use Rattle.text.specs.declared.parts.Part.{Part}
-use Rattle.text.proofs.NumberLaws.{number-below}
+use Rattle.values.proofs.NumberLaws.{number-below}
 use Rattle.text.proofs.PartLaws.{partsAt, Known, known}
 use Rattle.wire.specs.Version.{DOT, versioned, ofNumbers, ofParts, version}
 use Rattle.wire.specs.declared.handshake.ProtocolVersion.{ProtocolVersion}

@@ -3,7 +3,7 @@ use mathlib.Core.Path.{_≡_, refl}
 use mathlib.Core.Option.{none, some}
 use Rattle.text.specs.Base.{within}
 use Rattle.text.specs.Literal.{spells}
-use Rattle.text.specs.Numbers.{allDigits, decimalFrom, digits, number}
+use Rattle.values.specs.Numbers.{allDigits, decimalFrom, digits, number}
 use Rattle.text.specs.Parts.{splitFrom, split}
 use Rattle.text.proofs.LiteralLaws.{codes}
 use Rattle.wire.specs.Operations.{operation, first, named, coded}

@@ -4,7 +4,7 @@ use Prim.Native.Nat.{ℕ, _-_, _^_}
 use mathlib.Core.List.{List, [], _∷_}
 use mathlib.Core.Option.{Option, none, some}
 use Rattle.text.specs.Base.{part}
-use Rattle.text.specs.Numbers.{number}
+use Rattle.values.specs.Numbers.{number}
 use Rattle.text.specs.Parts.{split}
 use Rattle.text.specs.declared.parts.Part.{Part}
 use Rattle.wire.specs.declared.handshake.ProtocolVersion.{ProtocolVersion}

@@ -1,5 +1,5 @@
 // handshake.rs of the Rust: the version of the protocol.
-use text::number::Number;
+use values::number::Number;
 ghost use mathlib.Core.Path.{_≡_};
 ghost use Rattle.wire.specs.Version.{versioned, defaultVersion, version, versionOf};
 
@@ -47,10 +47,10 @@ pub fn parse_version(s: &[u8]) -> Version
         return Version::Bad;
     }
     let end = second.end;
-    let Number::Value(major) = text::number::parse_u16(&s[0..dot]) else {
+    let Number::Value(major) = values::number::parse_u16(&s[0..dot]) else {
         return Version::Bad;
     };
-    let Number::Value(minor) = text::number::parse_u8(&s[start..end]) else {
+    let Number::Value(minor) = values::number::parse_u8(&s[start..end]) else {
         return Version::Bad;
     };
     Version::Read(ProtocolVersion::new(major as u16, minor as u8))

@@ -5,7 +5,7 @@ use mathlib.Core.List.{List}
 use mathlib.Core.Option.{Option}
 use lib.IntN.{ℤ}
 use Rattle.text.specs.Base.{part}
-use Rattle.text.specs.Numbers.{signed}
+use Rattle.values.specs.Numbers.{signed}
 use Rattle.text.specs.declared.parts.Span.{Span}
 use Rattle.script.specs.Pieces.{bytes}
 use borrow.Author.Needs.{needs}

@@ -7,7 +7,7 @@ use native.Mathlib.Omega.{arith}
 use lib.ListN.{length, getD, drop}
 use lib.Dec.{eqb}
 use borrow.Author.Tests.{eq-eqb, ne-eqb}
-use Rattle.text.specs.Numbers.{allDigits}
+use Rattle.values.specs.Numbers.{allDigits}
 use Rattle.text.proofs.Scan.{rest-more, rest-none}
 use Rattle.script.specs.Timestamps.{digitRun, unsigned, small, someDigits, exponent}
 use Rattle.stamps.proofs.TimeLaws.{all-digits}

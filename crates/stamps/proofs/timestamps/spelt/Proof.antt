@@ -6,7 +6,7 @@ use mathlib.Core.List.{List}
 use native.Mathlib.Omega.{arith}
 use lib.ListN.{length, getD, drop}
 use native.Mathlib.Nat.{le-trans}
-use Rattle.text.specs.Numbers.{decimalFrom}
+use Rattle.values.specs.Numbers.{decimalFrom}
 use Rattle.script.specs.Timestamps.{digitRun}
 use Rattle.stamps.proofs.TimeLaws.{Stopped, Room, run-over, run-low, run-high, run-more, room-more, room-fits}
 use borrow.Author.Needs.{needs}

@@ -10,7 +10,7 @@ use mir.Syntax.{w64}
 use mir.Val.{toZ}
 use mir.ValLaws.{toZ-pos}
 use borrow.Author.Tests.{eq-eqb, ne-eqb, le-leb, lt-leb}
-use Rattle.text.specs.Numbers.{decimalFrom}
+use Rattle.values.specs.Numbers.{decimalFrom}
 use Rattle.text.proofs.Scan.{rest-more, rest-none}
 use Rattle.script.specs.Answers.{given, refused}
 use Rattle.script.specs.Timestamps.{run, digitRun, fraction, unsigned, negative, noFinite, exponent, carried, time}

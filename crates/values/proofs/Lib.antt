@@ -1,0 +1,4 @@
+pub mod HexLaws
+pub mod NumberLaws
+pub mod UnquoteLaws
+pub mod ValueExamples

@@ -1,0 +1,5 @@
+pub mod Hex
+pub mod HexWalk
+pub mod Numbers
+pub mod Unquote
+pub mod UnquoteWalk
