@@ -2,14 +2,14 @@
 use Prim.Native.Nat.{ℕ, zero, suc, _+_, _-_, _*_, _^_, _≤_, _<_}
 use mathlib.Core.Path.{_≡_, refl, sym, ap, _∙_}
 use mathlib.Core.Bool.{Bool, true, false}
-use mathlib.Core.List.{List, [], _∷_, _++_, map}
+use mathlib.Core.List.{List, [], _∷_, map}
 use mathlib.Core.Option.{Option, none, some}
 use native.Mathlib.Omega.{arith}
 use native.Mathlib.Nat.{add-zero, zero-add}
 use lib.Dec.{eqb}
-use lib.ListN.{length, getD, drop, replicate, length-map}
+use lib.ListN.{length, getD, drop, length-map}
 use borrow.Author.Tests.{eq-eqb, ne-eqb, eqb-true, eqb-false}
-use Rattle.text.specs.Base.{if_then_else_, _&_, part, QUOTE, BLANK}
+use Rattle.text.specs.Base.{if_then_else_, _&_, part, BLANK}
 use Rattle.values.specs.Hex.{hexDecoded}
 use Rattle.values.specs.Unquote.{unquoted}
 use Rattle.text.specs.Parts.{span, partOf, startsWith, position, foundOf, splitFrom, split, partAt}
@@ -24,7 +24,7 @@ use Rattle.text.proofs.Scan.{rest-more, rest-none, by-cases, by-test, both}
 use Rattle.text.proofs.PartLaws.{partsAt}
 use Rattle.text.proofs.PartLaws as Parts
 use Rattle.text.proofs.WordLaws.{wordsAt, known}
-use Rattle.values.proofs.HexLaws.{trailing-quotes, hex-half}
+use Rattle.values.proofs.HexLaws.{hex-half}
 use Rattle.values.proofs.UnquoteLaws.{unquoted-shorter}
 use Rattle.wire.specs.declared.ops.Op.{Op}
 use Rattle.wire.specs.declared.ops.Op.the-variants.{IsValidPath, QueryReferrers, AddToStore, AddTextToStore, BuildPaths, EnsurePath, AddTempRoot, AddIndirectRoot, SyncWithGC, FindRoots, QueryDeriver, SetOptions, CollectGarbage, QuerySubstitutablePathInfo, QueryDerivationOutputs, QueryAllValidPaths, QueryPathInfo, QueryDerivationOutputNames, QueryPathFromHashPart, QuerySubstitutablePathInfos, QueryValidPaths, QuerySubstitutablePaths, QueryValidDerivers, OptimiseStore, VerifyStore, BuildDerivation, AddSignatures, NarFromPath, AddToStoreNar, QueryMissing, QueryDerivationOutputMap, RegisterDrvOutput, QueryRealisation, AddMultipleToStore, AddBuildLog, BuildPathsWithResults, AddPermRoot}
@@ -33,11 +33,12 @@ use Rattle.script.specs.Pieces.{Cut, cutAt, bytes, isEmpty, inner, begins, ends
 use Rattle.script.specs.Pieces as Pieces
 use Rattle.script.specs.Operations.{formOf}
 use Rattle.script.specs.Sets.{COMMA, CLOSING-BRACE, nonEmpty, trimmedItems, pathItems, bracedSet, plainSet, features}
-use Rattle.script.specs.Values.{withoutQuotes, inlineOf, framed}
+use Rattle.script.specs.Values.{inlineOf, framed}
 use Rattle.script.specs.Contents.{givenBytes, givenData, unquotedOf, hexOf, dataOf}
 use Rattle.script.specs.Layout.{storedOf}
 use Rattle.script.specs.Inside.{In}
 use Rattle.tables.proofs.ItemLaws.{items-by, end-fits}
+use Rattle.tables.proofs.ValueLaws.{no-quotes}
 use Rattle.tables.specs.SetRead.{itemsOr, bracedItems, itemsBy}
 use Rattle.roles.specs.OpeningRead.{halves, setPlace}
 use Rattle.roles.specs.declared.openings.Halves.{Halves}
@@ -224,36 +225,6 @@ module _ (text : List ℕ) (v : Span) (n : ℕ) where
 
   pub hex-fits : In text v → n ≡ length (hexDecoded (bytes text v)) → v .start + n ≤ v .end
   hex-fits i e = omega (arith, hex-half (bytes text v), length-bytes text v i, i .forward)
-
--- quotes at the end of hex are no digits
-record Tail (s w : List ℕ) : Type 0 where
-  many : ℕ
-  same : s ≡ w ++ replicate many QUOTE
-
-module _ (x : ℕ) (s : List ℕ) where
-  all-quotes : withoutQuotes s ≡ [] → withoutQuotes (x ∷ s) ≡ (if eqb x QUOTE then [] else (x ∷ []))
-  unfolding withoutQuotes
-  all-quotes e = rw (e, withoutQuotes)
-
-  some-kept : (y : ℕ) (ys : List ℕ) → withoutQuotes s ≡ y ∷ ys → withoutQuotes (x ∷ s) ≡ x ∷ y ∷ ys
-  unfolding withoutQuotes
-  some-kept y ys e = rw (e, withoutQuotes) (ap (λ (r : List ℕ). x ∷ r) e)
-
-  one-longer : (w : List ℕ) → withoutQuotes s ≡ w → Tail s w → Tail (x ∷ s) (withoutQuotes (x ∷ s))
-  one-longer [] e t = rw (all-quotes e) (go (eqb x QUOTE) refl)
-    where
-      go : (b : Bool) → eqb x QUOTE ≡ b → Tail (x ∷ s) (if b then [] else (x ∷ []))
-      go true q = record { many = suc (t .many); same = rw (eqb-true x QUOTE q) (ap (λ (r : List ℕ). QUOTE ∷ r) (t .same)) }
-      go false q = record { many = t .many; same = ap (λ (r : List ℕ). x ∷ r) (t .same) }
-  one-longer (y ∷ ys) e t = rw (some-kept y ys e) (record { many = t .many; same = ap (λ (r : List ℕ). x ∷ r) (t .same) })
-
-tail : (s : List ℕ) → Tail s (withoutQuotes s)
-unfolding withoutQuotes
-tail [] = record { many = 0; same = refl }
-tail (x ∷ s) = one-longer x s (withoutQuotes s) refl (tail s)
-
-no-quotes : (s : List ℕ) → hexDecoded s ≡ hexDecoded (withoutQuotes s)
-no-quotes s = ap hexDecoded (tail s .same) ∙ trailing-quotes (tail s .many) (withoutQuotes s)
 
 module _ (text : List ℕ) (v : Span) where
   pub raw-counted : (n : ℕ) → n ≡ length (hexDecoded (bytes text v)) → n ≡ rawCount text v

@@ -50,7 +50,8 @@ unfolding withoutQuotes
 tail [] = record { many = 0; same = refl }
 tail (x ∷ s) = one-longer x s (withoutQuotes s) refl (tail s)
 
-no-quotes : (s : List ℕ) → hexDecoded s ≡ hexDecoded (withoutQuotes s)
+-- so they may stay
+pub no-quotes : (s : List ℕ) → hexDecoded s ≡ hexDecoded (withoutQuotes s)
 no-quotes s = ap hexDecoded (tail s .same) ∙ trailing-quotes (tail s .many) (withoutQuotes s)
 
 -- ---- what is written

@@ -190,7 +190,7 @@ const BELOW: &[&str] = &[
     "BuildPaths { /a!out, /b } repair\n",
     "EnsurePath /nix/store/a\n",
     "AddTempRoot /nix/store/a\n",
-    "AddIndirectRoot /home/u/result\n",
+    "AddIndirectRoot /nix/var/result\n",
     "SyncWithGC\n",
     "FindRoots\n",
     "QueryDeriver /nix/store/a\n",
