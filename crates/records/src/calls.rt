@@ -1,7 +1,7 @@
 // The record of an entry's operation, from its line, from what was said below it, and from how many items and bytes that takes.
 ghost use mathlib.Core.Path.{_≡_};
 ghost use mathlib.Core.Option.{some};
-ghost use Prim.Native.Nat.{_+_, _≤_};
+ghost use Prim.Native.Nat.{_+_, _<_};
 ghost use Rattle.script.specs.Operations.{formOf};
 ghost use Rattle.script.specs.Pieces.{placeOf};
 ghost use Rattle.script.specs.Contents.{restOf};
@@ -153,7 +153,7 @@ fn verify_call(text: &[u8], starts: &[usize], ends: &[usize]) -> OpCall
 }
 
 fn texts_call(i: usize, b: usize, z: Sizes) -> OpCall
-    requires { ⌜ b + z .first + z .second ≤ 0x100_0000_0000 ⌝ }
+    requires { ⌜ b + z .first + z .second < 0x1_0000_0000_0000_0000 ⌝ }
     ensures { λ r. ⌜ r ≡ textsRecord i b z ⌝ }
 {
     OpCall::AddTextToStore {
@@ -165,7 +165,7 @@ fn texts_call(i: usize, b: usize, z: Sizes) -> OpCall
 
 fn store_call(text: &[u8], starts: &[usize], ends: &[usize], i: usize, b: usize, z: Sizes) -> OpCall
     requires { ⌜ SaidIn (now text) (now starts) (now ends) ⌝ }
-    requires { ⌜ b + z .first + z .second ≤ 0x100_0000_0000 ⌝ }
+    requires { ⌜ b + z .first + z .second < 0x1_0000_0000_0000_0000 ⌝ }
     ensures { λ r. ⌜ r ≡ storeRecord (now (text .entry)) (pieceAt (now (starts .entry)) (now (ends .entry))) i b z ⌝ }
 {
     let second = b + z.first;
@@ -274,7 +274,7 @@ pub fn call_of(
 ) -> OpCall
     requires { ⌜ In (now text) args ⌝ }
     requires { ⌜ SaidIn (now text) (now starts) (now ends) ⌝ }
-    requires { ⌜ b + z .first + z .second ≤ 0x100_0000_0000 ⌝ }
+    requires { ⌜ b + z .first + z .second < 0x1_0000_0000_0000_0000 ⌝ }
     ensures { λ r. ⌜ r ≡ recordOf (now (text .entry)) (formOf op .shape) op args (pieceAt (now (starts .entry)) (now (ends .entry))) i b z ⌝ }
 {
     match roles::openings::takes_of(op) {

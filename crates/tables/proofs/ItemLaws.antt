@@ -32,7 +32,7 @@ use Rattle.script.proofs.Inside.{length-bytes}
 use Rattle.pieces.proofs.BehindLaws.{behind-none, behind-some, behind-in, cut-none, cut-some}
 use Rattle.tables.specs.Written.{itemOf, itemsFor, writtenAt, itemsOf, featuresOf}
 use Rattle.tables.specs.SetRead.{taken, itemsOr, bracedItems, itemsBy}
-use Rattle.tables.proofs.WrittenLaws.{written-one, one-count, one-room, Filling, filling-room, filling-more}
+use Rattle.tables.proofs.WrittenLaws.{written-one, one-count, one-room, Filling, filling-place, filling-more}
 
 -- q is the answer of `matchers::place_of`
 pub item-written : (at : ℕ) (p : Span) (q : Place) (t : List (List ℕ)) → q ≡ place p → at < length t → set t at (q .start ∷ q .len ∷ []) ≡ writtenAt at (itemOf (place p) ∷ []) t
@@ -154,7 +154,7 @@ module _ (text : List ℕ) (first last : ℕ) (keep : Bool) where
         module _ (y : b ≡ true) where
           -- one that is: there is room for it, and the machine holds the place and the count
           pub part-room : at + n < length now
-          part-room = filling-room at all table now n (partsLeft from more) f (itemOf (place t)) (partsLeft (r .end + 1) (r .more)) (left-taken y)
+          part-room = filling-place at all table now n (partsLeft from more) f (itemOf (place t)) (partsLeft (r .end + 1) (r .more)) (left-taken y)
 
           pub part-at-fits : (limit : ℕ) → length now < limit → at + n < limit
           part-at-fits limit l = omega (arith, part-room)
@@ -224,7 +224,7 @@ module _ (text : List ℕ) (first last : ℕ) where
       module _ (z : w .start ≡ w .end → ⊥) (at : ℕ) (all table now : List (List ℕ)) (n : ℕ) (f : Filling at all table now n (wordsLeft from)) where
         -- there is room for its item, and the machine holds the place and the count
         pub word-room : at + n < length now
-        word-room = filling-room at all table now n (wordsLeft from) f (itemOf (place (span (first + w .start) (first + w .end)))) (wordsLeft (w .end)) (left-word z)
+        word-room = filling-place at all table now n (wordsLeft from) f (itemOf (place (span (first + w .start) (first + w .end)))) (wordsLeft (w .end)) (left-word z)
 
         pub word-at-fits : (limit : ℕ) → length now < limit → at + n < limit
         word-at-fits limit l = omega (arith, word-room)

@@ -5,7 +5,7 @@ use mathlib.Core.List.{List, [], _∷_, _++_, append-assoc, append-nil}
 use native.Mathlib.Nat.{add-zero, zero-add}
 use native.Mathlib.Omega.{arith}
 use lib.ListN.{length, take, drop, set, length-append, length-drop, drop-of-length-le}
-use lib.Seq.{sets, sets-eq, length-sets, length-take-le, take-add, take-all, drop-drop}
+use lib.Seq.{sets, sets-eq, length-sets, length-take-le, take-add, take-all, take-append-seam, drop-append-seam, drop-drop}
 use borrow.Author.Tests.{le-leb}
 use borrow.Rule.Slice.PartMut.{midOf, putMid}
 use Rattle.text.specs.Base.{overlaid}
@@ -130,28 +130,36 @@ module _ {A : Type 0} (at : ℕ) (all first : List A) where
         let l : length left ≡ 0 = ap length e in
         (omega (arith, f .count), f .done ∙ ap (λ (xs : List A). writtenAt at xs first) (take-all n all (omega (arith, f .count))))
 
-    -- x comes next
-    module _ (x : A) (later : List A) (e : left ≡ x ∷ later) where
-      longer : length left ≡ suc (length later)
-      longer = ap length e
+    -- some come next
+    module _ (xs later : List A) (e : left ≡ xs ++ later) where
+      longer : length left ≡ length xs + length later
+      longer = ap length e ∙ length-append xs later
 
-      -- there is room for it
-      pub filling-room : at + n < length now
+      -- there is room for them
+      pub filling-room : at + n + length xs ≤ length now
       filling-room = omega (arith, longer, filling-length, f .room, f .count)
 
-      next-taken : take (n + 1) all ≡ take n all ++ (x ∷ [])
-      next-taken = take-add n 1 all ∙ ap (λ (l : List A). take n all ++ take 1 l) (f .rest ∙ e)
+      next-taken : take (n + length xs) all ≡ take n all ++ xs
+      next-taken = take-add n (length xs) all ∙ ap (λ (l : List A). take n all ++ take (length xs) l) (f .rest ∙ e) ∙ ap (λ (l : List A). take n all ++ l) (take-append-seam xs later)
 
-      -- it is written
-      pub filling-more : (after : List A) → after ≡ writtenAt (at + n) (x ∷ []) now → Filling at all first after (n + 1) later
-      filling-more after h = record {
+      -- they are written
+      pub filling-on : (after : List A) → after ≡ writtenAt (at + n) xs now → Filling at all first after (n + length xs) later
+      filling-on after h = record {
         room = f .room;
         count = omega (arith, longer, f .count);
-        rest = sym (drop-drop 1 n all) ∙ ap (drop 1) (f .rest ∙ e);
+        rest = sym (drop-drop (length xs) n all) ∙ ap (drop (length xs)) (f .rest ∙ e) ∙ drop-append-seam xs later;
         done =
             h
-            ∙ ap (λ (k : ℕ). writtenAt (at + k) (x ∷ []) now) (sym so-far)
-            ∙ ap (writtenAt (at + length (take n all)) (x ∷ [])) (f .done)
-            ∙ written-twice at (take n all) (x ∷ []) first (omega (arith, so-far, longer, f .room, f .count))
-            ∙ ap (λ (xs : List A). writtenAt at xs first) (sym next-taken);
+            ∙ ap (λ (k : ℕ). writtenAt (at + k) xs now) (sym so-far)
+            ∙ ap (writtenAt (at + length (take n all)) xs) (f .done)
+            ∙ written-twice at (take n all) xs first (omega (arith, so-far, longer, f .room, f .count))
+            ∙ ap (λ (ys : List A). writtenAt at ys first) (sym next-taken);
       }
+
+    -- x comes next
+    module _ (x : A) (later : List A) (e : left ≡ x ∷ later) where
+      pub filling-place : at + n < length now
+      filling-place = omega (arith, filling-room (x ∷ []) later e)
+
+      pub filling-more : (after : List A) → after ≡ writtenAt (at + n) (x ∷ []) now → Filling at all first after (n + 1) later
+      filling-more = filling-on (x ∷ []) later e

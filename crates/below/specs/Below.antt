@@ -1,0 +1,58 @@
+-- The lines up to the next opening line, and what stands from there on. Assumes nothing.
+use Prim.Native.Nat.{ℕ, _+_, _≤_, _<_}
+use mathlib.Core.Bool.{Bool, true, false}
+use mathlib.Core.List.{List, [], _∷_}
+use lib.ListN.{length, drop}
+use Rattle.text.specs.Base.{if_then_else_}
+use Rattle.text.specs.Lines.{linesFrom}
+use Rattle.script.specs.Values.{plainRules}
+use Rattle.script.specs.Roles.{Marked, marked, rolesFrom}
+use Rattle.script.specs.Contents.{isOpening, pairOf, pairs}
+use Rattle.script.specs.declared.roles.Where.{Where}
+use Rattle.script.specs.declared.roles.Saying.{Saying}
+use Rattle.script.specs.declared.roles.Saying.the-variants.{Known, Pair, NoColon, Unknown, NoPair, NoRaw}
+use Rattle.script.specs.declared.roles.Role.the-variants.{Opens}
+use Rattle.tables.specs.Written.{itemsFor}
+use Rattle.below.specs.declared.lines.Below.{Below}
+use Rattle.below.specs.declared.lines.Next.{Next}
+use Rattle.below.specs.declared.lines.Next.the-variants.{End, Entry}
+
+abbrev pub belowOf : (pairs expects : ℕ) → Next → Below
+belowOf pairs expects next = record { pairs = pairs; expects = expects; next = next }
+
+-- what the lines from a place on are
+unfoldable pub rolesAt : (text : List ℕ) → Where → (at number : ℕ) → List Marked
+rolesAt text w at number = rolesFrom plainRules text w (linesFrom number at at at (drop at text))
+
+-- the lines from the next opening line on
+unfoldable pub ahead : List Marked → List Marked
+ahead [] = []
+ahead (m ∷ ms) = let here = m ∷ ms in let later = ahead ms in if isOpening (m .role) then here else later
+
+-- the same, as the code says it
+unfoldable pub aheadOf : (text : List ℕ) → Next → List Marked
+aheadOf text End = []
+aheadOf text (Entry e) = marked (e .line) (Opens (e .opening)) ∷ rolesAt text (e .stands) (e .at) (e .line + 1)
+
+-- it is a place of the text behind `from`, and the line's number is no larger
+unfoldable pub NextIn : (text : List ℕ) → (from : ℕ) → Next → Type 0
+NextIn text from End = Unit {0}
+NextIn text from (Entry e) = (from < e .at) × (e .at ≤ length text) × (e .line ≤ e .at)
+
+-- the items of the pairs that are said, where the operation takes an override list
+unfoldable pub pairItems : (options : Bool) → Saying → List (List ℕ)
+pairItems false s = []
+pairItems true s = itemsFor (pairOf s)
+
+unfoldable pub pairsItems : (options : Bool) → List Saying → List (List ℕ)
+pairsItems false ss = []
+pairsItems true ss = itemsFor (pairs ss)
+
+-- what is said starts no later than it ends
+unfoldable pub Forward : Saying → Type 0
+Forward (Known k v) = v .start ≤ v .end
+Forward (Pair a b) = (a .start ≤ a .end) × (b .start ≤ b .end)
+Forward NoColon = Unit {0}
+Forward (Unknown k v) = Unit {0}
+Forward NoPair = Unit {0}
+Forward NoRaw = Unit {0}
