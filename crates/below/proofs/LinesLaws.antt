@@ -67,11 +67,16 @@ module _ (text : List ℕ) (w : Where) (at number : ℕ) where
     pub line-number : number ≤ at + 1 → number ≤ l .next
     line-number q = omega (arith, known text at number l h e .later)
 
+    line-role : RoleIn text (s .role)
+    line-role = rw f (role-in text plainRules w l line-in)
+
     pub line-forward : (x : Saying) → s .role ≡ Says x → Forward x
     unfolding RoleIn
-    line-forward x r =
-        let i : RoleIn text (s .role) = rw f (role-in text plainRules w l line-in) in
-        forward-in text x (rw r at i)
+    line-forward x r = forward-in text x (rw r at line-role)
+
+    pub line-args : (p : Opening) → s .role ≡ Opens p → In text (p .args)
+    unfolding RoleIn
+    line-args p r = rw r at line-role
 
 -- what a line that says s adds to the pairs
 pub pairs-more : (options : Bool) (s : Saying) (ss : List Saying) → pairsItems options (s ∷ ss) ≡ pairItems options s ++ pairsItems options ss

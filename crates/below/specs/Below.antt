@@ -7,6 +7,7 @@ use Rattle.text.specs.Base.{if_then_else_}
 use Rattle.text.specs.Lines.{linesFrom}
 use Rattle.script.specs.Values.{plainRules}
 use Rattle.script.specs.Roles.{Marked, marked, rolesFrom}
+use Rattle.script.specs.Inside.{In}
 use Rattle.script.specs.Contents.{isOpening, pairOf, pairs}
 use Rattle.script.specs.declared.roles.Where.{Where}
 use Rattle.script.specs.declared.roles.Saying.{Saying}
@@ -34,10 +35,10 @@ unfoldable pub aheadOf : (text : List ℕ) → Next → List Marked
 aheadOf text End = []
 aheadOf text (Entry e) = marked (e .line) (Opens (e .opening)) ∷ rolesAt text (e .stands) (e .at) (e .line + 1)
 
--- it is a place of the text behind `from`, and the line's number is no larger
+-- it is a place of the text behind `from`, the line's number is no larger, and what stands behind the operation's name lies in the text
 unfoldable pub NextIn : (text : List ℕ) → (from : ℕ) → Next → Type 0
 NextIn text from End = Unit {0}
-NextIn text from (Entry e) = (from < e .at) × (e .at ≤ length text) × (e .line ≤ e .at)
+NextIn text from (Entry e) = (from < e .at) × (e .at ≤ length text) × (e .line ≤ e .at) × In text (e .opening .args)
 
 -- the items of the pairs that are said, where the operation takes an override list
 unfoldable pub pairItems : (options : Bool) → Saying → List (List ℕ)

@@ -265,11 +265,11 @@ module _ (text : List ℕ) where
 
   -- ---- the lines of the text lie inside it
 
-  abbrev LinesIn : List Line → Type 0
+  abbrev pub LinesIn : List Line → Type 0
   LinesIn [] = Unit {0}
   LinesIn (l ∷ ls) = In text (lineSpan l) × LinesIn ls
 
-  lines-in : (number start at end : ℕ) (rest : List ℕ) → start ≤ end → end ≤ at → start ≤ at → at + length rest ≡ length text → LinesIn (linesFrom number start at end rest)
+  pub lines-in : (number start at end : ℕ) (rest : List ℕ) → start ≤ end → end ≤ at → start ≤ at → at + length rest ≡ length text → LinesIn (linesFrom number start at end rest)
   unfolding linesFrom
   lines-in number start at end [] p q r h = by-cases LinesIn (eqb start at) _ _ tt (record { forward = r; inside = omega arith }, tt)
   lines-in number start at end (x ∷ rest) p q r h =

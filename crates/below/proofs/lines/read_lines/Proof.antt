@@ -11,7 +11,7 @@ use Rattle.script.specs.Contents as Contents
 use Rattle.script.specs.Contents.{lead, sayings}
 use Rattle.script.specs.declared.roles.Role.{Role}
 use Rattle.below.specs.Below.{rolesAt, aheadOf, NextIn, pairsItems}
-use Rattle.below.proofs.LinesLaws.{Led, led-first, line-in, line-forward, line-behind, line-number, says-room, says-fits, expects-room, expects-fits, roles-none, roles-more, turn-laws, opens-lead, opens-ahead, over-lead, over-ahead, done-pairs, done-count, done-items, done-expects, done-values, says-pairs, says-expects, says-ahead, says-in, led-same, led-nothing, led-bad, led-says, led-expects}
+use Rattle.below.proofs.LinesLaws.{Led, led-first, line-in, line-forward, line-behind, line-number, line-args, says-room, says-fits, expects-room, expects-fits, roles-none, roles-more, turn-laws, opens-lead, opens-ahead, over-lead, over-ahead, done-pairs, done-count, done-items, done-expects, done-values, says-pairs, says-expects, says-ahead, says-in, led-same, led-nothing, led-bad, led-says, led-expects}
 use borrow.Author.Needs.{needs}
 use Rattle.below.proofs.lines.read_lines.Statement.{statement}
 use Rattle.below.proofs.lines.read_lines.Proof.Tie as tie
@@ -144,7 +144,7 @@ returns c =
         (
           says-ahead text _ _ _ _ (c .at-opening .ensures) _ (sym (opens-ahead _ _ _ _ m′) ∙ D .onward),
           (
-            says-in text _ _ _ _ (c .at-opening .ensures) _ (search (needs, line-behind), search (needs, line-steps), search (needs, line-number)),
+            says-in text _ _ _ _ (c .at-opening .ensures) _ (search (needs, line-behind), search (needs, line-steps), search (needs, line-number), line-args text (L .w) (L .at) (L .number) (search needs) (A .before .line-at .result) (search needs) (A .step .result) (search needs) _ (R .role3 .given .1)),
             (
               done-items _ _ _ _ _ _ _ _ (L .starts) (L .ends) (L .items) (L .expectations) (L .pairs) (L .expects) _ D o,
               (

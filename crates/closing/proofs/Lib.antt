@@ -1,0 +1,2 @@
+pub mod ClosingLaws
+pub mod WriteLaws

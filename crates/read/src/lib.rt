@@ -1,0 +1,3 @@
+// Read: a script into lent tables.
+pub mod entries;
+pub mod reading;
