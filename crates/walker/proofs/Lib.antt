@@ -1,0 +1,4 @@
+pub mod CountLaws
+pub mod Facts
+pub mod Lending
+pub mod WalkLaws
