@@ -57,12 +57,13 @@ module _ (text : List ℕ) (l : Line) (n : ℕ) where
 abbrev pub all : List ℕ → ℕ
 all text = length (beginningLines text (lines text))
 
-abbrev pub walker : RefT (List ℕ) → (at number : ℕ) → Lines
-walker s at number = record { text = s; at = at; number = number }
-
--- so many as the plain judge sees
+-- as many as the plain judge has expectation lines
 pub as-judged : (text : List ℕ) → all text ≡ length (expectationLines (plainLines text))
 as-judged text = ap length (sym (expect-lines text))
+
+-- the walker over a text at a place, with a number
+abbrev pub walker : RefT (List ℕ) → (at number : ℕ) → Lines
+walker s at number = record { text = s; at = at; number = number }
 
 -- What holds before a turn, of a walker over the text and the count so far: n of the lines that begin with `expect` are past, and the others are among those left.
 pub record Turn (s : RefT (List ℕ)) : Type 0 where

@@ -1,6 +1,6 @@
 -- Laws of a walker over lines: whether a line is left, that the next line is the first of those left, and where it lies.
 -- Assumes nothing.
-use Prim.Native.Nat.{ℕ, _-_}
+use Prim.Native.Nat.{ℕ}
 use mathlib.Core.Path.{_≡_, refl, sym, ap, _∙_}
 use mathlib.Core.Bool.{Bool, true, false}
 use mathlib.Core.List.{List, [], _∷_}
@@ -42,6 +42,7 @@ module _ (w : Lines) where
   nothing-left m = lines-none text (w .at) (w .number) (ltb-false (w .at) (length text) (sym more-is ∙ m))
 
   module _ (m : hasMore (left w) ≡ true) where
+    -- the line lies inside the text, and the next begins behind it
     pub here : Known text (w .at) (w .number) (lineHere w)
     here = known text (w .at) (w .number) (lineHere w) (ltb-true (w .at) (length text) (sym more-is ∙ m)) refl
 

@@ -1,5 +1,5 @@
 // A walker over the lines of a text: it borrows the text, and carries the place where the next line begins and that line's number.
-// The borrow checker covers no function over such a struct: each of them is proved by a walk of its MIR, by hand, and is thin. `line_at`, which does the
+// The borrow checker covers no function over such a struct: each of them is thin, and proved by a walk of its MIR, by hand. `line_at`, which does the
 // work, and `counted` take the text as a plain slice and are covered.
 ghost use mathlib.Core.Path.{_≡_};
 ghost use mathlib.Core.Bool.{true};
@@ -12,10 +12,11 @@ ghost use Rattle.walker.specs.Walk.{left, hasMore, begun, past, countOne
 use text::lines::Line;
 use text::parts::Span;
 
+// The text, the place where the next line begins, and that line's number.
 pub struct Lines<'a> {
-    pub text: &'a [u8],
-    pub at: usize,
-    pub number: usize,
+    text: &'a [u8],
+    at: usize,
+    number: usize,
 }
 
 impl<'a> Lines<'a> {
