@@ -1,0 +1,16 @@
+pub mod DecimalLaws
+pub mod ListingExamples
+pub mod PutLaws
+pub mod ReadingLaws
+pub mod EntryElem
+pub mod WholeListEntriesKinds
+pub mod WholeListEntriesLts
+pub mod WholeListEntriesReads
+pub mod WholeLaws
+pub mod WholeListScriptKinds
+pub mod WholeListScriptLts
+pub mod WholeListScriptReads
+pub mod TopLaws
+pub mod ExpectationElem
+pub mod WholeListLts
+pub mod AnswerLaws

@@ -1,0 +1,5 @@
+// What the program `script-list` prints.
+mod blank;
+pub mod decimal;
+pub mod lines;
+pub mod whole;
