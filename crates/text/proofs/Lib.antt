@@ -5,6 +5,7 @@ pub mod LiteralLaws
 pub mod PartLaws
 pub mod Scalars
 pub mod Scan
+pub mod SkipLaws
 pub mod Table
 pub mod TextExamples
 pub mod TrimChars

@@ -6,15 +6,16 @@ use mathlib.Core.Bool.{Bool, true, false}
 use mathlib.Core.List.{List, [], _∷_}
 use native.Mathlib.Omega.{arith}
 use native.Mathlib.Nat.{le-refl, add-zero, add-sub-cancel, add-sub-cancel-left}
-use lib.Dec.{eqb, leb}
+use lib.Dec.{eqb}
 use lib.ListN.{length, getD, drop, length-drop}
 use lib.Seq.{drop-nil, drop-drop}
-use borrow.Author.Tests.{eq-eqb, ne-eqb, lt-ltb, le-ltb, eqb-true, eqb-false, leb-true, leb-false}
+use borrow.Author.Tests.{eq-eqb, ne-eqb, lt-ltb, le-ltb}
 use Rattle.text.proofs.Scan.{by-cases, rest-none, rest-more, shift}
 use Rattle.text.specs.Base.{if_then_else_, LF, CR}
 use Rattle.text.specs.declared.lines.Line.{Line}
 use Rattle.text.specs.Lines.{line, lineFrom, lineAt, linesFrom}
-use Rattle.text.specs.LinesWalk.{endAt, Plain, lfCount}
+use Rattle.text.specs.LinesWalk.{endAt}
+use Rattle.text.specs.Skip.{Without}
 
 -- ---- the walk by places: the line that began at start, from place i on
 
@@ -44,77 +45,21 @@ module _ (text : List ℕ) (number start i : ℕ) (whole : Line) where
   unfolding lineFrom
   at-other b h n e = rw (end-on text start i b) (rw (rest-more text i h, ne-eqb _ _ n) at e)
 
--- ---- stretches without an LF
+-- ---- a stretch without an LF
 
-pub lf-is : (x : ℕ) → x ≡ 10 → 1 ≡ lfCount x
-lf-is x e = rw (eq-eqb x 10 e)
-
-pub lf-isnt : (x : ℕ) → (x ≡ 10 → ⊥) → 0 ≡ lfCount x
-lf-isnt x n = rw (ne-eqb x 10 n)
-
-lf-none : (x : ℕ) → lfCount x ≡ 0 → x ≡ LF → ⊥
-lf-none x z e = let n = lf-is x e in omega arith
-
-pub plain-none : (text : List ℕ) (i : ℕ) → Plain text i i
-unfolding Plain
-plain-none text i k l h e = omega arith
-
--- a byte more that is no LF
-plain-more : (text : List ℕ) (i j m : ℕ) → m ≡ j + 1 → Plain text i j → lfCount (getD text j 0) ≡ 0 → Plain text i m
-unfolding Plain
-plain-more text i j m n p z k l h e = go (eqb k j) refl
-  where
-    go : (b : Bool) → eqb k j ≡ b → ⊥
-    go true t = lf-none (getD text j 0) z (rw (← eqb-true k j t) e)
-    go false t = p k l (let d = eqb-false k j t in omega arith) e
-
--- one stretch after the other, which a call has found
-pub plain-on : (text : List ℕ) (at i j : ℕ) (r : Bool) → Plain text at i → (r ≡ true → Plain text i j) → r ≡ true → Plain text at j
-unfolding Plain
-plain-on text at i j r p q t k l h e = go (leb i k) refl
-  where
-    go : (b : Bool) → leb i k ≡ b → ⊥
-    go true m = q t k (leb-true i k m) h e
-    go false m = p k l (leb-false i k m) e
-
-module _ (text : List ℕ) (at r0 r1 r2 r3 r4 r5 r6 r7 : ℕ) where
-  -- eight counts that add up to none
-  pub eight-none : eqb (r0 + r1 + r2 + r3 + (r4 + r5 + r6 + r7)) 0 ≡ true
-      → r0 ≡ lfCount (getD text at 0)
-      → r1 ≡ lfCount (getD text (at + 1) 0)
-      → r2 ≡ lfCount (getD text (at + 2) 0)
-      → r3 ≡ lfCount (getD text (at + 3) 0)
-      → r4 ≡ lfCount (getD text (at + 4) 0)
-      → r5 ≡ lfCount (getD text (at + 5) 0)
-      → r6 ≡ lfCount (getD text (at + 6) 0)
-      → r7 ≡ lfCount (getD text (at + 7) 0)
-      → Plain text at (at + 8)
-  eight-none t e0 e1 e2 e3 e4 e5 e6 e7 =
-      let z = eqb-true (r0 + r1 + r2 + r3 + (r4 + r5 + r6 + r7)) 0 t in
-      let p0 = plain-more text at at (at + 1) refl (plain-none text at) (omega arith) in
-      let p1 = plain-more text at (at + 1) (at + 2) (omega arith) p0 (omega arith) in
-      let p2 = plain-more text at (at + 2) (at + 3) (omega arith) p1 (omega arith) in
-      let p3 = plain-more text at (at + 3) (at + 4) (omega arith) p2 (omega arith) in
-      let p4 = plain-more text at (at + 4) (at + 5) (omega arith) p3 (omega arith) in
-      let p5 = plain-more text at (at + 5) (at + 6) (omega arith) p4 (omega arith) in
-      let p6 = plain-more text at (at + 6) (at + 7) (omega arith) p5 (omega arith) in
-      plain-more text at (at + 7) (at + 8) (omega arith) p6 (omega arith)
-
-pub ruleset plain-steps = (lf-is, lf-isnt, plain-none, plain-on)
-
--- the walk passes such a stretch
-passes : (text : List ℕ) (number start k i : ℕ) → start ≤ i → (0 < k → i + k ≤ length text) → Plain text i (i + k)
+-- the walk passes it
+passes : (text : List ℕ) (number start k i : ℕ) → start ≤ i → (0 < k → i + k ≤ length text) → Without LF text i (i + k)
     → lineFrom number start (i + k) (endAt text start (i + k)) (drop (i + k) text) ≡ lineFrom number start i (endAt text start i) (drop i text)
-unfolding Plain
+unfolding Without
 passes text number start zero i h g p = rw (add-zero i)
 passes text number start (suc k) i h g p =
     let l = g (omega arith) in
     let e : i + suc k ≡ i + 1 + k = omega arith in
-    let q : Plain text (i + 1) (i + 1 + k) = λ m b c. p m (omega arith) (omega arith) in
+    let q : Without LF text (i + 1) (i + 1 + k) = λ m b c. p m (omega arith) (omega arith) in
     rw e (passes text number start k (i + 1) (omega arith) (λ z. omega arith) q)
     ∙ at-other text number start i _ h (omega arith) (p i (omega arith) (omega arith)) refl
 
-pub begun : (text : List ℕ) (number at r : ℕ) → at ≤ r → (at < r → r ≤ length text) → Plain text at r
+pub begun : (text : List ℕ) (number at r : ℕ) → at ≤ r → (at < r → r ≤ length text) → Without LF text at r
     → lineFrom number at r (endAt text at r) (drop r text) ≡ lineAt text at number
 unfolding lineAt
 begun text number at r h g p =

@@ -8,9 +8,9 @@ use native.Mathlib.Nat.{add-zero, sub-zero, sub-self, le-refl}
 use native.Mathlib.Numerals.{sub-one}
 use lib.Dec.{eqb, eqb·suc-zero}
 use lib.ListN.{length, length-take, length-drop, length-reverse, getD, take, drop}
-use lib.Seq.{drop-nil, getD-drop, take-suc, take-all, take-length, length-take-le}
+use lib.Seq.{drop-nil, drop-drop, getD-drop, take-suc, take-all, take-length, length-take-le}
 use borrow.Author.Tests.{lt-leb}
-use Rattle.text.proofs.Scan.{by-cases, and-true, and-false, rest-more, rest-none, within-low}
+use Rattle.text.proofs.Scan.{by-cases, inside, and-true, and-false, rest-more, rest-none, within-low, within-high}
 use Rattle.text.specs.Base.{if_then_else_, _&_, within, part}
 use Rattle.text.specs.Utf8.{Range}
 use Rattle.text.specs.Trim.{whiteBytes, backwards, begins, sizeOf, stripFrom, trimmedFront, trimmedBack, trimmed, trimPlace}
@@ -222,6 +222,55 @@ pub ruleset one-steps = (past-one, taken-one, no-row)
 
 pub ruleset place-steps = (at-ascii, at-long, before-ascii, before-long-1, before-long, first-before, nothing-before, at-inside, at-end, before-inside)
 
+-- ---- ASCII at an end
+
+-- a byte that a row of one byte has is below 0x80, and the row has one byte
+blank-size : (a n : ℕ) → n ≡ sizeOf (take 2 whiteBytes) (a ∷ []) → (n ≡ 0 → ⊥) → (a < 0x80) × (n ≡ 1)
+unfolding sizeOf whiteBytes begins
+blank-size a n e z = go (within 0x09 0x0D a) (within 0x20 0x20 a) (inside 0x09 0x0D a) (inside 0x20 0x20 a) e
+  where
+    go : (b c : Bool) → (b ≡ true → (0x09 ≤ a) × (a ≤ 0x0D)) → (c ≡ true → (0x20 ≤ a) × (a ≤ 0x20))
+        → n ≡ (if b & true then 1 else if c & true then 1 else 0) → (a < 0x80) × (n ≡ 1)
+    go true c f g e = (omega (arith, f refl), e)
+    go false true f g e = (omega (arith, g refl), e)
+    go false false f g e = absurd (z e)
+
+-- one that stands at the front goes
+pub blank-on : (s whole : List ℕ) (i n : ℕ) → n ≡ sizeOf (take 2 whiteBytes) (getD s i 0 ∷ []) → (n ≡ 0 → ⊥) → i < length s → trimmedFront (drop i s) ≡ whole
+    → trimmedFront (drop (i + 1) s) ≡ whole
+unfolding trimmedFront
+blank-on s whole i n e z h q =
+    let p = blank-size (getD s i 0) n e z in
+    let l = at-ascii s i n h (p .0) e in
+    let f : stripFrom whiteBytes 0 (drop i s) ≡ stripFrom whiteBytes 0 (drop (i + 1) s) =
+    strip-on whiteBytes (drop i s) n l z ∙ ap (λ (k : ℕ). stripFrom whiteBytes 0 (drop k (drop i s))) (p .1) ∙ ap (stripFrom whiteBytes 0) (drop-drop 1 i s) in
+    sym f ∙ q
+
+-- an ASCII character above the blank is in no row
+plain-size : (a : ℕ) → within 0x21 0x7F a ≡ true → (a < 0x80) × (0 ≡ sizeOf (take 2 whiteBytes) (a ∷ []))
+unfolding sizeOf whiteBytes begins
+plain-size a e =
+    let p = inside 0x21 0x7F a e in
+    let n : _≡_ {A = ℕ} 0 (if within 0x09 0x0D a & true then 1 else if within 0x20 0x20 a & true then 1 else 0) =
+    rw (within-high 0x09 0x0D a (omega (arith, p .0)), within-high 0x20 0x20 a (omega (arith, p .0))) in
+    (omega (arith, p .1), n)
+
+-- so nothing is trimmed there
+plain-front : (s : List ℕ) (i : ℕ) → i < length s → within 0x21 0x7F (getD s i 0) ≡ true → trimmedFront (drop i s) ≡ drop i s
+unfolding trimmedFront
+plain-front s i h e =
+    let p = plain-size (getD s i 0) e in
+    strip-done whiteBytes (drop i s) 0 (at-ascii s i 0 h (p .0) (p .1)) refl
+
+plain-back : (s : List ℕ) → 0 < length s → within 0x21 0x7F (getD s (length s - 1) 0) ≡ true → trimmedBack s ≡ s
+unfolding trimmedBack
+plain-back s h e =
+    let p = plain-size (getD s (length s - 1) 0) e in
+    let t : take (length s) s ≡ s = take-length s in
+    let n : 0 ≡ sizeOf (backwards whiteBytes) (reverse s) =
+    before-ascii s (length s) 0 h (le-refl (length s)) (p .0) (p .1) ∙ ap (λ (r : List ℕ). sizeOf (backwards whiteBytes) (reverse r)) t in
+    ap reverse (strip-done (backwards whiteBytes) (reverse s) 0 n refl) ∙ reverse-reverse s
+
 abbrev pub place : (start len : ℕ) → Place
 place start len = record { start = start; len = len }
 
@@ -241,6 +290,28 @@ module _ (s : List ℕ) (i j : ℕ) (h : i ≤ length s) (p : drop i s ≡ trimm
       let m : j ≡ length (trimmedBack (trimmedFront s)) =
       sym (length-take-le j (take (length s - i) (drop i s)) k) ∙ ap length q ∙ ap (λ (t : List ℕ). length (trimmedBack t)) r in
       rw (← n, ← m)
+
+-- ---- the place where only ASCII White_Space was passed at the front
+
+module _ (s : List ℕ) (i : ℕ) (h : i ≤ length s) (q : trimmedFront (drop i s) ≡ trimmedFront s) where
+  -- and all of the text was
+  pub place-none : length s ≤ i → place i 0 ≡ trimPlace s
+  unfolding trimPlace trimmed trimmedFront trimmedBack stripFrom
+  place-none g =
+      let f : [] ≡ stripFrom whiteBytes 0 s = (rw (rest-none s i g) at q) in
+      let e : i ≡ length s = omega arith in
+      rw (← f, e, sub-zero (length s))
+
+  -- or what is left stays
+  pub place-plain : i < length s → within 0x21 0x7F (getD s i 0) ≡ true → within 0x21 0x7F (getD s (length s - 1) 0) ≡ true → place i (length s - i) ≡ trimPlace s
+  place-plain g x y =
+      let p : drop i s ≡ trimmedFront s = sym (plain-front s i g x) ∙ q in
+      let n : i + (length (drop i s) - 1) ≡ length s - 1 = omega (arith, length-drop i s) in
+      let l : getD (drop i s) (length (drop i s) - 1) 0 ≡ getD s (length s - 1) 0 = getD-drop i s (length (drop i s) - 1) 0 ∙ ap (λ (k : ℕ). getD s k 0) n in
+      let b : trimmedBack (drop i s) ≡ drop i s = plain-back (drop i s) (omega (arith, length-drop i s)) (rw l y) in
+      let r = whole-rest s i in
+      let k : length s - i ≤ length (take (length s - i) (drop i s)) = rw r (omega (arith, length-drop i s)) in
+      place-is s i (length s - i) h p (rw r (whole-rest s i ∙ sym b)) k
 
 -- ---- the place of the trimmed text
 
@@ -296,4 +367,4 @@ module _ (s : List ℕ) (p : Place) (e : p ≡ trimPlace s) where
   pub place-inside : p .start + p .len ≤ length s
   place-inside = rw e (trim-inside s)
 
-pub ruleset trim-steps = (place-is, at-place, place-inside)
+pub ruleset trim-steps = (place-is, place-none, place-plain, at-place, place-inside)

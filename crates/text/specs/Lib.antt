@@ -3,6 +3,7 @@ pub mod Lines
 pub mod LinesWalk
 pub mod Literal
 pub mod Parts
+pub mod Skip
 pub mod Trim
 pub mod Unicode
 pub mod Utf8

@@ -2,6 +2,7 @@
 pub mod byte;
 pub mod lines;
 pub mod parts;
+pub mod skip;
 pub mod trim;
 pub mod utf8;
 pub mod words;

@@ -1,10 +1,11 @@
 // Lines of a text.
 ghost use mathlib.Core.Path.{_≡_};
 ghost use Prim.Native.Nat.{_+_, _≤_, _<_};
-ghost use mathlib.Core.Bool.{true};
 ghost use lib.ListN.{length};
+ghost use Rattle.text.specs.Base.{LF};
 ghost use Rattle.text.specs.Lines.{line, lineAt, lines, indented, trimmedLength};
-ghost use Rattle.text.specs.LinesWalk.{endAt, Plain, lfCount};
+ghost use Rattle.text.specs.LinesWalk.{endAt};
+ghost use Rattle.text.specs.Skip.{Without};
 
 // A line by its number: from start up to, not including, end. The next line begins at next.
 pub struct Line {
@@ -39,48 +40,16 @@ fn ended(text: &[u8], at: usize, number: usize, lf: usize) -> Line
     }
 }
 
-// 1 for an LF, 0 for any other byte.
-fn lf_count(x: u8) -> u8
-    ensures { λ r. ⌜ r ≡ lfCount x ⌝ }
-    ensures { λ r. ⌜ r ≤ 1 ⌝ }
-{
-    if x == 10 { 1 } else { 0 }
-}
-
-// Whether the eight bytes from `at` on have no LF. Counted and not branched on, so that they are looked at together.
-fn eight_plain(text: &[u8], at: usize) -> bool
-    requires { ⌜ at + 8 ≤ length (now text) ⌝ }
-    ensures { λ r. ⌜ (r ≡ true → Plain (now (text .entry)) at (at + 8)) ⌝ }
-{
-    let a = lf_count(text[at])
-        + lf_count(text[at + 1])
-        + lf_count(text[at + 2])
-        + lf_count(text[at + 3]);
-    let b = lf_count(text[at + 4])
-        + lf_count(text[at + 5])
-        + lf_count(text[at + 6])
-        + lf_count(text[at + 7]);
-    a + b == 0
-}
-
 // A place up to which no LF stands from `at` on.
 fn skip_plain(text: &[u8], at: usize) -> usize
     ensures { λ r. ⌜ at ≤ r ⌝ }
     ensures { λ r. ⌜ (at < r → r ≤ length (now (text .entry))) ⌝ }
-    ensures { λ r. ⌜ Plain (now (text .entry)) at r ⌝ }
+    ensures { λ r. ⌜ Without LF (now (text .entry)) at r ⌝ }
 {
-    let mut i = at;
-    while i < text.len() {
-        if text.len() - i < 8 {
-            return i;
-        }
-        if eight_plain(text, i) {
-            i += 8;
-        } else {
-            return i;
-        }
+    if text.len() <= at {
+        return at;
     }
-    i
+    crate::skip::skip_others(text, 10, at)
 }
 
 // The line that begins at `at`, called by the number given. At the end of the text, or past it, it has no bytes.

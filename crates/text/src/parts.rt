@@ -70,7 +70,7 @@ pub fn same(a: &[u8], b: &[u8]) -> bool
 pub fn find(s: &[u8], b: u8) -> Found
     ensures { λ r. ⌜ foundOf r ≡ position b (now (s .entry)) ⌝ }
 {
-    let mut i: usize = 0;
+    let mut i = crate::skip::skip_others(s, b, 0);
     while i < s.len() {
         if s[i] == b {
             return Found::At(i);

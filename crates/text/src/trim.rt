@@ -3,6 +3,7 @@ ghost use mathlib.Core.Path.{_≡_};
 ghost use mathlib.Core.List.{[], _∷_, reverse};
 ghost use Prim.Native.Nat.{_+_, _-_, _≤_, _<_};
 ghost use lib.ListN.{length, getD, take, drop};
+ghost use Rattle.text.specs.Base.{within};
 ghost use Rattle.text.specs.Utf8.{_to_};
 ghost use Rattle.text.specs.Trim.{whiteBytes, backwards, begins, sizeOf, trimmedFront, trimmedBack, trimmed, trimPlace};
 
@@ -201,8 +202,8 @@ fn back_start(s: &[u8]) -> usize
     i
 }
 
-// Where the text stands once its White_Space is off both ends.
-pub fn trim_place(s: &[u8]) -> Place
+// Where the text stands, by all of White_Space.
+fn trim_wide(s: &[u8]) -> Place
     ensures { λ r. ⌜ r ≡ trimPlace (now (s .entry)) ⌝ }
 {
     let start = front_end(s);
@@ -211,6 +212,55 @@ pub fn trim_place(s: &[u8]) -> Place
     Place {
         start: start,
         len: len,
+    }
+}
+
+// A place up to which ASCII White_Space stands at the front.
+fn skip_blanks(s: &[u8]) -> usize
+    ensures { λ r. ⌜ r ≤ length (now (s .entry)) ⌝ }
+    ensures { λ r. ⌜ trimmedFront (drop r (now (s .entry))) ≡ trimmedFront (now (s .entry)) ⌝ }
+{
+    let mut i: usize = 0;
+    while i < s.len() {
+        if ascii_size(s[i]) == 0 {
+            return i;
+        }
+        i += 1;
+    }
+    i
+}
+
+// Whether x is an ASCII character above the blank. Such a one is not trimmed.
+fn is_plain(x: u8) -> bool
+    ensures { λ r. ⌜ r ≡ within 0x21 0x7F x ⌝ }
+{
+    crate::byte::in_range(0x21, 0x7F, x)
+}
+
+// Where the text stands once its White_Space is off both ends. Most texts have at most some blanks at the front: those need not be walked by all of
+// White_Space, and this function stays small enough to stand in its callers.
+pub fn trim_place(s: &[u8]) -> Place
+    ensures { λ r. ⌜ r ≡ trimPlace (now (s .entry)) ⌝ }
+{
+    let n = s.len();
+    let start = skip_blanks(s);
+    if n <= start {
+        return Place {
+            start: start,
+            len: 0,
+        };
+    }
+    if !is_plain(s[start]) {
+        let place = trim_wide(s);
+        return place;
+    }
+    if !is_plain(s[n - 1]) {
+        let place = trim_wide(s);
+        return place;
+    }
+    Place {
+        start: start,
+        len: n - start,
     }
 }
 

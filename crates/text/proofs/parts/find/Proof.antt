@@ -1,10 +1,11 @@
 -- `text::parts::find` meets its contract. The loop's invariant: the search from here answers what the search of the whole answers. Assumes nothing.
 use Prim.Native.Nat.{ℕ, _+_, _-_, _≤_, _<_}
-use mathlib.Core.Path.{_≡_, refl}
+use mathlib.Core.Path.{_≡_}
 use mathlib.Core.List.{List}
 use lib.ListN.{length, getD, drop}
 use borrow.Author.Tests.{eq-eqb, ne-eqb}
 use Rattle.text.proofs.Scan.{rest-more, rest-none}
+use Rattle.text.proofs.SkipLaws.{passed}
 use mathlib.Core.Option.{Option, none, some}
 use Rattle.text.specs.Parts.{positionFrom, position, foundOf}
 use borrow.Author.Needs.{needs}
@@ -35,9 +36,11 @@ Inv-loop s b i₀ i = (i ≤ length s) × (positionFrom b i (drop i s) ≡ posit
 abbrev μ-loop : tie.MeasureT-loop
 μ-loop s b i₀ i = length s - i
 
+skip-others-requires : tie.Need-skip-others-requires Inv-loop μ-loop
+skip-others-requires c κs = search needs
+
 loop-holds : tie.Need-loop-holds Inv-loop μ-loop
-unfolding position
-loop-holds c = (search needs, refl)
+loop-holds c = search (needs, passed)
 
 shared-slice-read-if1 : tie.Need-shared-slice-read-if1 Inv-loop μ-loop
 shared-slice-read-if1 c = search (needs, walk)
@@ -65,6 +68,7 @@ find-spec =
     (tie.spec
     Inv-loop
     μ-loop
+    skip-others-requires
     loop-holds
     shared-slice-read-if1
     returns
