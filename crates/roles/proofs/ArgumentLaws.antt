@@ -1,29 +1,37 @@
 -- Laws of argument lines for the proofs of code: what a line says, from the signs that were found in it. For `search` to use. Assumes nothing.
 use Prim.Native.Nat.{ℕ, _+_}
-use mathlib.Core.Path.{_≡_, _∙_}
+use mathlib.Core.Path.{_≡_, refl, sym, _∙_}
 use mathlib.Core.Bool.{Bool, true, false}
-use mathlib.Core.List.{List}
-use Rattle.text.specs.Base.{QUOTE}
+use mathlib.Core.List.{List, [], _∷_}
+use types.Run.{OneOf, miss}
+use denote.Enum.Declared.{tagOf}
+use Rattle.text.specs.Base.{_&_, QUOTE}
 use Rattle.text.specs.Parts.{span, startsWith, position, foundOf}
 use Rattle.text.specs.declared.parts.Span.{Span}
 use Rattle.text.specs.declared.parts.Found.{Found}
 use Rattle.text.specs.declared.parts.Found.the-variants.{At, Nothing}
 use Rattle.text.proofs.LiteralLaws.{codes}
-use Rattle.script.specs.Pieces.{bytes, trim, cutAt}
+use Rattle.text.proofs.Scan.{never}
+use Rattle.script.specs.Pieces.{bytes, begins, trim, cutAt}
 use Rattle.script.specs.Operations.{keysOf, keyIn}
 use Rattle.script.specs.Expectations.{COLON}
 use Rattle.script.specs.Roles.{pairIn, keyed, keySaying, rawSaying, optionSaying, sayingIn}
 use Rattle.script.specs.declared.roles.Key.{Key}
 use Rattle.script.specs.declared.roles.Key.the-variants.{Raw}
 use Rattle.script.specs.declared.roles.Takes.{Takes}
-use Rattle.script.specs.declared.roles.Takes.the-variants.{Options}
+use Rattle.script.specs.declared.roles.Takes.the-variants.{NoLines, Options, Garbage, Verify, Texts, Store, Multiple, FirstData, FirstRaw}
+use Rattle.script.proofs.roles.Takes.{the-type}
 use Rattle.script.specs.declared.roles.Saying.{Saying}
 use Rattle.script.specs.declared.roles.Saying.the-variants.{Known, Pair, NoColon, Unknown, NoPair, NoRaw}
 use Rattle.roles.specs.KeyRead.{keyOf}
-use Rattle.roles.specs.ArgumentRead.{pairSaying, pairValue, pairBehind}
+use Rattle.roles.specs.ArgumentRead.{pairSaying, pairValue, pairBehind, listed}
 use Rattle.roles.specs.declared.keys.KeyFound.{KeyFound}
 use Rattle.roles.specs.declared.keys.KeyFound.the-variants as found
 use Rattle.pieces.proofs.BehindLaws.{begins-is, behind-some, behind-none, cut-some, cut-none}
+
+-- the numbers of those operations whose lines have keys
+abbrev pub withKeys : List ℕ
+withKeys = 1 ∷ 2 ∷ 3 ∷ 4 ∷ 5 ∷ 6 ∷ 7 ∷ []
 
 module _ (text : List ℕ) where
   -- ---- `raw x"`
@@ -98,20 +106,68 @@ module _ (text : List ℕ) where
       unfolding pairSaying pairIn pairBehind pairValue cutAt
       name-found n s g q = q ∙ rw (behind-some text t "\"" r e y, cut-some text (t .start + 1) (t .end) QUOTE f h n g, pairIn, pairSaying)
 
-    -- ---- a line of SetOptions
+  -- ---- a line of an override list, and any other
 
-    pub in-list : (listOpen : Bool) (s : Saying) → listOpen ≡ true → r ≡ true → s ≡ pairSaying (pairIn text t) → s ≡ optionSaying text listOpen t
-    unfolding optionSaying pairSaying
-    in-list listOpen s o y q = q ∙ rw (o, begins-is text t "\"" r e ∙ y, optionSaying)
+  module _ (takes : Takes) (listOpen : Bool) (t : Span) where
+    pub not-open : listOpen ≡ false → false ≡ listed text takes listOpen t
+    unfolding listed
+    not-open n = go takes
+      where
+        go : (k : Takes) → false ≡ listed text k listOpen t
+        go NoLines = refl
+        go Options = rw n
+        go Garbage = refl
+        go Verify = refl
+        go Texts = refl
+        go Store = refl
+        go Multiple = refl
+        go FirstData = refl
+        go FirstRaw = refl
 
-    pub beside-list : (listOpen : Bool) (s : Saying) → r ≡ false → s ≡ keySaying text (keysOf Options) t → s ≡ optionSaying text listOpen t
-    unfolding optionSaying
-    beside-list true s n q = q ∙ rw (begins-is text t "\"" r e ∙ n, optionSaying)
-    beside-list false s n q = q
+    pub by-quote : takes ≡ Options → listOpen ≡ true → (r : Bool) → r ≡ startsWith (codes "\"") (bytes text t) → r ≡ listed text takes listOpen t
+    unfolding listed
+    by-quote h o r e = rw (h, o, begins-is text t "\"" r e)
 
-  pub no-list : (listOpen : Bool) (t : Span) (s : Saying) → listOpen ≡ false → s ≡ keySaying text (keysOf Options) t → s ≡ optionSaying text listOpen t
+  -- the two ways of a line of SetOptions
+  option-pair : (listOpen : Bool) (t : Span) → listOpen & begins text "\"" t ≡ true → pairSaying (pairIn text t) ≡ optionSaying text listOpen t
+  unfolding optionSaying pairSaying
+  option-pair listOpen t y = rw (y, optionSaying)
+
+  option-key : (listOpen : Bool) (t : Span) → listOpen & begins text "\"" t ≡ false → keySaying text (keysOf Options) t ≡ optionSaying text listOpen t
   unfolding optionSaying
-  no-list listOpen t s n q = q ∙ rw (n, optionSaying)
+  option-key listOpen t n = rw (n, optionSaying)
+
+  module _ (takes : Takes) (listOpen : Bool) (t : Span) (b : Bool) (e : b ≡ listed text takes listOpen t) (s : Saying) where
+    pub in-list : b ≡ true → s ≡ pairSaying (pairIn text t) → s ≡ sayingIn text takes listOpen t
+    unfolding listed sayingIn
+    in-list y q = q ∙ go takes (sym e ∙ y)
+      where
+        go : (k : Takes) → listed text k listOpen t ≡ true → pairSaying (pairIn text t) ≡ sayingIn text k listOpen t
+        go NoLines z = never (sym z)
+        go Options z = option-pair listOpen t z
+        go Garbage z = never (sym z)
+        go Verify z = never (sym z)
+        go Texts z = never (sym z)
+        go Store z = never (sym z)
+        go Multiple z = never (sym z)
+        go FirstData z = never (sym z)
+        go FirstRaw z = never (sym z)
+
+    -- an operation whose lines have keys
+    pub beside-list : OneOf withKeys (tagOf the-type takes) → b ≡ false → s ≡ keySaying text (keysOf takes) t → s ≡ sayingIn text takes listOpen t
+    unfolding listed sayingIn
+    beside-list h n q = q ∙ go takes h (sym e ∙ n)
+      where
+        go : (k : Takes) → OneOf withKeys (tagOf the-type k) → listed text k listOpen t ≡ false → keySaying text (keysOf k) t ≡ sayingIn text k listOpen t
+        go NoLines m z = absurd (miss withKeys 0 tt m)
+        go Options m z = option-key listOpen t z
+        go Garbage m z = refl
+        go Verify m z = refl
+        go Texts m z = refl
+        go Store m z = refl
+        go Multiple m z = refl
+        go FirstData m z = refl
+        go FirstRaw m z = absurd (miss withKeys 8 tt m)
 
   -- the lines that an operation takes are known
   pub takes-told : (takes told : Takes) (listOpen : Bool) (t : Span) (s : Saying) → takes ≡ told → s ≡ sayingIn text told listOpen t → s ≡ sayingIn text takes listOpen t
@@ -127,4 +183,4 @@ pub ruleset pair-words = (no-equals, equals, no-quote, no-end, pair-found)
 
 pub ruleset name-words = (no-name, name-open, name-found)
 
-pub ruleset option-words = (in-list, beside-list, no-list)
+pub ruleset list-words = (not-open, by-quote)

@@ -224,6 +224,16 @@ module _ (text : List ℕ) (t : Span) where
     unfolding preambleRole isEmpty
     line-word s d h = rw (ne-eqb (t .start) (t .end) n, front-begins text t x g "#" (ne-eqb x 35 s), front-begins text t x g "expect" (ne-eqb x 101 d), h)
 
+-- a comment that begins with no letter of the three words
+module _ (text : List ℕ) (t : Span) (y : ℕ) (f : y ≡ getD (bytes text t) 0 0) (d : y ≡ 35) where
+  -- a piece with a first byte is not empty
+  has-first : t .start ≡ t .end → ⊥
+  has-first h = let z : getD (bytes text t) 0 0 ≡ 0 = ap (λ (b : List ℕ). getD b 0 0) (bytes-none text (t .start) (t .end) (omega arith)) in omega arith
+
+  pub remark : (start : ℕ) → start ≡ behindSigns (t .start) (bytes text t) → (c : Span) → c ≡ trim text (span start (t .end)) → (x : ℕ) → x ≡ getD (bytes text c) 0 0
+      → (x ≡ 100 → ⊥) → (x ≡ 116 → ⊥) → (x ≡ 115 → ⊥) → Nothing ≡ preambleRole text t
+  remark start e c k x g p u s = line-comment text t has-first y f Nothing d (comment-none text t start e c k x g p u s)
+
 module _ (text : List ℕ) (t : Span) (b : Bool) (e : b ≡ sameBytes (bytes text t) (codes "---")) where
   pub step-over : b ≡ true → step Nothing Outside ≡ preambleStep text t
   unfolding preambleStep is
@@ -232,6 +242,9 @@ module _ (text : List ℕ) (t : Span) (b : Bool) (e : b ≡ sameBytes (bytes tex
   pub step-inside : b ≡ false → (r : Role) → r ≡ preambleRole text t → step r InPreamble ≡ preambleStep text t
   unfolding preambleStep is
   step-inside f r h = rw (spells-as "---" (bytes text t) ∙ sym e ∙ f, h)
+
+  pub step-remark : b ≡ false → (r : Bool) → (r ≡ true → Nothing ≡ preambleRole text t) → r ≡ true → step Nothing InPreamble ≡ preambleStep text t
+  step-remark f r q y = step-inside f Nothing (q y)
 
 pub ruleset sign-steps = (signs-over, signs-end, signs-on)
 

@@ -23,7 +23,10 @@ use Rattle.script.specs.declared.roles.Step.{Step}
 use Rattle.script.specs.declared.roles.Takes.{Takes}
 use Rattle.script.specs.declared.roles.Where.{Where}
 use Rattle.script.specs.declared.roles.Where.the-variants.{InPreamble, Outside, InBlock, InEntry}
-use Rattle.roles.specs.StepRead.{frontOf, belowEmpty}
+use Rattle.roles.specs.StepRead.{frontOf, sortedStep, belowEmpty}
+use Rattle.roles.specs.OpeningRead.{openingStep}
+use Rattle.roles.specs.declared.steps.Sort.{Sort}
+use Rattle.roles.specs.declared.steps.Sort.the-variants as sort
 use Rattle.roles.specs.declared.steps.Front.{Front}
 use Rattle.roles.specs.declared.steps.Front.the-variants.{Skipped, Expect, Other}
 use Rattle.pieces.proofs.BehindLaws.{begins-is}
@@ -124,9 +127,31 @@ module _ (text : List ℕ) (t : Span) where
         pub block-other : (s : Step) → f ≡ Other → s ≡ argumentStep plainRules text takes listOpen t → s ≡ blockStep plainRules text takes listOpen inward t
         block-other s h q = rw y (with-other (blockStep plainRules text takes listOpen true t) (argumentStep plainRules text takes listOpen t) (block-by takes listOpen) f e s h q)
 
+  -- ---- the sorts of lines
+
+  pub sorted-as : (told s : Sort) → s ≡ told → (a : Step) → a ≡ sortedStep text told t → a ≡ sortedStep text s t
+  sorted-as told s h a q = rw (h, q)
+
+  pub sorted-expect : (s : Sort) → s ≡ sort.Expect → (r : Role) → r ≡ expectRole text t → step r InEntry ≡ sortedStep text s t
+  unfolding sortedStep
+  sorted-expect s h r q = rw (h, q)
+
+  module _ (b : Bool) (e : b ≡ skipped text t) where
+    pub outside-skipped : b ≡ true → step Nothing Outside ≡ outsideStep text t
+    unfolding outsideStep
+    outside-skipped h = rw (← e, h)
+
+    pub outside-opened : b ≡ false → openingStep text t ≡ outsideStep text t
+    unfolding outsideStep openingStep
+    outside-opened h = rw (← e, h)
+
   -- ---- where a line stands is known
   pub stands : (w told : Where) (inward : Bool) (s : Step) → w ≡ told → s ≡ stepAt plainRules text told inward t → s ≡ stepAt plainRules text w inward t
   stands w told inward s h q = rw (h, q)
+
+-- the step of a sort that a call has told
+pub told-step : (text : List ℕ) (t : Span) (s : Sort) (whole a : Step) → sortedStep text s t ≡ whole → a ≡ sortedStep text s t → a ≡ whole
+told-step text t s whole a e q = q ∙ e
 
 pub step-is : (text : List ℕ) (w : Where) (l : Line) (inward : Bool) (t : Span) (s : Step) → inward ≡ indented (part text (l .start) (l .end - l .start)) → t ≡ trim text (span (l .start) (l .end)) → s ≡ stepAt plainRules text w inward t → s ≡ stepOf plainRules text w l
 unfolding stepOf bytes
@@ -156,6 +181,8 @@ module _ (text : List ℕ) where
   empty-is w next l h e = rw (no-bytes (lineSpan l) h, e) (sym (nothing-at w (trim text (lineSpan l)) (trim-nothing (lineSpan l) h)))
 
 pub ruleset front-words = (front-blank, front-comment, front-expect, front-other)
+
+pub ruleset outside-words = (outside-skipped, outside-opened)
 
 pub ruleset entry-words = (entry-outside, entry-skipped, entry-expect, entry-other)
 

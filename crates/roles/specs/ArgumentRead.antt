@@ -1,11 +1,14 @@
 -- What the code's answers about argument lines say. Assumes nothing.
 use Prim.Native.Nat.{ℕ}
+use mathlib.Core.Bool.{Bool, false}
 use mathlib.Core.List.{List}
 use mathlib.Core.Option.{Option, none, some}
-use Rattle.text.specs.Base.{QUOTE}
+use Rattle.text.specs.Base.{_&_, QUOTE}
 use Rattle.text.specs.declared.parts.Span.{Span}
 use Rattle.script.specs.Answers.{_>>=_}
-use Rattle.script.specs.Pieces.{behind, trim, cut}
+use Rattle.script.specs.Pieces.{begins, behind, trim, cut}
+use Rattle.script.specs.declared.roles.Takes.{Takes}
+use Rattle.script.specs.declared.roles.Takes.the-variants.{NoLines, Options, Garbage, Verify, Texts, Store, Multiple, FirstData, FirstRaw}
 use Rattle.script.specs.declared.roles.Saying.{Saying}
 use Rattle.script.specs.declared.roles.Saying.the-variants.{Known, Pair, NoColon, Unknown, NoPair, NoRaw}
 use Rattle.script.specs.Inside.{In}
@@ -36,3 +39,15 @@ unfoldable pub pairBehind : (text : List ℕ) → (name after : Span) → Option
 pairBehind text name after = do
   b ← behind text "=" (trim text after)
   pairValue text name (trim text b)
+
+-- a line of an open override list that is a pair or none
+unfoldable pub listed : (text : List ℕ) → Takes → (listOpen : Bool) → Span → Bool
+listed text NoLines listOpen t = false
+listed text Options listOpen t = listOpen & begins text "\"" t
+listed text Garbage listOpen t = false
+listed text Verify listOpen t = false
+listed text Texts listOpen t = false
+listed text Store listOpen t = false
+listed text Multiple listOpen t = false
+listed text FirstData listOpen t = false
+listed text FirstRaw listOpen t = false

@@ -1,11 +1,14 @@
 -- What the code's answers about opening lines say. Assumes nothing.
 use Prim.Native.Nat.{ℕ}
 use mathlib.Core.List.{List}
+use Rattle.text.specs.declared.parts.Span.{Span}
 use Rattle.script.specs.Answers.{Answer, given, refused}
 use Rattle.script.specs.Operations.{Syntax, ignored, oneText, oneSet, pathThenSet, pathThenText}
 use Rattle.script.specs.Pieces.{Cut, cutInto}
 use Rattle.script.specs.Timestamps.{Stamped, stampedAs}
+use Rattle.script.specs.Roles.{step, openingRole, afterOpening}
 use Rattle.script.specs.Inside.{In}
+use Rattle.script.specs.declared.roles.Step.{Step}
 use Rattle.roles.specs.declared.openings.Halves.{Halves}
 use Rattle.roles.specs.declared.openings.SetPlace.{SetPlace}
 use Rattle.roles.specs.declared.openings.SetPlace.the-variants.{NoSet, AllOf, BehindBlank}
@@ -31,3 +34,7 @@ setPlace oneText = NoSet
 setPlace oneSet = AllOf
 setPlace pathThenSet = BehindBlank
 setPlace pathThenText = NoSet
+
+-- a line that opens an entry, and where the next one stands
+unfoldable pub openingStep : (text : List ℕ) → Span → Step
+openingStep text t = let role = openingRole text t in step role (afterOpening role)

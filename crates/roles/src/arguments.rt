@@ -3,9 +3,9 @@ ghost use mathlib.Core.Path.{_≡_};
 ghost use Prim.Native.Nat.{_+_, _<_};
 ghost use Rattle.script.specs.Operations.{keysOf};
 ghost use Rattle.script.specs.Pieces.{cutAt};
-ghost use Rattle.script.specs.Roles.{pairIn, keyed, keySaying, rawSaying, optionSaying, sayingIn};
+ghost use Rattle.script.specs.Roles.{pairIn, keyed, keySaying, rawSaying, sayingIn};
 ghost use Rattle.script.specs.Inside.{In};
-ghost use Rattle.roles.specs.ArgumentRead.{SayingIn, pairSaying, pairValue, pairBehind};
+ghost use Rattle.roles.specs.ArgumentRead.{SayingIn, pairSaying, pairValue, pairBehind, listed};
 use crate::keys::KeyFound;
 use script::roles::Key;
 use script::roles::Saying;
@@ -150,36 +150,32 @@ fn raw_saying(text: &[u8], t: Span) -> Saying
     )
 }
 
-// In an open override list a line that begins with `"` is a pair or nothing.
-fn option_saying(text: &[u8], list_open: bool, t: Span) -> Saying
+// Whether the line stands in an open override list as a pair, or where a pair is due: it begins with `"`.
+fn is_listed(text: &[u8], takes: Takes, list_open: bool, t: Span) -> bool
     requires { ⌜ In (now text) t ⌝ }
-    ensures { λ r. ⌜ r ≡ optionSaying (now (text .entry)) list_open t ⌝ }
-    ensures { λ r. ⌜ SayingIn (now (text .entry)) r ⌝ }
+    ensures { λ r. ⌜ r ≡ listed (now (text .entry)) takes list_open t ⌝ }
 {
     if !list_open {
-        return key_saying(text, Takes::Options, t);
+        return false;
     }
-    if pieces::pieces::begins(text, t, b"\"") {
-        return pair_in(text, t);
+    match takes {
+        Takes::Options => pieces::pieces::begins(text, t, b"\""),
+        _ => false,
     }
-    key_saying(text, Takes::Options, t)
 }
 
-// What an argument line says.
+// What an argument line says. The keys of all operations are asked for in one place, so that the code for them stands in its caller.
 pub fn saying_in(text: &[u8], takes: Takes, list_open: bool, t: Span) -> Saying
     requires { ⌜ In (now text) t ⌝ }
     ensures { λ r. ⌜ r ≡ sayingIn (now (text .entry)) takes list_open t ⌝ }
     ensures { λ r. ⌜ SayingIn (now (text .entry)) r ⌝ }
 {
+    if is_listed(text, takes, list_open, t) {
+        return pair_in(text, t);
+    }
     match takes {
         Takes::NoLines => Saying::NoColon,
-        Takes::Options => option_saying(text, list_open, t),
-        Takes::Garbage => key_saying(text, Takes::Garbage, t),
-        Takes::Verify => key_saying(text, Takes::Verify, t),
-        Takes::Texts => key_saying(text, Takes::Texts, t),
-        Takes::Store => key_saying(text, Takes::Store, t),
-        Takes::Multiple => key_saying(text, Takes::Multiple, t),
-        Takes::FirstData => key_saying(text, Takes::FirstData, t),
         Takes::FirstRaw => raw_saying(text, t),
+        _ => key_saying(text, takes, t),
     }
 }

@@ -4,12 +4,12 @@ ghost use mathlib.Core.Option.{some};
 ghost use Prim.Native.Nat.{_+_, _≤_};
 ghost use Rattle.script.specs.Operations.{formOf};
 ghost use Rattle.script.specs.Pieces.{cutOr};
-ghost use Rattle.script.specs.Roles.{setOn, notClosed, openOn, withStamp, openingRole, below, skipped, afterOpening, outsideStep};
+ghost use Rattle.script.specs.Roles.{setOn, notClosed, openOn, withStamp, openingRole, below, skipped, afterOpening};
 ghost use Rattle.script.specs.Answers.{given};
 ghost use Rattle.script.specs.Timestamps.{stampedAs, stampedAt};
 ghost use Rattle.script.specs.Timestamps as definition;
 ghost use Rattle.script.specs.Inside.{In};
-ghost use Rattle.roles.specs.OpeningRead.{stampedRead, RestIn, halves, setPlace};
+ghost use Rattle.roles.specs.OpeningRead.{stampedRead, RestIn, halves, setPlace, openingStep};
 use script::records::Stamp;
 use script::roles::Opening;
 use script::roles::Role;
@@ -214,7 +214,7 @@ pub fn stands_below(takes: Takes) -> Where
 }
 
 // Whether the line does not open an entry: it is blank, or begins with `#` but not `# nwscript`.
-fn is_skipped(text: &[u8], t: Span) -> bool
+pub fn is_skipped(text: &[u8], t: Span) -> bool
     requires { ⌜ In (now text) t ⌝ }
     ensures { λ r. ⌜ r ≡ skipped (now (text .entry)) t ⌝ }
 {
@@ -240,17 +240,11 @@ fn after_opening(role: Role) -> Where
     }
 }
 
-// A line with no entry open.
-pub fn outside_step(text: &[u8], t: Span) -> Step
+// A line that opens an entry, and where the next one stands.
+pub fn opening_step(text: &[u8], t: Span) -> Step
     requires { ⌜ In (now text) t ⌝ }
-    ensures { λ r. ⌜ r ≡ outsideStep (now (text .entry)) t ⌝ }
+    ensures { λ r. ⌜ r ≡ openingStep (now (text .entry)) t ⌝ }
 {
-    if is_skipped(text, t) {
-        return Step {
-            role: Role::Nothing,
-            next: Where::Outside,
-        };
-    }
     let role = opening_role(text, t);
     let next = after_opening(role);
     Step { role, next }

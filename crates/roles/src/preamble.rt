@@ -1,11 +1,13 @@
 // The lines of the preamble (`parse_preamble` of the Rust): the first byte tells which words may stand there.
 ghost use mathlib.Core.Path.{_≡_};
+ghost use mathlib.Core.Bool.{true};
 ghost use lib.ListN.{getD};
 ghost use Rattle.text.specs.Parts.{span};
 ghost use Rattle.wire.specs.Version.{version};
 ghost use Rattle.script.specs.Pieces.{bytes};
 ghost use Rattle.script.specs.Roles.{behindSigns, versionRole, commentRole, wordRole, preambleExpect, preambleRole, preambleStep};
 ghost use Rattle.script.specs.Inside.{In};
+ghost use Rattle.script.specs.declared.roles.Role.the-variants as Role;
 ghost use Rattle.roles.specs.PreambleSaid.{said};
 use script::roles::Key;
 use script::roles::Role;
@@ -63,6 +65,31 @@ fn comment_role(text: &[u8], t: Span) -> Role
         return said(text, c, b"server_features:", Key::ServerFeatures);
     }
     Role::Nothing
+}
+
+// Whether the line is a comment that begins with none of the letters of those words. Nearly all are, and a text may have very many: this is told before
+// a role is made.
+fn is_remark(text: &[u8], t: Span) -> bool
+    requires { ⌜ In (now text) t ⌝ }
+    ensures { λ r. ⌜ (r ≡ true → Role.Nothing ≡ preambleRole (now (text .entry)) t) ⌝ }
+{
+    if pieces::fronts::first_byte(text, t) != b'#' {
+        return false;
+    }
+    let start = behind_signs(text, t);
+    let comment = Span { start, end: t.end };
+    let c = pieces::pieces::trimmed(text, comment);
+    let x = pieces::fronts::first_byte(text, c);
+    if x == b'd' {
+        return false;
+    }
+    if x == b't' {
+        return false;
+    }
+    if x == b's' {
+        return false;
+    }
+    true
 }
 
 // A version that cannot be read leaves the version so far.
@@ -150,6 +177,12 @@ pub fn preamble_step(text: &[u8], t: Span) -> Step
         return Step {
             role: Role::Nothing,
             next: Where::Outside,
+        };
+    }
+    if is_remark(text, t) {
+        return Step {
+            role: Role::Nothing,
+            next: Where::InPreamble,
         };
     }
     Step {

@@ -1,9 +1,9 @@
 // Every line: what it is, and where the next one stands.
 ghost use mathlib.Core.Path.{_≡_};
 ghost use Rattle.script.specs.Values.{plainRules};
-ghost use Rattle.script.specs.Roles.{lineSpan, entryStep, blockStep, stepAt, stepOf};
+ghost use Rattle.script.specs.Roles.{lineSpan, outsideStep, entryStep, blockStep, stepAt, stepOf};
 ghost use Rattle.script.specs.Inside.{In};
-ghost use Rattle.roles.specs.StepRead.{frontOf, belowEmpty};
+ghost use Rattle.roles.specs.StepRead.{frontOf, sortedStep, belowEmpty};
 use script::roles::Role;
 use script::roles::Step;
 use script::roles::Takes;
@@ -16,6 +16,17 @@ pub enum Front {
     Skipped,
     Expect,
     Other,
+}
+
+// What is to be made of a line: a step of the preamble; nothing, with no entry open below it; nothing, with its entry open; an expectation; an argument
+// line of an operation that takes such lines, with an override list open or not; an entry.
+pub enum Sort {
+    Preamble,
+    Skipped,
+    Passed,
+    Expect,
+    Argument(Takes, bool),
+    Opening,
 }
 
 fn begins_as(text: &[u8], t: Span) -> Front
@@ -34,58 +45,90 @@ fn begins_as(text: &[u8], t: Span) -> Front
     Front::Other
 }
 
-// A line of an entry below its argument lines.
-fn entry_step(text: &[u8], inward: bool, t: Span) -> Step
+// A line with no entry open.
+fn outside_sort(text: &[u8], t: Span) -> Sort
     requires { ⌜ In (now text) t ⌝ }
-    ensures { λ r. ⌜ r ≡ entryStep (now (text .entry)) inward t ⌝ }
+    ensures { λ r. ⌜ sortedStep (now (text .entry)) r t ≡ outsideStep (now (text .entry)) t ⌝ }
+{
+    if crate::openings::is_skipped(text, t) {
+        return Sort::Skipped;
+    }
+    Sort::Opening
+}
+
+// A line of an entry below its argument lines.
+fn entry_sort(text: &[u8], inward: bool, t: Span) -> Sort
+    requires { ⌜ In (now text) t ⌝ }
+    ensures { λ r. ⌜ sortedStep (now (text .entry)) r t ≡ entryStep (now (text .entry)) inward t ⌝ }
 {
     if !inward {
-        return crate::openings::outside_step(text, t);
+        return outside_sort(text, t);
     }
     match begins_as(text, t) {
-        Front::Skipped => Step {
-            role: Role::Nothing,
-            next: Where::InEntry,
-        },
-        Front::Expect => Step {
-            role: matchers::expectations::expect_role(text, t),
-            next: Where::InEntry,
-        },
-        Front::Other => crate::openings::outside_step(text, t),
+        Front::Skipped => Sort::Passed,
+        Front::Expect => Sort::Expect,
+        Front::Other => outside_sort(text, t),
     }
 }
 
 // A line where argument lines may stand.
-fn block_step(text: &[u8], takes: Takes, list_open: bool, inward: bool, t: Span) -> Step
+fn block_sort(text: &[u8], takes: Takes, list_open: bool, inward: bool, t: Span) -> Sort
     requires { ⌜ In (now text) t ⌝ }
-    ensures { λ r. ⌜ r ≡ blockStep plainRules (now (text .entry)) takes list_open inward t ⌝ }
+    ensures { λ r. ⌜ sortedStep (now (text .entry)) r t ≡ blockStep plainRules (now (text .entry)) takes list_open inward t ⌝ }
 {
     if !inward {
-        return crate::openings::outside_step(text, t);
+        return outside_sort(text, t);
     }
     match begins_as(text, t) {
-        Front::Skipped => Step {
-            role: Role::Nothing,
-            next: Where::InEntry,
-        },
-        Front::Expect => Step {
-            role: matchers::expectations::expect_role(text, t),
-            next: Where::InEntry,
-        },
-        Front::Other => crate::blocks::argument_step(text, takes, list_open, t),
+        Front::Skipped => Sort::Passed,
+        Front::Expect => Sort::Expect,
+        Front::Other => Sort::Argument(takes, list_open),
     }
 }
 
+fn sort_of(text: &[u8], w: Where, inward: bool, t: Span) -> Sort
+    requires { ⌜ In (now text) t ⌝ }
+    ensures { λ r. ⌜ sortedStep (now (text .entry)) r t ≡ stepAt plainRules (now (text .entry)) w inward t ⌝ }
+{
+    match w {
+        Where::InPreamble => Sort::Preamble,
+        Where::Outside => outside_sort(text, t),
+        Where::InBlock(takes, list_open) => block_sort(text, takes, list_open, inward, t),
+        Where::InEntry => entry_sort(text, inward, t),
+    }
+}
+
+// What a line of that sort is.
+fn sorted_step(text: &[u8], sort: Sort, t: Span) -> Step
+    requires { ⌜ In (now text) t ⌝ }
+    ensures { λ r. ⌜ r ≡ sortedStep (now (text .entry)) sort t ⌝ }
+{
+    match sort {
+        Sort::Preamble => crate::preamble::preamble_step(text, t),
+        Sort::Skipped => Step {
+            role: Role::Nothing,
+            next: Where::Outside,
+        },
+        Sort::Passed => Step {
+            role: Role::Nothing,
+            next: Where::InEntry,
+        },
+        Sort::Expect => Step {
+            role: matchers::expectations::expect_role(text, t),
+            next: Where::InEntry,
+        },
+        Sort::Argument(takes, list_open) => crate::blocks::argument_step(text, takes, list_open, t),
+        Sort::Opening => crate::openings::opening_step(text, t),
+    }
+}
+
+// First the sort, then the step: so each way to make a step stands in one place, and what it makes is not copied from one to another.
 fn step_at(text: &[u8], w: Where, inward: bool, t: Span) -> Step
     requires { ⌜ In (now text) t ⌝ }
     ensures { λ r. ⌜ r ≡ stepAt plainRules (now (text .entry)) w inward t ⌝ }
 {
-    match w {
-        Where::InPreamble => crate::preamble::preamble_step(text, t),
-        Where::Outside => crate::openings::outside_step(text, t),
-        Where::InBlock(takes, list_open) => block_step(text, takes, list_open, inward, t),
-        Where::InEntry => entry_step(text, inward, t),
-    }
+    let sort = sort_of(text, w, inward, t);
+    sorted_step(text, sort, t)
 }
 
 // Where the line below an empty one stands.
