@@ -266,7 +266,8 @@ fn walk(text: &[u8]) -> Measured
                 });
             }
         }
-        w = step.next;
+        let next = step.next;
+        w = roles::steps::same_place(next);
         at = l.next;
         number += 1;
     }

@@ -159,3 +159,16 @@ pub fn step(text: &[u8], w: Where, l: Line) -> Step
     let t = pieces::pieces::trimmed(text, Span { start, end });
     step_at(text, w, inward, t)
 }
+
+// The same place, made case by case. A walk carries the place from line to line by this: a plain copy reads bytes together that `step` wrote one by one,
+// and such a read waits for them.
+pub fn same_place(w: Where) -> Where
+    ensures { λ r. ⌜ r ≡ w ⌝ }
+{
+    match w {
+        Where::InPreamble => Where::InPreamble,
+        Where::Outside => Where::Outside,
+        Where::InBlock(takes, list_open) => Where::InBlock(takes, list_open),
+        Where::InEntry => Where::InEntry,
+    }
+}

@@ -65,6 +65,9 @@ enum-known-role-3 c = search (needs, walk-laws, line-steps)
 returns : tie.Need-returns Inv-loop μ-loop
 returns c = search (needs, walk-laws, line-steps)
 
+same-place-requires : tie.Need-same-place-requires Inv-loop μ-loop
+same-place-requires c κs = search needs
+
 add-number : tie.Need-add-number Inv-loop μ-loop
 add-number c = search (needs, walk-laws, line-steps)
 
@@ -73,18 +76,18 @@ loop-less c = search (needs, walk-laws, line-steps)
 
 loop-again : tie.Need-loop-again Inv-loop μ-loop
 loop-again c =
-    let L = c .before .before .before .before .loop in (
+    let L = c .before .before .before .before .before .loop in (
       search (needs, line-steps),
       search needs,
       search (needs, line-steps),
-      ⊎-elim
-          (λ w. turn-nothing _ (L .t) (L .o) (L .w) (L .at) _ _ (search needs) (search needs) (c .before .before .line-at .result) (search needs) (c .before .step .result) (search needs) (search needs) _ _ (search needs) (search needs) (search needs))
+      rw (c .same-place .ensures) (⊎-elim
+          (λ w. turn-nothing _ (L .t) (L .o) (L .w) (L .at) _ _ (search needs) (search needs) (c .before .before .before .line-at .result) (search needs) (c .before .before .step .result) (search needs) (search needs) _ _ (search needs) (search needs) (search needs))
           (⊎-elim
-          (λ w. turn-says _ (L .t) (L .o) (L .w) (L .at) _ _ (search needs) (search needs) (c .before .before .line-at .result) (search needs) (c .before .step .result) (search needs) (search needs) _ _ _ (search needs) (w .4) (w .5 ∙ w .3 .ensures))
+          (λ w. turn-says _ (L .t) (L .o) (L .w) (L .at) _ _ (search needs) (search needs) (c .before .before .before .line-at .result) (search needs) (c .before .before .step .result) (search needs) (search needs) _ _ _ (search needs) (w .4) (w .5 ∙ w .3 .ensures))
           (⊎-elim
-          (λ w. turn-expects _ (L .t) (L .o) (L .w) (L .at) _ _ (search needs) (search needs) (c .before .before .line-at .result) (search needs) (c .before .step .result) (search needs) (search needs) _ _ _ (w .1 .given .1) (search needs) (search needs))
-          (λ w. turn-opens _ (L .t) (L .o) (L .w) (L .at) _ _ (search needs) (search needs) (c .before .before .line-at .result) (search needs) (c .before .step .result) (search needs) (search needs) _ _ _ (search needs) (w .1 .given .1) (w .5 ∙ w .3 .ensures) (w .6 ∙ w .4 .ensures))))
-          (c .match .came),
+          (λ w. turn-expects _ (L .t) (L .o) (L .w) (L .at) _ _ (search needs) (search needs) (c .before .before .before .line-at .result) (search needs) (c .before .before .step .result) (search needs) (search needs) _ _ _ (w .1 .given .1) (search needs) (search needs))
+          (λ w. turn-opens _ (L .t) (L .o) (L .w) (L .at) _ _ (search needs) (search needs) (c .before .before .before .line-at .result) (search needs) (c .before .before .step .result) (search needs) (search needs) _ _ _ (search needs) (w .1 .given .1) (w .5 ∙ w .3 .ensures) (w .6 ∙ w .4 .ensures))))
+          (c .before .match .came)),
     )
 
 close-on-requires : tie.Need-close-on-requires Inv-loop μ-loop
@@ -113,6 +116,7 @@ walk-spec =
     open-entry-requires
     enum-known-role-3
     returns
+    same-place-requires
     add-number
     loop-less
     loop-again
