@@ -25,11 +25,11 @@ pub struct Part {
 pub fn starts_with(s: &[u8], prefix: &[u8]) -> bool
     ensures { λ r. ⌜ r ≡ startsWith (now (prefix .entry)) (now (s .entry)) ⌝ }
 {
+    if s.len() < prefix.len() {
+        return false;
+    }
     let mut i: usize = 0;
     while i < prefix.len() {
-        if s.len() <= i {
-            return false;
-        }
         if s[i] != prefix[i] {
             return false;
         }
