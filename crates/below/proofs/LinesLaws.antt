@@ -192,6 +192,10 @@ module _ (options : Bool) (i x : ℕ) (starts₀ ends₀ : List ℕ) (items₀ :
         → starts′ ≡ starts → ends′ ≡ ends → items′ ≡ items → expects′ ≡ expects → pairs′ ≡ pairs → count′ ≡ count → Turn starts′ ends′ items′ expects′ pairs′ count′ left
     led-same starts′ ends′ items′ expects′ pairs′ count′ a b c d f g = rw (a, b, c, d, f, g) led
 
+    -- and with the place of the next line under another name
+    pub led-at : (text : List ℕ) (w w′ : Where) (at number : ℕ) → left ≡ rolesAt text w at number → w′ ≡ w → Turn starts ends items expects pairs count (rolesAt text w′ at number)
+    led-at text w w′ at number e f = rw (f, ← e) led
+
     -- the tables keep their lengths
     pub led-items : length items ≡ length items₀
     led-items = filling-length i _ items₀ items pairs _ (led .items-so-far)

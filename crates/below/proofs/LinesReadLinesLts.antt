@@ -200,10 +200,16 @@ abbrev pub r·5 : Kinds.RK 0
 r·5 = KValue.rVal kind1 kind1-laws
 
 abbrev pub ps·6 : List.List (Kinds.PK 0)
-ps·6 = List._∷_ (Num.pNum Syntax.w64) (List._∷_ (Num.pNum Syntax.w64) List.[])
+ps·6 = List._∷_ (KValue.pVal kind0 kind0-laws) List.[]
 
 abbrev pub r·6 : Kinds.RK 0
-r·6 = KValue.rVal kind1 kind1-laws
+r·6 = KValue.rVal kind0 kind0-laws
+
+abbrev pub ps·7 : List.List (Kinds.PK 0)
+ps·7 = List._∷_ (Num.pNum Syntax.w64) (List._∷_ (Num.pNum Syntax.w64) List.[])
+
+abbrev pub r·7 : Kinds.RK 0
+r·7 = KValue.rVal kind1 kind1-laws
 
 abbrev pub hs : List.List Syntax.Home
 hs = List._∷_ Syntax.valueLocal (List._∷_ Syntax.valueLocal (List._∷_ Syntax.valueLocal (List._∷_ Syntax.valueLocal (List._∷_ Syntax.valueLocal (List._∷_ Syntax.valueLocal (List._∷_ Syntax.valueLocal (List._∷_ Syntax.valueLocal (List._∷_ Syntax.valueLocal (List._∷_ Syntax.valueLocal (List._∷_ Syntax.valueLocal (List._∷_ Syntax.valueLocal (List._∷_ Syntax.valueLocal (List._∷_ Syntax.valueLocal (List._∷_ Syntax.valueLocal (List._∷_ Syntax.valueLocal (List._∷_ Syntax.valueLocal (List._∷_ Syntax.valueLocal (List._∷_ Syntax.valueLocal (List._∷_ Syntax.valueLocal (List._∷_ Syntax.valueLocal (List._∷_ Syntax.valueLocal (List._∷_ Syntax.valueLocal (List._∷_ Syntax.valueLocal (List._∷_ Syntax.valueLocal (List._∷_ Syntax.valueLocal (List._∷_ Syntax.valueLocal (List._∷_ Syntax.valueLocal (List._∷_ Syntax.valueLocal (List._∷_ Syntax.valueLocal (List._∷_ Syntax.valueLocal (List._∷_ Syntax.valueLocal (List._∷_ Syntax.valueLocal (List._∷_ Syntax.valueLocal (List._∷_ Syntax.valueLocal (List._∷_ Syntax.valueLocal (List._∷_ Syntax.valueLocal (List._∷_ Syntax.valueLocal (List._∷_ Syntax.valueLocal List.[]))))))))))))))))))))))))))))))))))))))
@@ -371,7 +377,7 @@ abbrev b53 : Syntax.Body
 b53 = Syntax.switch (Syntax.copy (Syntax.place 19 (List._∷_ (Syntax.variant 0) (List._∷_ (Syntax.field 0) List.[])))) (Syntax.arm (List._∷_ 0 List.[]) b14 (Syntax.arm (List._∷_ 1 List.[]) b33 (Syntax.arm (List._∷_ 2 List.[]) b46 (Syntax.arm (List._∷_ 3 List.[]) b51 (Syntax.arm (List._∷_ 4 List.[]) b52 Syntax.noDefault)))))
 
 abbrev b54 : Syntax.Body
-b54 = Syntax.assign (Syntax.place 12 List.[]) (Syntax.rvOpd (Syntax.copy (Syntax.place 20 List.[])))
+b54 = Syntax.call "roles::steps::same_place" (List._∷_ (Syntax.copy (Syntax.place 20 List.[])) List.[]) (Syntax.place 12 List.[])
 
 abbrev b55 : Syntax.Body
 b55 = Syntax.assign (Syntax.place 13 List.[]) (Syntax.rvOpd (Syntax.copy (Syntax.place 17 (List._∷_ (Syntax.field 3) List.[]))))
@@ -446,7 +452,7 @@ abbrev pub body : Syntax.Body
 body = b77
 
 abbrev pub Claims : Type 1
-Claims = Kinds.In 1 ps·0 × Kinds.Out 1 ps·0 r·0 × Kinds.In 1 ps·1 × Kinds.Out 1 ps·1 r·1 × Kinds.In 3 ps·2 × Kinds.Out 3 ps·2 r·2 × Kinds.In 0 ps·3 × Kinds.Out 0 ps·3 r·3 × Kinds.In 1 ps·4 × Kinds.Out 1 ps·4 r·4 × Kinds.In 0 ps·5 × Kinds.Out 0 ps·5 r·5 × Kinds.In 0 ps·6 × Kinds.Out 0 ps·6 r·6
+Claims = Kinds.In 1 ps·0 × Kinds.Out 1 ps·0 r·0 × Kinds.In 1 ps·1 × Kinds.Out 1 ps·1 r·1 × Kinds.In 3 ps·2 × Kinds.Out 3 ps·2 r·2 × Kinds.In 0 ps·3 × Kinds.Out 0 ps·3 r·3 × Kinds.In 1 ps·4 × Kinds.Out 1 ps·4 r·4 × Kinds.In 0 ps·5 × Kinds.Out 0 ps·5 r·5 × Kinds.In 0 ps·6 × Kinds.Out 0 ps·6 r·6 × Kinds.In 0 ps·7 × Kinds.Out 0 ps·7 r·7
 
 abbrev pub t0 : List.List Row.Entry
 t0 = List._∷_ (0, Rows'.any-gone τ9) (List._∷_ (1, Rows'.sslice (TReferent.rtF (TReferent.fInt Syntax.w8)) (Syntax.tyRef (Syntax.named 0) Syntax.imm (Syntax.tyInt Syntax.w8)) 0) (List._∷_ (2, Rows'.sc-here (Row.sInt Syntax.w64)) (List._∷_ (3, Rows'.sc-here (Row.sInt Syntax.w64)) (List._∷_ (4, Rows'.whole (Declared.row Where.the-type)) (List._∷_ (5, Mut.mslice (TReferent.rtF (TReferent.fInt Syntax.w64)) (Syntax.tyRef (Syntax.named 1) Syntax.mut (Syntax.tyInt Syntax.w64)) 1) (List._∷_ (6, Mut.mslice (TReferent.rtF (TReferent.fInt Syntax.w64)) (Syntax.tyRef (Syntax.named 2) Syntax.mut (Syntax.tyInt Syntax.w64)) 2) (List._∷_ (7, Rows'.sc-here Row.sBool) (List._∷_ (8, Mut.mslice (DArray.Array (TReferent.rtF (TReferent.fInt Syntax.w64)) 2) (Syntax.tyRef (Syntax.named 3) Syntax.mut (Syntax.tyArray (Syntax.tyInt Syntax.w64) 2)) 3) (List._∷_ (9, Rows'.sc-here (Row.sInt Syntax.w64)) (List._∷_ (10, Mut.mslice ExpectationElem.R (Syntax.tyRef (Syntax.named 4) Syntax.mut ExpectationElem.behind) 4) (List._∷_ (11, Rows'.sc-here (Row.sInt Syntax.w64)) (List._∷_ (12, Rows'.any-gone τ0) (List._∷_ (13, Rows'.any-gone (Syntax.tyInt Syntax.w64)) (List._∷_ (14, Rows'.any-gone (Syntax.tyInt Syntax.w64)) (List._∷_ (15, Rows'.any-gone (Syntax.tyInt Syntax.w64)) List.[])))))))))))))))
@@ -1250,8 +1256,8 @@ module _ (claims· : Claims) where
   abbrev s93 : Typed.Mo T97 → Typed.Mo T98
   s93 = RScalar.n-room T97 19 τ3
 
-  abbrev s94 : Typed.Mo T24 → Typed.Mo T99
-  s94 = LocalCopy.n-val-copy T24 20 12 (Declared.row Where.the-type) (Rows'.whole (Declared.row Where.the-type)) (Rows'.whole (Declared.row Where.the-type)) (λ x. x) (λ x. x) λ x. x
+  abbrev s94 : Typed.Both T24 T99
+  s94 = Call.callB ps·6 r·6 (claims· .12) (claims· .13) T24 (record { pos = 20; st = List.[]; d = 0; at = λ x. x }, tt) 12 List.[] τ0
 
   abbrev s95 : Typed.Mo T99 → Typed.Mo T100
   s95 = RScalar.n-room T99 20 τ0
@@ -1266,7 +1272,7 @@ module _ (claims· : Claims) where
   s98 = RScalar.k-op2 T102 (Syntax.add Syntax.unsigned) (RScalar.oAt 14 (Syntax.tyInt Syntax.w64) (Row.valS (Row.sInt Syntax.w64))) (RScalar.oInt Syntax.w64 1) 14 (Rows'.sc-here (Row.sInt Syntax.w64)) (Row.sInt Syntax.w64 .of)
 
   abbrev s99 : Typed.Both T11 T104
-  s99 = Call.callB ps·6 r·6 (claims· .12) (claims· .13) T11 (Num.vAt 15 λ x. x, (Num.vAt 16 λ x. x, tt)) 0 List.[] τ9
+  s99 = Call.callB ps·7 r·7 (claims· .14) (claims· .15) T11 (Num.vAt 15 λ x. x, (Num.vAt 16 λ x. x, tt)) 0 List.[] τ9
 
   abbrev s100 : Typed.Mo T104 → Typed.Mo T105
   s100 = RScalar.n-room T104 13 (Syntax.tyInt Syntax.w64)
@@ -1301,7 +1307,7 @@ module _ (claims· : Claims) where
   module _ (Pre· : (κs : Lifetimes.Lfts 5) → Kinds.Dens κs ps → Type 0) (Post· : (κs : Lifetimes.Lfts 5) → (a : Kinds.Dens κs ps) → Kinds.Plain 5 ps r κs) where
     module _ (M : Type 1) where
       abbrev pub Closed : Type 2
-      Closed = (𝓤 : URA.URA M) (H : Wp.Heap 𝓤) (A : Atoms.Atoms 𝓤) (W : Kit.Given 𝓤 H A) (𝓣 : Wp.Tables 𝓤 H) (known0 : Plain.Known 𝓤 H A W 𝓣 1 ps·0 r·0 (claims· .0) (claims· .1) "text::lines::line_at") (known1 : Plain.Known 𝓤 H A W 𝓣 1 ps·1 r·1 (claims· .2) (claims· .3) "roles::steps::step") (known2 : Plain.Known 𝓤 H A W 𝓣 3 ps·2 r·2 (claims· .4) (claims· .5) "below::says::say") (known3 : Plain.Known 𝓤 H A W 𝓣 0 ps·3 r·3 (claims· .6) (claims· .7) "below::says::expectation_of") (known4 : Plain.Known 𝓤 H A W 𝓣 1 ps·4 r·4 (claims· .8) (claims· .9) "slots::put_expectation") (known5 : Plain.Known 𝓤 H A W 𝓣 0 ps·5 r·5 (claims· .10) (claims· .11) "below::lines::at_opening") (known6 : Plain.Known 𝓤 H A W 𝓣 0 ps·6 r·6 (claims· .12) (claims· .13) "below::lines::at_end") → Statement.Triple 𝓤 (Wp.WpFn 𝓤 H (𝓣 .C) (𝓣 .Λ) (Function.fnOf 5 ps r xs m hs body)) (Function.plainOf 𝓤 H A 5 ps r Pre· Post·)
+      Closed = (𝓤 : URA.URA M) (H : Wp.Heap 𝓤) (A : Atoms.Atoms 𝓤) (W : Kit.Given 𝓤 H A) (𝓣 : Wp.Tables 𝓤 H) (known0 : Plain.Known 𝓤 H A W 𝓣 1 ps·0 r·0 (claims· .0) (claims· .1) "text::lines::line_at") (known1 : Plain.Known 𝓤 H A W 𝓣 1 ps·1 r·1 (claims· .2) (claims· .3) "roles::steps::step") (known2 : Plain.Known 𝓤 H A W 𝓣 3 ps·2 r·2 (claims· .4) (claims· .5) "below::says::say") (known3 : Plain.Known 𝓤 H A W 𝓣 0 ps·3 r·3 (claims· .6) (claims· .7) "below::says::expectation_of") (known4 : Plain.Known 𝓤 H A W 𝓣 1 ps·4 r·4 (claims· .8) (claims· .9) "slots::put_expectation") (known5 : Plain.Known 𝓤 H A W 𝓣 0 ps·5 r·5 (claims· .10) (claims· .11) "below::lines::at_opening") (known6 : Plain.Known 𝓤 H A W 𝓣 0 ps·6 r·6 (claims· .12) (claims· .13) "roles::steps::same_place") (known7 : Plain.Known 𝓤 H A W 𝓣 0 ps·7 r·7 (claims· .14) (claims· .15) "below::lines::at_end") → Statement.Triple 𝓤 (Wp.WpFn 𝓤 H (𝓣 .C) (𝓣 .Λ) (Function.fnOf 5 ps r xs m hs body)) (Function.plainOf 𝓤 H A 5 ps r Pre· Post·)
 
     module _ (Inv·0 : InvT-loop) (μ·0 : MeasureT-loop) where
       abbrev at0 : Typed.TF T16 O4
@@ -1569,7 +1575,7 @@ module _ (claims· : Claims) where
       at87 = λ Ψ. Typed.pass T99 T100 s95 (at86 Ψ)
 
       pub at88 : Typed.TF T24 O3
-      at88 = λ Ψ. Typed.pass T24 T99 s94 (at87 Ψ)
+      at88 = λ Ψ. Typed.both s94 (at87 Ψ)
 
       abbrev at89 : Typed.TF T23 O3
       at89 = λ Ψ. at83 (Typed.wantNext T24 O3 (at88 Ψ) Ψ)
@@ -1672,7 +1678,7 @@ module _ (claims· : Claims) where
 
       module _ {M : Type 1} (𝓤 : URA.URA M) (H : Wp.Heap 𝓤) (A : Atoms.Atoms 𝓤) (W : Kit.Given 𝓤 H A) (𝓣 : Wp.Tables 𝓤 H) where
         abbrev Knowns : Type 1
-        Knowns = Plain.Known 𝓤 H A W 𝓣 1 ps·0 r·0 (claims· .0) (claims· .1) "text::lines::line_at" × Plain.Known 𝓤 H A W 𝓣 1 ps·1 r·1 (claims· .2) (claims· .3) "roles::steps::step" × Plain.Known 𝓤 H A W 𝓣 3 ps·2 r·2 (claims· .4) (claims· .5) "below::says::say" × Plain.Known 𝓤 H A W 𝓣 0 ps·3 r·3 (claims· .6) (claims· .7) "below::says::expectation_of" × Plain.Known 𝓤 H A W 𝓣 1 ps·4 r·4 (claims· .8) (claims· .9) "slots::put_expectation" × Plain.Known 𝓤 H A W 𝓣 0 ps·5 r·5 (claims· .10) (claims· .11) "below::lines::at_opening" × Plain.Known 𝓤 H A W 𝓣 0 ps·6 r·6 (claims· .12) (claims· .13) "below::lines::at_end"
+        Knowns = Plain.Known 𝓤 H A W 𝓣 1 ps·0 r·0 (claims· .0) (claims· .1) "text::lines::line_at" × Plain.Known 𝓤 H A W 𝓣 1 ps·1 r·1 (claims· .2) (claims· .3) "roles::steps::step" × Plain.Known 𝓤 H A W 𝓣 3 ps·2 r·2 (claims· .4) (claims· .5) "below::says::say" × Plain.Known 𝓤 H A W 𝓣 0 ps·3 r·3 (claims· .6) (claims· .7) "below::says::expectation_of" × Plain.Known 𝓤 H A W 𝓣 1 ps·4 r·4 (claims· .8) (claims· .9) "slots::put_expectation" × Plain.Known 𝓤 H A W 𝓣 0 ps·5 r·5 (claims· .10) (claims· .11) "below::lines::at_opening" × Plain.Known 𝓤 H A W 𝓣 0 ps·6 r·6 (claims· .12) (claims· .13) "roles::steps::same_place" × Plain.Known 𝓤 H A W 𝓣 0 ps·7 r·7 (claims· .14) (claims· .15) "below::lines::at_end"
 
       module _ (κs : Lifetimes.Lfts 5) (qs : Lifetimes.Shares 5) where
         abbrev g24 : List.List Row.Entry
@@ -2323,7 +2329,7 @@ module _ (claims· : Claims) where
 
           d88 : Typed.Typed 𝓤 H A 𝓣 E G24 b58 Δ3 at88
           unfolding at88
-          d88 = Typed.s-seq 𝓤 H A W 𝓣 E G24 G99 b54 b57 Δ3 (Typed.pass T24 T99 s94) at87 (LocalCopy.t-val-copy 𝓤 H A W E 𝓣 (λ ρ. Unit) G24 20 12 (Declared.row Where.the-type) τ0 τ0 (Rows'.whole (Declared.row Where.the-type)) (Rows'.whole (Declared.row Where.the-type)) (λ x. x) (λ x. x) (λ x. x) Path'.refl (Own.told-none 𝓤 H A (G24 .slots)) (Yields.yields-copy 𝓤 H A W (λ ρ. Unit) (Declared.row Where.the-type) Path'.refl (TCopies.cEnum Where.the-type Laws'6.the-laws Laws'6.the-copy .copy 𝓤 H A W) (Rows'.whole (Declared.row Where.the-type)) (λ x. x) (λ x. x) (λ ρ told. RLocal.mem-whole 𝓤 H A W (Declared.row Where.the-type) ρ) λ ρ told. RLocal.whole-mem 𝓤 H A W (Declared.row Where.the-type) ρ) (Reads'.room-gone 𝓤 H A τ0) (Yields.makes-mem 𝓤 H A W (λ ρ. Unit) (Declared.row Where.the-type) Path'.refl (Rows'.whole (Declared.row Where.the-type)) (λ x. x) λ ρ told. RLocal.whole-mem 𝓤 H A W (Declared.row Where.the-type) ρ) Path'.refl Path'.refl) d87
+          d88 = Typed.s-seq 𝓤 H A W 𝓣 E G24 G99 b54 b57 Δ3 (Typed.both s94) at87 (Plain.t-call-plain 𝓤 H A W 𝓣 0 ps·6 r·6 (claims· .12) (claims· .13) "roles::steps::same_place" (known .6) E (λ pos β. β) G24 (record { pos = 20; st = List.[]; d = 0; at = λ x. x }, tt) 12 List.[] (Call.sub-id 𝓤 H A W (G24 .slots)) ((Yields.yields-copy 𝓤 H A W (λ ρ. Unit) (Declared.row Where.the-type) Path'.refl (TCopies.cEnum Where.the-type Laws'6.the-laws Laws'6.the-copy .copy 𝓤 H A W) (Rows'.whole (Declared.row Where.the-type)) (λ x. x) (λ x. x) (λ ρ told. RLocal.mem-whole 𝓤 H A W (Declared.row Where.the-type) ρ) λ ρ told. RLocal.whole-mem 𝓤 H A W (Declared.row Where.the-type) ρ, Path'.refl), tt) (Reads'.room-gone 𝓤 H A τ0) tt Path'.refl) d87
 
           d89 : Typed.Typed 𝓤 H A 𝓣 E G23 b59 Δ3 at89
           d89 = Typed.t-seq 𝓤 H A W 𝓣 E G23 G24 b53 b58 Δ3 at83 at88 d83 d88
@@ -2389,7 +2395,7 @@ module _ (claims· : Claims) where
           d109 = Typed.g-pre 𝓤 H A W 𝓣 E G104 G105 b70 Δ0 (Typed.pass T104 T105 s100) at108 (RScalar.g-room 𝓤 H A W E G104 13 (Syntax.tyInt Syntax.w64) (RScalar.room-sc 𝓤 H A W (Row.sInt Syntax.w64))) d108
 
           d110 : Typed.Typed 𝓤 H A 𝓣 E G11 b71 Δ0 at110
-          d110 = Typed.s-seq 𝓤 H A W 𝓣 E G11 G104 b69 b70 Δ0 (Typed.both s99) at109 (Plain.t-call-plain 𝓤 H A W 𝓣 0 ps·6 r·6 (claims· .12) (claims· .13) "below::lines::at_end" (known .6) E (λ pos β. β) G11 (Num.vAt 15 λ x. x, (Num.vAt 16 λ x. x, tt)) 0 List.[] (Call.sub-id 𝓤 H A W (G11 .slots)) ((RScalar.reads-sc 𝓤 H A W (Row.sInt Syntax.w64), Path'.refl), ((RScalar.reads-sc 𝓤 H A W (Row.sInt Syntax.w64), Path'.refl), tt)) (Reads'.room-gone 𝓤 H A τ9) tt Path'.refl) d109
+          d110 = Typed.s-seq 𝓤 H A W 𝓣 E G11 G104 b69 b70 Δ0 (Typed.both s99) at109 (Plain.t-call-plain 𝓤 H A W 𝓣 0 ps·7 r·7 (claims· .14) (claims· .15) "below::lines::at_end" (known .7) E (λ pos β. β) G11 (Num.vAt 15 λ x. x, (Num.vAt 16 λ x. x, tt)) 0 List.[] (Call.sub-id 𝓤 H A W (G11 .slots)) ((RScalar.reads-sc 𝓤 H A W (Row.sInt Syntax.w64), Path'.refl), ((RScalar.reads-sc 𝓤 H A W (Row.sInt Syntax.w64), Path'.refl), tt)) (Reads'.room-gone 𝓤 H A τ9) tt Path'.refl) d109
 
           d111 : Typed.Typed 𝓤 H A 𝓣 E G10 b72 Δ0 at111
           d111 = Typed.t-seq 𝓤 H A W 𝓣 E G10 G11 b68 b71 Δ0 at99 at110 d99 d110
@@ -3112,29 +3118,43 @@ module _ (claims· : Claims) where
         pub before : After-step
         pub match : At-match-came·own before
 
-      abbrev pub m85 : (before : After-step) → (starts : List.List (TReferent.rtF (TReferent.fInt Syntax.w64) .Denot)) → (ends : List.List (TReferent.rtF (TReferent.fInt Syntax.w64) .Denot)) → (items : List.List (DArray.Array (TReferent.rtF (TReferent.fInt Syntax.w64)) 2 .Denot)) → (expectations : List.List (ExpectationElem.R .Denot)) → (pairs : Rows'.sc-here (Row.sInt Syntax.w64) .Mod) → (expects : Rows'.sc-here (Row.sInt Syntax.w64) .Mod) → Typed.Mo T99
-      m85 = λ before starts ends items expectations pairs expects. s94 (m84 before starts ends items expectations pairs expects)
+      abbrev pub Need-same-place-requires : Type 0
+      Need-same-place-requires = (c : At-match-came) → s94 .asks (m84 (c .before) (c .match .starts) (c .match .ends) (c .match .items) (c .match .expectations) (c .match .pairs) (c .match .expects))
 
-      abbrev pub m86 : (before : After-step) → (starts : List.List (TReferent.rtF (TReferent.fInt Syntax.w64) .Denot)) → (ends : List.List (TReferent.rtF (TReferent.fInt Syntax.w64) .Denot)) → (items : List.List (DArray.Array (TReferent.rtF (TReferent.fInt Syntax.w64)) 2 .Denot)) → (expectations : List.List (ExpectationElem.R .Denot)) → (pairs : Rows'.sc-here (Row.sInt Syntax.w64) .Mod) → (expects : Rows'.sc-here (Row.sInt Syntax.w64) .Mod) → Typed.Mo T100
-      m86 = λ before starts ends items expectations pairs expects. s95 (m85 before starts ends items expectations pairs expects)
+      abbrev pub m85 : (before : At-match-came) → (given : s94 .gives (m84 (before .before) (before .match .starts) (before .match .ends) (before .match .items) (before .match .expectations) (before .match .pairs) (before .match .expects))) → Typed.Mo T99
+      m85 = λ before given. s94 .next (m84 (before .before) (before .match .starts) (before .match .ends) (before .match .items) (before .match .expectations) (before .match .pairs) (before .match .expects)) given
 
-      abbrev pub m87 : (before : After-step) → (starts : List.List (TReferent.rtF (TReferent.fInt Syntax.w64) .Denot)) → (ends : List.List (TReferent.rtF (TReferent.fInt Syntax.w64) .Denot)) → (items : List.List (DArray.Array (TReferent.rtF (TReferent.fInt Syntax.w64)) 2 .Denot)) → (expectations : List.List (ExpectationElem.R .Denot)) → (pairs : Rows'.sc-here (Row.sInt Syntax.w64) .Mod) → (expects : Rows'.sc-here (Row.sInt Syntax.w64) .Mod) → Typed.Mo T101
-      m87 = λ before starts ends items expectations pairs expects. s96 (m86 before starts ends items expectations pairs expects)
+      module _ (before· : At-match-came) where
+        abbrev pub After-same-place·own : Type 0
+        After-same-place·own = Called.Called ps·6 r·6 (claims· .13) T24 (record { pos = 20; st = List.[]; d = 0; at = λ x. x }, tt) (m84 (before· .before) (before· .match .starts) (before· .match .ends) (before· .match .items) (before· .match .expectations) (before· .match .pairs) (before· .match .expects))
 
-      abbrev pub m88 : (before : After-step) → (starts : List.List (TReferent.rtF (TReferent.fInt Syntax.w64) .Denot)) → (ends : List.List (TReferent.rtF (TReferent.fInt Syntax.w64) .Denot)) → (items : List.List (DArray.Array (TReferent.rtF (TReferent.fInt Syntax.w64)) 2 .Denot)) → (expectations : List.List (ExpectationElem.R .Denot)) → (pairs : Rows'.sc-here (Row.sInt Syntax.w64) .Mod) → (expects : Rows'.sc-here (Row.sInt Syntax.w64) .Mod) → Typed.Mo T102
-      m88 = λ before starts ends items expectations pairs expects. s97 (m87 before starts ends items expectations pairs expects)
+      pub record After-same-place : Type 0 where
+        pub before : At-match-came
+        pub same-place : After-same-place·own before
+
+      abbrev pub After-same-place·gave : (c : After-same-place) → s94 .gives (m84 (c .before .before) (c .before .match .starts) (c .before .match .ends) (c .before .match .items) (c .before .match .expectations) (c .before .match .pairs) (c .before .match .expects))
+      After-same-place·gave = λ c. Called.given ps·6 r·6 (claims· .13) T24 (record { pos = 20; st = List.[]; d = 0; at = λ x. x }, tt) (m84 (c .before .before) (c .before .match .starts) (c .before .match .ends) (c .before .match .items) (c .before .match .expectations) (c .before .match .pairs) (c .before .match .expects)) (c .same-place)
+
+      abbrev pub m86 : (before : At-match-came) → (given : s94 .gives (m84 (before .before) (before .match .starts) (before .match .ends) (before .match .items) (before .match .expectations) (before .match .pairs) (before .match .expects))) → Typed.Mo T100
+      m86 = λ before given. s95 (m85 before given)
+
+      abbrev pub m87 : (before : At-match-came) → (given : s94 .gives (m84 (before .before) (before .match .starts) (before .match .ends) (before .match .items) (before .match .expectations) (before .match .pairs) (before .match .expects))) → Typed.Mo T101
+      m87 = λ before given. s96 (m86 before given)
+
+      abbrev pub m88 : (before : At-match-came) → (given : s94 .gives (m84 (before .before) (before .match .starts) (before .match .ends) (before .match .items) (before .match .expectations) (before .match .pairs) (before .match .expects))) → Typed.Mo T102
+      m88 = λ before given. s97 (m87 before given)
 
       abbrev pub Need-add-number : Type 0
-      Need-add-number = (c : At-match-came) → s98 .asks (m88 (c .before) (c .match .starts) (c .match .ends) (c .match .items) (c .match .expectations) (c .match .pairs) (c .match .expects))
+      Need-add-number = (c : After-same-place) → s98 .asks (m88 (c .before) (After-same-place·gave c))
 
-      abbrev pub m89 : (before : After-step) → (starts : List.List (TReferent.rtF (TReferent.fInt Syntax.w64) .Denot)) → (ends : List.List (TReferent.rtF (TReferent.fInt Syntax.w64) .Denot)) → (items : List.List (DArray.Array (TReferent.rtF (TReferent.fInt Syntax.w64)) 2 .Denot)) → (expectations : List.List (ExpectationElem.R .Denot)) → (pairs : Rows'.sc-here (Row.sInt Syntax.w64) .Mod) → (expects : Rows'.sc-here (Row.sInt Syntax.w64) .Mod) → Typed.Mo T103
-      m89 = λ before starts ends items expectations pairs expects. s98 .next (m88 before starts ends items expectations pairs expects)
+      abbrev pub m89 : (before : At-match-came) → (given : s94 .gives (m84 (before .before) (before .match .starts) (before .match .ends) (before .match .items) (before .match .expectations) (before .match .pairs) (before .match .expects))) → Typed.Mo T103
+      m89 = λ before given. s98 .next (m88 before given)
 
       abbrev pub Need-loop-less : Type 0
-      Need-loop-less = (c : At-match-came) → Nat._<_ (μ·0 (Row.get 1 (T10 .locals) (m9 (c .before .before .before .before .before .before) (c .before .before .before .before .before .slice-known2 .given)) .now) (Row.get 2 (T10 .locals) (m9 (c .before .before .before .before .before .before) (c .before .before .before .before .before .slice-known2 .given))) (Row.get 3 (T10 .locals) (m9 (c .before .before .before .before .before .before) (c .before .before .before .before .before .slice-known2 .given))) (Row.get 5 (T10 .locals) (m9 (c .before .before .before .before .before .before) (c .before .before .before .before .before .slice-known2 .given)) .now) (Row.get 6 (T10 .locals) (m9 (c .before .before .before .before .before .before) (c .before .before .before .before .before .slice-known2 .given)) .now) (Row.get 7 (T10 .locals) (m9 (c .before .before .before .before .before .before) (c .before .before .before .before .before .slice-known2 .given))) (Row.get 8 (T10 .locals) (m9 (c .before .before .before .before .before .before) (c .before .before .before .before .before .slice-known2 .given)) .now) (Row.get 9 (T10 .locals) (m9 (c .before .before .before .before .before .before) (c .before .before .before .before .before .slice-known2 .given))) (Row.get 10 (T10 .locals) (m9 (c .before .before .before .before .before .before) (c .before .before .before .before .before .slice-known2 .given)) .now) (Row.get 11 (T10 .locals) (m9 (c .before .before .before .before .before .before) (c .before .before .before .before .before .slice-known2 .given))) (Row.get 12 (T10 .locals) (m9 (c .before .before .before .before .before .before) (c .before .before .before .before .before .slice-known2 .given))) (Row.get 13 (T10 .locals) (m9 (c .before .before .before .before .before .before) (c .before .before .before .before .before .slice-known2 .given))) (Row.get 14 (T10 .locals) (m9 (c .before .before .before .before .before .before) (c .before .before .before .before .before .slice-known2 .given))) (Row.get 15 (T10 .locals) (m9 (c .before .before .before .before .before .before) (c .before .before .before .before .before .slice-known2 .given))) (Row.get 16 (T10 .locals) (m9 (c .before .before .before .before .before .before) (c .before .before .before .before .before .slice-known2 .given))) (Row.get 5 (T10 .locals) (m89 (c .before) (c .match .starts) (c .match .ends) (c .match .items) (c .match .expectations) (c .match .pairs) (c .match .expects)) .now) (Row.get 6 (T10 .locals) (m89 (c .before) (c .match .starts) (c .match .ends) (c .match .items) (c .match .expectations) (c .match .pairs) (c .match .expects)) .now) (Row.get 8 (T10 .locals) (m89 (c .before) (c .match .starts) (c .match .ends) (c .match .items) (c .match .expectations) (c .match .pairs) (c .match .expects)) .now) (Row.get 10 (T10 .locals) (m89 (c .before) (c .match .starts) (c .match .ends) (c .match .items) (c .match .expectations) (c .match .pairs) (c .match .expects)) .now) (Row.get 12 (T10 .locals) (m89 (c .before) (c .match .starts) (c .match .ends) (c .match .items) (c .match .expectations) (c .match .pairs) (c .match .expects))) (Row.get 13 (T10 .locals) (m89 (c .before) (c .match .starts) (c .match .ends) (c .match .items) (c .match .expectations) (c .match .pairs) (c .match .expects))) (Row.get 14 (T10 .locals) (m89 (c .before) (c .match .starts) (c .match .ends) (c .match .items) (c .match .expectations) (c .match .pairs) (c .match .expects))) (Row.get 15 (T10 .locals) (m89 (c .before) (c .match .starts) (c .match .ends) (c .match .items) (c .match .expectations) (c .match .pairs) (c .match .expects))) (Row.get 16 (T10 .locals) (m89 (c .before) (c .match .starts) (c .match .ends) (c .match .items) (c .match .expectations) (c .match .pairs) (c .match .expects)))) (μ·0 (Row.get 1 (T10 .locals) (m9 (c .before .before .before .before .before .before) (c .before .before .before .before .before .slice-known2 .given)) .now) (Row.get 2 (T10 .locals) (m9 (c .before .before .before .before .before .before) (c .before .before .before .before .before .slice-known2 .given))) (Row.get 3 (T10 .locals) (m9 (c .before .before .before .before .before .before) (c .before .before .before .before .before .slice-known2 .given))) (Row.get 5 (T10 .locals) (m9 (c .before .before .before .before .before .before) (c .before .before .before .before .before .slice-known2 .given)) .now) (Row.get 6 (T10 .locals) (m9 (c .before .before .before .before .before .before) (c .before .before .before .before .before .slice-known2 .given)) .now) (Row.get 7 (T10 .locals) (m9 (c .before .before .before .before .before .before) (c .before .before .before .before .before .slice-known2 .given))) (Row.get 8 (T10 .locals) (m9 (c .before .before .before .before .before .before) (c .before .before .before .before .before .slice-known2 .given)) .now) (Row.get 9 (T10 .locals) (m9 (c .before .before .before .before .before .before) (c .before .before .before .before .before .slice-known2 .given))) (Row.get 10 (T10 .locals) (m9 (c .before .before .before .before .before .before) (c .before .before .before .before .before .slice-known2 .given)) .now) (Row.get 11 (T10 .locals) (m9 (c .before .before .before .before .before .before) (c .before .before .before .before .before .slice-known2 .given))) (Row.get 12 (T10 .locals) (m9 (c .before .before .before .before .before .before) (c .before .before .before .before .before .slice-known2 .given))) (Row.get 13 (T10 .locals) (m9 (c .before .before .before .before .before .before) (c .before .before .before .before .before .slice-known2 .given))) (Row.get 14 (T10 .locals) (m9 (c .before .before .before .before .before .before) (c .before .before .before .before .before .slice-known2 .given))) (Row.get 15 (T10 .locals) (m9 (c .before .before .before .before .before .before) (c .before .before .before .before .before .slice-known2 .given))) (Row.get 16 (T10 .locals) (m9 (c .before .before .before .before .before .before) (c .before .before .before .before .before .slice-known2 .given))) (c .before .before .before .before .loop .starts) (c .before .before .before .before .loop .ends) (c .before .before .before .before .loop .items) (c .before .before .before .before .loop .expectations) (c .before .before .before .before .loop .w) (c .before .before .before .before .loop .at) (c .before .before .before .before .loop .number) (c .before .before .before .before .loop .pairs) (c .before .before .before .before .loop .expects))
+      Need-loop-less = (c : After-same-place) → Nat._<_ (μ·0 (Row.get 1 (T10 .locals) (m9 (c .before .before .before .before .before .before .before) (c .before .before .before .before .before .before .slice-known2 .given)) .now) (Row.get 2 (T10 .locals) (m9 (c .before .before .before .before .before .before .before) (c .before .before .before .before .before .before .slice-known2 .given))) (Row.get 3 (T10 .locals) (m9 (c .before .before .before .before .before .before .before) (c .before .before .before .before .before .before .slice-known2 .given))) (Row.get 5 (T10 .locals) (m9 (c .before .before .before .before .before .before .before) (c .before .before .before .before .before .before .slice-known2 .given)) .now) (Row.get 6 (T10 .locals) (m9 (c .before .before .before .before .before .before .before) (c .before .before .before .before .before .before .slice-known2 .given)) .now) (Row.get 7 (T10 .locals) (m9 (c .before .before .before .before .before .before .before) (c .before .before .before .before .before .before .slice-known2 .given))) (Row.get 8 (T10 .locals) (m9 (c .before .before .before .before .before .before .before) (c .before .before .before .before .before .before .slice-known2 .given)) .now) (Row.get 9 (T10 .locals) (m9 (c .before .before .before .before .before .before .before) (c .before .before .before .before .before .before .slice-known2 .given))) (Row.get 10 (T10 .locals) (m9 (c .before .before .before .before .before .before .before) (c .before .before .before .before .before .before .slice-known2 .given)) .now) (Row.get 11 (T10 .locals) (m9 (c .before .before .before .before .before .before .before) (c .before .before .before .before .before .before .slice-known2 .given))) (Row.get 12 (T10 .locals) (m9 (c .before .before .before .before .before .before .before) (c .before .before .before .before .before .before .slice-known2 .given))) (Row.get 13 (T10 .locals) (m9 (c .before .before .before .before .before .before .before) (c .before .before .before .before .before .before .slice-known2 .given))) (Row.get 14 (T10 .locals) (m9 (c .before .before .before .before .before .before .before) (c .before .before .before .before .before .before .slice-known2 .given))) (Row.get 15 (T10 .locals) (m9 (c .before .before .before .before .before .before .before) (c .before .before .before .before .before .before .slice-known2 .given))) (Row.get 16 (T10 .locals) (m9 (c .before .before .before .before .before .before .before) (c .before .before .before .before .before .before .slice-known2 .given))) (Row.get 5 (T10 .locals) (m89 (c .before) (After-same-place·gave c)) .now) (Row.get 6 (T10 .locals) (m89 (c .before) (After-same-place·gave c)) .now) (Row.get 8 (T10 .locals) (m89 (c .before) (After-same-place·gave c)) .now) (Row.get 10 (T10 .locals) (m89 (c .before) (After-same-place·gave c)) .now) (Row.get 12 (T10 .locals) (m89 (c .before) (After-same-place·gave c))) (Row.get 13 (T10 .locals) (m89 (c .before) (After-same-place·gave c))) (Row.get 14 (T10 .locals) (m89 (c .before) (After-same-place·gave c))) (Row.get 15 (T10 .locals) (m89 (c .before) (After-same-place·gave c))) (Row.get 16 (T10 .locals) (m89 (c .before) (After-same-place·gave c)))) (μ·0 (Row.get 1 (T10 .locals) (m9 (c .before .before .before .before .before .before .before) (c .before .before .before .before .before .before .slice-known2 .given)) .now) (Row.get 2 (T10 .locals) (m9 (c .before .before .before .before .before .before .before) (c .before .before .before .before .before .before .slice-known2 .given))) (Row.get 3 (T10 .locals) (m9 (c .before .before .before .before .before .before .before) (c .before .before .before .before .before .before .slice-known2 .given))) (Row.get 5 (T10 .locals) (m9 (c .before .before .before .before .before .before .before) (c .before .before .before .before .before .before .slice-known2 .given)) .now) (Row.get 6 (T10 .locals) (m9 (c .before .before .before .before .before .before .before) (c .before .before .before .before .before .before .slice-known2 .given)) .now) (Row.get 7 (T10 .locals) (m9 (c .before .before .before .before .before .before .before) (c .before .before .before .before .before .before .slice-known2 .given))) (Row.get 8 (T10 .locals) (m9 (c .before .before .before .before .before .before .before) (c .before .before .before .before .before .before .slice-known2 .given)) .now) (Row.get 9 (T10 .locals) (m9 (c .before .before .before .before .before .before .before) (c .before .before .before .before .before .before .slice-known2 .given))) (Row.get 10 (T10 .locals) (m9 (c .before .before .before .before .before .before .before) (c .before .before .before .before .before .before .slice-known2 .given)) .now) (Row.get 11 (T10 .locals) (m9 (c .before .before .before .before .before .before .before) (c .before .before .before .before .before .before .slice-known2 .given))) (Row.get 12 (T10 .locals) (m9 (c .before .before .before .before .before .before .before) (c .before .before .before .before .before .before .slice-known2 .given))) (Row.get 13 (T10 .locals) (m9 (c .before .before .before .before .before .before .before) (c .before .before .before .before .before .before .slice-known2 .given))) (Row.get 14 (T10 .locals) (m9 (c .before .before .before .before .before .before .before) (c .before .before .before .before .before .before .slice-known2 .given))) (Row.get 15 (T10 .locals) (m9 (c .before .before .before .before .before .before .before) (c .before .before .before .before .before .before .slice-known2 .given))) (Row.get 16 (T10 .locals) (m9 (c .before .before .before .before .before .before .before) (c .before .before .before .before .before .before .slice-known2 .given))) (c .before .before .before .before .before .loop .starts) (c .before .before .before .before .before .loop .ends) (c .before .before .before .before .before .loop .items) (c .before .before .before .before .before .loop .expectations) (c .before .before .before .before .before .loop .w) (c .before .before .before .before .before .loop .at) (c .before .before .before .before .before .loop .number) (c .before .before .before .before .before .loop .pairs) (c .before .before .before .before .before .loop .expects))
 
       abbrev pub Need-loop-again : Type 0
-      Need-loop-again = (c : At-match-came) → Inv·0 (Row.get 1 (T10 .locals) (m9 (c .before .before .before .before .before .before) (c .before .before .before .before .before .slice-known2 .given)) .now) (Row.get 2 (T10 .locals) (m9 (c .before .before .before .before .before .before) (c .before .before .before .before .before .slice-known2 .given))) (Row.get 3 (T10 .locals) (m9 (c .before .before .before .before .before .before) (c .before .before .before .before .before .slice-known2 .given))) (Row.get 5 (T10 .locals) (m9 (c .before .before .before .before .before .before) (c .before .before .before .before .before .slice-known2 .given)) .now) (Row.get 6 (T10 .locals) (m9 (c .before .before .before .before .before .before) (c .before .before .before .before .before .slice-known2 .given)) .now) (Row.get 7 (T10 .locals) (m9 (c .before .before .before .before .before .before) (c .before .before .before .before .before .slice-known2 .given))) (Row.get 8 (T10 .locals) (m9 (c .before .before .before .before .before .before) (c .before .before .before .before .before .slice-known2 .given)) .now) (Row.get 9 (T10 .locals) (m9 (c .before .before .before .before .before .before) (c .before .before .before .before .before .slice-known2 .given))) (Row.get 10 (T10 .locals) (m9 (c .before .before .before .before .before .before) (c .before .before .before .before .before .slice-known2 .given)) .now) (Row.get 11 (T10 .locals) (m9 (c .before .before .before .before .before .before) (c .before .before .before .before .before .slice-known2 .given))) (Row.get 12 (T10 .locals) (m9 (c .before .before .before .before .before .before) (c .before .before .before .before .before .slice-known2 .given))) (Row.get 13 (T10 .locals) (m9 (c .before .before .before .before .before .before) (c .before .before .before .before .before .slice-known2 .given))) (Row.get 14 (T10 .locals) (m9 (c .before .before .before .before .before .before) (c .before .before .before .before .before .slice-known2 .given))) (Row.get 15 (T10 .locals) (m9 (c .before .before .before .before .before .before) (c .before .before .before .before .before .slice-known2 .given))) (Row.get 16 (T10 .locals) (m9 (c .before .before .before .before .before .before) (c .before .before .before .before .before .slice-known2 .given))) (Row.get 5 (T10 .locals) (m89 (c .before) (c .match .starts) (c .match .ends) (c .match .items) (c .match .expectations) (c .match .pairs) (c .match .expects)) .now) (Row.get 6 (T10 .locals) (m89 (c .before) (c .match .starts) (c .match .ends) (c .match .items) (c .match .expectations) (c .match .pairs) (c .match .expects)) .now) (Row.get 8 (T10 .locals) (m89 (c .before) (c .match .starts) (c .match .ends) (c .match .items) (c .match .expectations) (c .match .pairs) (c .match .expects)) .now) (Row.get 10 (T10 .locals) (m89 (c .before) (c .match .starts) (c .match .ends) (c .match .items) (c .match .expectations) (c .match .pairs) (c .match .expects)) .now) (Row.get 12 (T10 .locals) (m89 (c .before) (c .match .starts) (c .match .ends) (c .match .items) (c .match .expectations) (c .match .pairs) (c .match .expects))) (Row.get 13 (T10 .locals) (m89 (c .before) (c .match .starts) (c .match .ends) (c .match .items) (c .match .expectations) (c .match .pairs) (c .match .expects))) (Row.get 14 (T10 .locals) (m89 (c .before) (c .match .starts) (c .match .ends) (c .match .items) (c .match .expectations) (c .match .pairs) (c .match .expects))) (Row.get 15 (T10 .locals) (m89 (c .before) (c .match .starts) (c .match .ends) (c .match .items) (c .match .expectations) (c .match .pairs) (c .match .expects))) (Row.get 16 (T10 .locals) (m89 (c .before) (c .match .starts) (c .match .ends) (c .match .items) (c .match .expectations) (c .match .pairs) (c .match .expects)))
+      Need-loop-again = (c : After-same-place) → Inv·0 (Row.get 1 (T10 .locals) (m9 (c .before .before .before .before .before .before .before) (c .before .before .before .before .before .before .slice-known2 .given)) .now) (Row.get 2 (T10 .locals) (m9 (c .before .before .before .before .before .before .before) (c .before .before .before .before .before .before .slice-known2 .given))) (Row.get 3 (T10 .locals) (m9 (c .before .before .before .before .before .before .before) (c .before .before .before .before .before .before .slice-known2 .given))) (Row.get 5 (T10 .locals) (m9 (c .before .before .before .before .before .before .before) (c .before .before .before .before .before .before .slice-known2 .given)) .now) (Row.get 6 (T10 .locals) (m9 (c .before .before .before .before .before .before .before) (c .before .before .before .before .before .before .slice-known2 .given)) .now) (Row.get 7 (T10 .locals) (m9 (c .before .before .before .before .before .before .before) (c .before .before .before .before .before .before .slice-known2 .given))) (Row.get 8 (T10 .locals) (m9 (c .before .before .before .before .before .before .before) (c .before .before .before .before .before .before .slice-known2 .given)) .now) (Row.get 9 (T10 .locals) (m9 (c .before .before .before .before .before .before .before) (c .before .before .before .before .before .before .slice-known2 .given))) (Row.get 10 (T10 .locals) (m9 (c .before .before .before .before .before .before .before) (c .before .before .before .before .before .before .slice-known2 .given)) .now) (Row.get 11 (T10 .locals) (m9 (c .before .before .before .before .before .before .before) (c .before .before .before .before .before .before .slice-known2 .given))) (Row.get 12 (T10 .locals) (m9 (c .before .before .before .before .before .before .before) (c .before .before .before .before .before .before .slice-known2 .given))) (Row.get 13 (T10 .locals) (m9 (c .before .before .before .before .before .before .before) (c .before .before .before .before .before .before .slice-known2 .given))) (Row.get 14 (T10 .locals) (m9 (c .before .before .before .before .before .before .before) (c .before .before .before .before .before .before .slice-known2 .given))) (Row.get 15 (T10 .locals) (m9 (c .before .before .before .before .before .before .before) (c .before .before .before .before .before .before .slice-known2 .given))) (Row.get 16 (T10 .locals) (m9 (c .before .before .before .before .before .before .before) (c .before .before .before .before .before .before .slice-known2 .given))) (Row.get 5 (T10 .locals) (m89 (c .before) (After-same-place·gave c)) .now) (Row.get 6 (T10 .locals) (m89 (c .before) (After-same-place·gave c)) .now) (Row.get 8 (T10 .locals) (m89 (c .before) (After-same-place·gave c)) .now) (Row.get 10 (T10 .locals) (m89 (c .before) (After-same-place·gave c)) .now) (Row.get 12 (T10 .locals) (m89 (c .before) (After-same-place·gave c))) (Row.get 13 (T10 .locals) (m89 (c .before) (After-same-place·gave c))) (Row.get 14 (T10 .locals) (m89 (c .before) (After-same-place·gave c))) (Row.get 15 (T10 .locals) (m89 (c .before) (After-same-place·gave c))) (Row.get 16 (T10 .locals) (m89 (c .before) (After-same-place·gave c)))
 
       abbrev pub Need-at-end-requires : Type 0
       Need-at-end-requires = (c : After-loop) → s99 .asks (m16 (c .before))
@@ -3144,14 +3164,14 @@ module _ (claims· : Claims) where
 
       module _ (before· : After-loop) where
         abbrev pub After-at-end·own : Type 0
-        After-at-end·own = Called.Called ps·6 r·6 (claims· .13) T11 (Num.vAt 15 λ x. x, (Num.vAt 16 λ x. x, tt)) (m16 (before· .before))
+        After-at-end·own = Called.Called ps·7 r·7 (claims· .15) T11 (Num.vAt 15 λ x. x, (Num.vAt 16 λ x. x, tt)) (m16 (before· .before))
 
       pub record After-at-end : Type 0 where
         pub before : After-loop
         pub at-end : After-at-end·own before
 
       abbrev pub After-at-end·gave : (c : After-at-end) → s99 .gives (m16 (c .before .before))
-      After-at-end·gave = λ c. Called.given ps·6 r·6 (claims· .13) T11 (Num.vAt 15 λ x. x, (Num.vAt 16 λ x. x, tt)) (m16 (c .before .before)) (c .at-end)
+      After-at-end·gave = λ c. Called.given ps·7 r·7 (claims· .15) T11 (Num.vAt 15 λ x. x, (Num.vAt 16 λ x. x, tt)) (m16 (c .before .before)) (c .at-end)
 
       abbrev pub m91 : (before : After-loop) → (given : s99 .gives (m16 (before .before))) → Typed.Mo T105
       m91 = λ before given. s100 (m90 before given)
@@ -3195,16 +3215,19 @@ module _ (claims· : Claims) where
       abbrev pub Need-returns-2 : Type 0
       Need-returns-2 = (c : After-at-end) → Post· (c .before .before .before .before .before .before .κs) (dens (c .before .before .before .before .before .before .κs) (c .before .before .before .before .before .before .args)) (Function.resV r (c .before .before .before .before .before .before .κs) (m99 (c .before) (After-at-end·gave c) .0)) (Clauses.atExit (Kinds.endedOf 5 ps r) (c .before .before .before .before .before .before .κs) (dens (c .before .before .before .before .before .before .κs) (c .before .before .before .before .before .before .args)) (Enter.lastsP (c .before .before .before .before .before .before .κs) 1 ps xs (dens (c .before .before .before .before .before .before .κs) (c .before .before .before .before .before .before .args)) (m99 (c .before) (After-at-end·gave c) .1)))
 
-      module _ (loop-holds : Need-loop-holds) (line-at-requires : Need-line-at-requires) (step-requires : Need-step-requires) (enum-told : Need-enum-told) (enum-known-role : Need-enum-known-role) (add-say : Need-add-say) (say-requires : Need-say-requires) (add-pairs : Need-add-pairs) (enum-known-role-2 : Need-enum-known-role-2) (expectation-of-requires : Need-expectation-of-requires) (add-put-expectation : Need-add-put-expectation) (put-expectation-requires : Need-put-expectation-requires) (add-expects : Need-add-expects) (enum-known-role-3 : Need-enum-known-role-3) (at-opening-requires : Need-at-opening-requires) (same-length : Need-same-length) (same-length-2 : Need-same-length-2) (same-length-3 : Need-same-length-3) (same-length-4 : Need-same-length-4) (returns : Need-returns) (enum-told-2 : Need-enum-told-2) (add-number : Need-add-number) (loop-less : Need-loop-less) (loop-again : Need-loop-again) (at-end-requires : Need-at-end-requires) (same-length-5 : Need-same-length-5) (same-length-6 : Need-same-length-6) (same-length-7 : Need-same-length-7) (same-length-8 : Need-same-length-8) (returns-2 : Need-returns-2) where
-        lay12 : (c : After-at-end) → at109 (W0 (c .before .before .before .before .before .before .κs) (c .before .before .before .before .before .before .args)) (m90 (c .before) (After-at-end·gave c))
-        lay12 = λ c. ((Path'.refl, (tt, (tt, (tt, (MutSlice.fix-len (Row.get 5 (T113 .locals) (m99 (c .before) (After-at-end·gave c)) .ptr) (Row.get 5 (T113 .locals) (m99 (c .before) (After-at-end·gave c)) .name) (Row.get 5 (T113 .locals) (m99 (c .before) (After-at-end·gave c)) .now) (dens (c .before .before .before .before .before .before .κs) (c .before .before .before .before .before .before .args) .1 .1 .1 .1 .0 .now) (same-length-5 record { before = c .before; at-end = c .at-end }), (MutSlice.fix-len (Row.get 6 (T113 .locals) (m99 (c .before) (After-at-end·gave c)) .ptr) (Row.get 6 (T113 .locals) (m99 (c .before) (After-at-end·gave c)) .name) (Row.get 6 (T113 .locals) (m99 (c .before) (After-at-end·gave c)) .now) (dens (c .before .before .before .before .before .before .κs) (c .before .before .before .before .before .before .args) .1 .1 .1 .1 .1 .0 .now) (same-length-6 record { before = c .before; at-end = c .at-end }), (tt, (MutSlice.fix-len (Row.get 8 (T113 .locals) (m99 (c .before) (After-at-end·gave c)) .ptr) (Row.get 8 (T113 .locals) (m99 (c .before) (After-at-end·gave c)) .name) (Row.get 8 (T113 .locals) (m99 (c .before) (After-at-end·gave c)) .now) (dens (c .before .before .before .before .before .before .κs) (c .before .before .before .before .before .before .args) .1 .1 .1 .1 .1 .1 .1 .0 .now) (same-length-7 record { before = c .before; at-end = c .at-end }), (tt, (MutSlice.fix-len (Row.get 10 (T113 .locals) (m99 (c .before) (After-at-end·gave c)) .ptr) (Row.get 10 (T113 .locals) (m99 (c .before) (After-at-end·gave c)) .name) (Row.get 10 (T113 .locals) (m99 (c .before) (After-at-end·gave c)) .now) (dens (c .before .before .before .before .before .before .κs) (c .before .before .before .before .before .before .args) .1 .1 .1 .1 .1 .1 .1 .1 .1 .0 .now) (same-length-8 record { before = c .before; at-end = c .at-end }), (tt, tt))))))))))), returns-2 record { before = c .before; at-end = c .at-end })
+      module _ (loop-holds : Need-loop-holds) (line-at-requires : Need-line-at-requires) (step-requires : Need-step-requires) (enum-told : Need-enum-told) (enum-known-role : Need-enum-known-role) (add-say : Need-add-say) (say-requires : Need-say-requires) (add-pairs : Need-add-pairs) (enum-known-role-2 : Need-enum-known-role-2) (expectation-of-requires : Need-expectation-of-requires) (add-put-expectation : Need-add-put-expectation) (put-expectation-requires : Need-put-expectation-requires) (add-expects : Need-add-expects) (enum-known-role-3 : Need-enum-known-role-3) (at-opening-requires : Need-at-opening-requires) (same-length : Need-same-length) (same-length-2 : Need-same-length-2) (same-length-3 : Need-same-length-3) (same-length-4 : Need-same-length-4) (returns : Need-returns) (enum-told-2 : Need-enum-told-2) (same-place-requires : Need-same-place-requires) (add-number : Need-add-number) (loop-less : Need-loop-less) (loop-again : Need-loop-again) (at-end-requires : Need-at-end-requires) (same-length-5 : Need-same-length-5) (same-length-6 : Need-same-length-6) (same-length-7 : Need-same-length-7) (same-length-8 : Need-same-length-8) (returns-2 : Need-returns-2) where
+        lay13 : (c : After-at-end) → at109 (W0 (c .before .before .before .before .before .before .κs) (c .before .before .before .before .before .before .args)) (m90 (c .before) (After-at-end·gave c))
+        lay13 = λ c. ((Path'.refl, (tt, (tt, (tt, (MutSlice.fix-len (Row.get 5 (T113 .locals) (m99 (c .before) (After-at-end·gave c)) .ptr) (Row.get 5 (T113 .locals) (m99 (c .before) (After-at-end·gave c)) .name) (Row.get 5 (T113 .locals) (m99 (c .before) (After-at-end·gave c)) .now) (dens (c .before .before .before .before .before .before .κs) (c .before .before .before .before .before .before .args) .1 .1 .1 .1 .0 .now) (same-length-5 record { before = c .before; at-end = c .at-end }), (MutSlice.fix-len (Row.get 6 (T113 .locals) (m99 (c .before) (After-at-end·gave c)) .ptr) (Row.get 6 (T113 .locals) (m99 (c .before) (After-at-end·gave c)) .name) (Row.get 6 (T113 .locals) (m99 (c .before) (After-at-end·gave c)) .now) (dens (c .before .before .before .before .before .before .κs) (c .before .before .before .before .before .before .args) .1 .1 .1 .1 .1 .0 .now) (same-length-6 record { before = c .before; at-end = c .at-end }), (tt, (MutSlice.fix-len (Row.get 8 (T113 .locals) (m99 (c .before) (After-at-end·gave c)) .ptr) (Row.get 8 (T113 .locals) (m99 (c .before) (After-at-end·gave c)) .name) (Row.get 8 (T113 .locals) (m99 (c .before) (After-at-end·gave c)) .now) (dens (c .before .before .before .before .before .before .κs) (c .before .before .before .before .before .before .args) .1 .1 .1 .1 .1 .1 .1 .0 .now) (same-length-7 record { before = c .before; at-end = c .at-end }), (tt, (MutSlice.fix-len (Row.get 10 (T113 .locals) (m99 (c .before) (After-at-end·gave c)) .ptr) (Row.get 10 (T113 .locals) (m99 (c .before) (After-at-end·gave c)) .name) (Row.get 10 (T113 .locals) (m99 (c .before) (After-at-end·gave c)) .now) (dens (c .before .before .before .before .before .before .κs) (c .before .before .before .before .before .before .args) .1 .1 .1 .1 .1 .1 .1 .1 .1 .0 .now) (same-length-8 record { before = c .before; at-end = c .at-end }), (tt, tt))))))))))), returns-2 record { before = c .before; at-end = c .at-end })
 
-        lay11 : (c : After-loop) → at110 (W0 (c .before .before .before .before .before .κs) (c .before .before .before .before .before .args)) (m16 (c .before))
-        lay11 = λ c. (at-end-requires record { before = c .before; loop-test = c .loop-test }, λ g. lay12 record { before = record { before = c .before; loop-test = c .loop-test }; at-end = Called.called ps·6 r·6 (claims· .13) T11 (Num.vAt 15 λ x. x, (Num.vAt 16 λ x. x, tt)) (m16 (c .before)) g })
+        lay12 : (c : After-loop) → at110 (W0 (c .before .before .before .before .before .κs) (c .before .before .before .before .before .args)) (m16 (c .before))
+        lay12 = λ c. (at-end-requires record { before = c .before; loop-test = c .loop-test }, λ g. lay13 record { before = record { before = c .before; loop-test = c .loop-test }; at-end = Called.called ps·7 r·7 (claims· .15) T11 (Num.vAt 15 λ x. x, (Num.vAt 16 λ x. x, tt)) (m16 (c .before)) g })
+
+        lay11 : (c : After-same-place) → at87 (W3 (c .before .before .before .before .before .before) (c .before .before .before .before .before .loop .starts) (c .before .before .before .before .before .loop .ends) (c .before .before .before .before .before .loop .items) (c .before .before .before .before .before .loop .expectations) (c .before .before .before .before .before .loop .w) (c .before .before .before .before .before .loop .at) (c .before .before .before .before .before .loop .number) (c .before .before .before .before .before .loop .pairs) (c .before .before .before .before .before .loop .expects)) (m85 (c .before) (After-same-place·gave c))
+        lay11 = λ c. (add-number record { before = c .before; same-place = c .same-place }, (μ·0 (Row.get 1 (T10 .locals) (m9 (c .before .before .before .before .before .before .before) (c .before .before .before .before .before .before .slice-known2 .given)) .now) (Row.get 2 (T10 .locals) (m9 (c .before .before .before .before .before .before .before) (c .before .before .before .before .before .before .slice-known2 .given))) (Row.get 3 (T10 .locals) (m9 (c .before .before .before .before .before .before .before) (c .before .before .before .before .before .before .slice-known2 .given))) (Row.get 5 (T10 .locals) (m9 (c .before .before .before .before .before .before .before) (c .before .before .before .before .before .before .slice-known2 .given)) .now) (Row.get 6 (T10 .locals) (m9 (c .before .before .before .before .before .before .before) (c .before .before .before .before .before .before .slice-known2 .given)) .now) (Row.get 7 (T10 .locals) (m9 (c .before .before .before .before .before .before .before) (c .before .before .before .before .before .before .slice-known2 .given))) (Row.get 8 (T10 .locals) (m9 (c .before .before .before .before .before .before .before) (c .before .before .before .before .before .before .slice-known2 .given)) .now) (Row.get 9 (T10 .locals) (m9 (c .before .before .before .before .before .before .before) (c .before .before .before .before .before .before .slice-known2 .given))) (Row.get 10 (T10 .locals) (m9 (c .before .before .before .before .before .before .before) (c .before .before .before .before .before .before .slice-known2 .given)) .now) (Row.get 11 (T10 .locals) (m9 (c .before .before .before .before .before .before .before) (c .before .before .before .before .before .before .slice-known2 .given))) (Row.get 12 (T10 .locals) (m9 (c .before .before .before .before .before .before .before) (c .before .before .before .before .before .before .slice-known2 .given))) (Row.get 13 (T10 .locals) (m9 (c .before .before .before .before .before .before .before) (c .before .before .before .before .before .before .slice-known2 .given))) (Row.get 14 (T10 .locals) (m9 (c .before .before .before .before .before .before .before) (c .before .before .before .before .before .before .slice-known2 .given))) (Row.get 15 (T10 .locals) (m9 (c .before .before .before .before .before .before .before) (c .before .before .before .before .before .before .slice-known2 .given))) (Row.get 16 (T10 .locals) (m9 (c .before .before .before .before .before .before .before) (c .before .before .before .before .before .before .slice-known2 .given))) (Row.get 5 (T10 .locals) (m89 (c .before) (After-same-place·gave c)) .now) (Row.get 6 (T10 .locals) (m89 (c .before) (After-same-place·gave c)) .now) (Row.get 8 (T10 .locals) (m89 (c .before) (After-same-place·gave c)) .now) (Row.get 10 (T10 .locals) (m89 (c .before) (After-same-place·gave c)) .now) (Row.get 12 (T10 .locals) (m89 (c .before) (After-same-place·gave c))) (Row.get 13 (T10 .locals) (m89 (c .before) (After-same-place·gave c))) (Row.get 14 (T10 .locals) (m89 (c .before) (After-same-place·gave c))) (Row.get 15 (T10 .locals) (m89 (c .before) (After-same-place·gave c))) (Row.get 16 (T10 .locals) (m89 (c .before) (After-same-place·gave c))), loop-less record { before = c .before; same-place = c .same-place }, ((Row.get 5 (T10 .locals) (m89 (c .before) (After-same-place·gave c)) .now, Row.get 6 (T10 .locals) (m89 (c .before) (After-same-place·gave c)) .now, Row.get 8 (T10 .locals) (m89 (c .before) (After-same-place·gave c)) .now, Row.get 10 (T10 .locals) (m89 (c .before) (After-same-place·gave c)) .now, Row.get 12 (T10 .locals) (m89 (c .before) (After-same-place·gave c)), Row.get 13 (T10 .locals) (m89 (c .before) (After-same-place·gave c)), Row.get 14 (T10 .locals) (m89 (c .before) (After-same-place·gave c)), Row.get 15 (T10 .locals) (m89 (c .before) (After-same-place·gave c)), Row.get 16 (T10 .locals) (m89 (c .before) (After-same-place·gave c))), Path'.refl {a = m89 (c .before) (After-same-place·gave c)}, loop-again record { before = c .before; same-place = c .same-place }, Path'.refl {a = μ·0 (Row.get 1 (T10 .locals) (m9 (c .before .before .before .before .before .before .before) (c .before .before .before .before .before .before .slice-known2 .given)) .now) (Row.get 2 (T10 .locals) (m9 (c .before .before .before .before .before .before .before) (c .before .before .before .before .before .before .slice-known2 .given))) (Row.get 3 (T10 .locals) (m9 (c .before .before .before .before .before .before .before) (c .before .before .before .before .before .before .slice-known2 .given))) (Row.get 5 (T10 .locals) (m9 (c .before .before .before .before .before .before .before) (c .before .before .before .before .before .before .slice-known2 .given)) .now) (Row.get 6 (T10 .locals) (m9 (c .before .before .before .before .before .before .before) (c .before .before .before .before .before .before .slice-known2 .given)) .now) (Row.get 7 (T10 .locals) (m9 (c .before .before .before .before .before .before .before) (c .before .before .before .before .before .before .slice-known2 .given))) (Row.get 8 (T10 .locals) (m9 (c .before .before .before .before .before .before .before) (c .before .before .before .before .before .before .slice-known2 .given)) .now) (Row.get 9 (T10 .locals) (m9 (c .before .before .before .before .before .before .before) (c .before .before .before .before .before .before .slice-known2 .given))) (Row.get 10 (T10 .locals) (m9 (c .before .before .before .before .before .before .before) (c .before .before .before .before .before .before .slice-known2 .given)) .now) (Row.get 11 (T10 .locals) (m9 (c .before .before .before .before .before .before .before) (c .before .before .before .before .before .before .slice-known2 .given))) (Row.get 12 (T10 .locals) (m9 (c .before .before .before .before .before .before .before) (c .before .before .before .before .before .before .slice-known2 .given))) (Row.get 13 (T10 .locals) (m9 (c .before .before .before .before .before .before .before) (c .before .before .before .before .before .before .slice-known2 .given))) (Row.get 14 (T10 .locals) (m9 (c .before .before .before .before .before .before .before) (c .before .before .before .before .before .before .slice-known2 .given))) (Row.get 15 (T10 .locals) (m9 (c .before .before .before .before .before .before .before) (c .before .before .before .before .before .before .slice-known2 .given))) (Row.get 16 (T10 .locals) (m9 (c .before .before .before .before .before .before .before) (c .before .before .before .before .before .before .slice-known2 .given))) (Row.get 5 (T10 .locals) (m89 (c .before) (After-same-place·gave c)) .now) (Row.get 6 (T10 .locals) (m89 (c .before) (After-same-place·gave c)) .now) (Row.get 8 (T10 .locals) (m89 (c .before) (After-same-place·gave c)) .now) (Row.get 10 (T10 .locals) (m89 (c .before) (After-same-place·gave c)) .now) (Row.get 12 (T10 .locals) (m89 (c .before) (After-same-place·gave c))) (Row.get 13 (T10 .locals) (m89 (c .before) (After-same-place·gave c))) (Row.get 14 (T10 .locals) (m89 (c .before) (After-same-place·gave c))) (Row.get 15 (T10 .locals) (m89 (c .before) (After-same-place·gave c))) (Row.get 16 (T10 .locals) (m89 (c .before) (After-same-place·gave c)))})))
 
         lay10 : (c : At-match-came) → at88 (W3 (c .before .before .before .before .before) (c .before .before .before .before .loop .starts) (c .before .before .before .before .loop .ends) (c .before .before .before .before .loop .items) (c .before .before .before .before .loop .expectations) (c .before .before .before .before .loop .w) (c .before .before .before .before .loop .at) (c .before .before .before .before .loop .number) (c .before .before .before .before .loop .pairs) (c .before .before .before .before .loop .expects)) (m84 (c .before) (c .match .starts) (c .match .ends) (c .match .items) (c .match .expectations) (c .match .pairs) (c .match .expects))
         unfolding at88
-        lay10 = λ c. (add-number record { before = c .before; match = c .match }, (μ·0 (Row.get 1 (T10 .locals) (m9 (c .before .before .before .before .before .before) (c .before .before .before .before .before .slice-known2 .given)) .now) (Row.get 2 (T10 .locals) (m9 (c .before .before .before .before .before .before) (c .before .before .before .before .before .slice-known2 .given))) (Row.get 3 (T10 .locals) (m9 (c .before .before .before .before .before .before) (c .before .before .before .before .before .slice-known2 .given))) (Row.get 5 (T10 .locals) (m9 (c .before .before .before .before .before .before) (c .before .before .before .before .before .slice-known2 .given)) .now) (Row.get 6 (T10 .locals) (m9 (c .before .before .before .before .before .before) (c .before .before .before .before .before .slice-known2 .given)) .now) (Row.get 7 (T10 .locals) (m9 (c .before .before .before .before .before .before) (c .before .before .before .before .before .slice-known2 .given))) (Row.get 8 (T10 .locals) (m9 (c .before .before .before .before .before .before) (c .before .before .before .before .before .slice-known2 .given)) .now) (Row.get 9 (T10 .locals) (m9 (c .before .before .before .before .before .before) (c .before .before .before .before .before .slice-known2 .given))) (Row.get 10 (T10 .locals) (m9 (c .before .before .before .before .before .before) (c .before .before .before .before .before .slice-known2 .given)) .now) (Row.get 11 (T10 .locals) (m9 (c .before .before .before .before .before .before) (c .before .before .before .before .before .slice-known2 .given))) (Row.get 12 (T10 .locals) (m9 (c .before .before .before .before .before .before) (c .before .before .before .before .before .slice-known2 .given))) (Row.get 13 (T10 .locals) (m9 (c .before .before .before .before .before .before) (c .before .before .before .before .before .slice-known2 .given))) (Row.get 14 (T10 .locals) (m9 (c .before .before .before .before .before .before) (c .before .before .before .before .before .slice-known2 .given))) (Row.get 15 (T10 .locals) (m9 (c .before .before .before .before .before .before) (c .before .before .before .before .before .slice-known2 .given))) (Row.get 16 (T10 .locals) (m9 (c .before .before .before .before .before .before) (c .before .before .before .before .before .slice-known2 .given))) (Row.get 5 (T10 .locals) (m89 (c .before) (c .match .starts) (c .match .ends) (c .match .items) (c .match .expectations) (c .match .pairs) (c .match .expects)) .now) (Row.get 6 (T10 .locals) (m89 (c .before) (c .match .starts) (c .match .ends) (c .match .items) (c .match .expectations) (c .match .pairs) (c .match .expects)) .now) (Row.get 8 (T10 .locals) (m89 (c .before) (c .match .starts) (c .match .ends) (c .match .items) (c .match .expectations) (c .match .pairs) (c .match .expects)) .now) (Row.get 10 (T10 .locals) (m89 (c .before) (c .match .starts) (c .match .ends) (c .match .items) (c .match .expectations) (c .match .pairs) (c .match .expects)) .now) (Row.get 12 (T10 .locals) (m89 (c .before) (c .match .starts) (c .match .ends) (c .match .items) (c .match .expectations) (c .match .pairs) (c .match .expects))) (Row.get 13 (T10 .locals) (m89 (c .before) (c .match .starts) (c .match .ends) (c .match .items) (c .match .expectations) (c .match .pairs) (c .match .expects))) (Row.get 14 (T10 .locals) (m89 (c .before) (c .match .starts) (c .match .ends) (c .match .items) (c .match .expectations) (c .match .pairs) (c .match .expects))) (Row.get 15 (T10 .locals) (m89 (c .before) (c .match .starts) (c .match .ends) (c .match .items) (c .match .expectations) (c .match .pairs) (c .match .expects))) (Row.get 16 (T10 .locals) (m89 (c .before) (c .match .starts) (c .match .ends) (c .match .items) (c .match .expectations) (c .match .pairs) (c .match .expects))), loop-less record { before = c .before; match = c .match }, ((Row.get 5 (T10 .locals) (m89 (c .before) (c .match .starts) (c .match .ends) (c .match .items) (c .match .expectations) (c .match .pairs) (c .match .expects)) .now, Row.get 6 (T10 .locals) (m89 (c .before) (c .match .starts) (c .match .ends) (c .match .items) (c .match .expectations) (c .match .pairs) (c .match .expects)) .now, Row.get 8 (T10 .locals) (m89 (c .before) (c .match .starts) (c .match .ends) (c .match .items) (c .match .expectations) (c .match .pairs) (c .match .expects)) .now, Row.get 10 (T10 .locals) (m89 (c .before) (c .match .starts) (c .match .ends) (c .match .items) (c .match .expectations) (c .match .pairs) (c .match .expects)) .now, Row.get 12 (T10 .locals) (m89 (c .before) (c .match .starts) (c .match .ends) (c .match .items) (c .match .expectations) (c .match .pairs) (c .match .expects)), Row.get 13 (T10 .locals) (m89 (c .before) (c .match .starts) (c .match .ends) (c .match .items) (c .match .expectations) (c .match .pairs) (c .match .expects)), Row.get 14 (T10 .locals) (m89 (c .before) (c .match .starts) (c .match .ends) (c .match .items) (c .match .expectations) (c .match .pairs) (c .match .expects)), Row.get 15 (T10 .locals) (m89 (c .before) (c .match .starts) (c .match .ends) (c .match .items) (c .match .expectations) (c .match .pairs) (c .match .expects)), Row.get 16 (T10 .locals) (m89 (c .before) (c .match .starts) (c .match .ends) (c .match .items) (c .match .expectations) (c .match .pairs) (c .match .expects))), Path'.refl {a = m89 (c .before) (c .match .starts) (c .match .ends) (c .match .items) (c .match .expectations) (c .match .pairs) (c .match .expects)}, loop-again record { before = c .before; match = c .match }, Path'.refl {a = μ·0 (Row.get 1 (T10 .locals) (m9 (c .before .before .before .before .before .before) (c .before .before .before .before .before .slice-known2 .given)) .now) (Row.get 2 (T10 .locals) (m9 (c .before .before .before .before .before .before) (c .before .before .before .before .before .slice-known2 .given))) (Row.get 3 (T10 .locals) (m9 (c .before .before .before .before .before .before) (c .before .before .before .before .before .slice-known2 .given))) (Row.get 5 (T10 .locals) (m9 (c .before .before .before .before .before .before) (c .before .before .before .before .before .slice-known2 .given)) .now) (Row.get 6 (T10 .locals) (m9 (c .before .before .before .before .before .before) (c .before .before .before .before .before .slice-known2 .given)) .now) (Row.get 7 (T10 .locals) (m9 (c .before .before .before .before .before .before) (c .before .before .before .before .before .slice-known2 .given))) (Row.get 8 (T10 .locals) (m9 (c .before .before .before .before .before .before) (c .before .before .before .before .before .slice-known2 .given)) .now) (Row.get 9 (T10 .locals) (m9 (c .before .before .before .before .before .before) (c .before .before .before .before .before .slice-known2 .given))) (Row.get 10 (T10 .locals) (m9 (c .before .before .before .before .before .before) (c .before .before .before .before .before .slice-known2 .given)) .now) (Row.get 11 (T10 .locals) (m9 (c .before .before .before .before .before .before) (c .before .before .before .before .before .slice-known2 .given))) (Row.get 12 (T10 .locals) (m9 (c .before .before .before .before .before .before) (c .before .before .before .before .before .slice-known2 .given))) (Row.get 13 (T10 .locals) (m9 (c .before .before .before .before .before .before) (c .before .before .before .before .before .slice-known2 .given))) (Row.get 14 (T10 .locals) (m9 (c .before .before .before .before .before .before) (c .before .before .before .before .before .slice-known2 .given))) (Row.get 15 (T10 .locals) (m9 (c .before .before .before .before .before .before) (c .before .before .before .before .before .slice-known2 .given))) (Row.get 16 (T10 .locals) (m9 (c .before .before .before .before .before .before) (c .before .before .before .before .before .slice-known2 .given))) (Row.get 5 (T10 .locals) (m89 (c .before) (c .match .starts) (c .match .ends) (c .match .items) (c .match .expectations) (c .match .pairs) (c .match .expects)) .now) (Row.get 6 (T10 .locals) (m89 (c .before) (c .match .starts) (c .match .ends) (c .match .items) (c .match .expectations) (c .match .pairs) (c .match .expects)) .now) (Row.get 8 (T10 .locals) (m89 (c .before) (c .match .starts) (c .match .ends) (c .match .items) (c .match .expectations) (c .match .pairs) (c .match .expects)) .now) (Row.get 10 (T10 .locals) (m89 (c .before) (c .match .starts) (c .match .ends) (c .match .items) (c .match .expectations) (c .match .pairs) (c .match .expects)) .now) (Row.get 12 (T10 .locals) (m89 (c .before) (c .match .starts) (c .match .ends) (c .match .items) (c .match .expectations) (c .match .pairs) (c .match .expects))) (Row.get 13 (T10 .locals) (m89 (c .before) (c .match .starts) (c .match .ends) (c .match .items) (c .match .expectations) (c .match .pairs) (c .match .expects))) (Row.get 14 (T10 .locals) (m89 (c .before) (c .match .starts) (c .match .ends) (c .match .items) (c .match .expectations) (c .match .pairs) (c .match .expects))) (Row.get 15 (T10 .locals) (m89 (c .before) (c .match .starts) (c .match .ends) (c .match .items) (c .match .expectations) (c .match .pairs) (c .match .expects))) (Row.get 16 (T10 .locals) (m89 (c .before) (c .match .starts) (c .match .ends) (c .match .items) (c .match .expectations) (c .match .pairs) (c .match .expects)))})))
+        lay10 = λ c. (same-place-requires record { before = c .before; match = c .match }, λ g. lay11 record { before = record { before = c .before; match = c .match }; same-place = Called.called ps·6 r·6 (claims· .13) T24 (record { pos = 20; st = List.[]; d = 0; at = λ x. x }, tt) (m84 (c .before) (c .match .starts) (c .match .ends) (c .match .items) (c .match .expectations) (c .match .pairs) (c .match .expects)) g })
 
         lay9 : (c : After-at-opening) → at72 (W5 (c .before .before .before .before .before) (After-step·gave (c .before .before .before .before))) (m68 (c .before) (After-at-opening·gave c))
         lay9 = λ c. ((Path'.refl, (tt, (tt, (tt, (MutSlice.fix-len (Row.get 5 (T95 .locals) (m80 (c .before) (After-at-opening·gave c)) .ptr) (Row.get 5 (T95 .locals) (m80 (c .before) (After-at-opening·gave c)) .name) (Row.get 5 (T95 .locals) (m80 (c .before) (After-at-opening·gave c)) .now) (dens (c .before .before .before .before .before .before .before .before .before .before .before .κs) (c .before .before .before .before .before .before .before .before .before .before .before .args) .1 .1 .1 .1 .0 .now) (same-length record { before = c .before; at-opening = c .at-opening }), (MutSlice.fix-len (Row.get 6 (T95 .locals) (m80 (c .before) (After-at-opening·gave c)) .ptr) (Row.get 6 (T95 .locals) (m80 (c .before) (After-at-opening·gave c)) .name) (Row.get 6 (T95 .locals) (m80 (c .before) (After-at-opening·gave c)) .now) (dens (c .before .before .before .before .before .before .before .before .before .before .before .κs) (c .before .before .before .before .before .before .before .before .before .before .before .args) .1 .1 .1 .1 .1 .0 .now) (same-length-2 record { before = c .before; at-opening = c .at-opening }), (tt, (MutSlice.fix-len (Row.get 8 (T95 .locals) (m80 (c .before) (After-at-opening·gave c)) .ptr) (Row.get 8 (T95 .locals) (m80 (c .before) (After-at-opening·gave c)) .name) (Row.get 8 (T95 .locals) (m80 (c .before) (After-at-opening·gave c)) .now) (dens (c .before .before .before .before .before .before .before .before .before .before .before .κs) (c .before .before .before .before .before .before .before .before .before .before .before .args) .1 .1 .1 .1 .1 .1 .1 .0 .now) (same-length-3 record { before = c .before; at-opening = c .at-opening }), (tt, (MutSlice.fix-len (Row.get 10 (T95 .locals) (m80 (c .before) (After-at-opening·gave c)) .ptr) (Row.get 10 (T95 .locals) (m80 (c .before) (After-at-opening·gave c)) .name) (Row.get 10 (T95 .locals) (m80 (c .before) (After-at-opening·gave c)) .now) (dens (c .before .before .before .before .before .before .before .before .before .before .before .κs) (c .before .before .before .before .before .before .before .before .before .before .before .args) .1 .1 .1 .1 .1 .1 .1 .1 .1 .0 .now) (same-length-4 record { before = c .before; at-opening = c .at-opening }), (tt, tt))))))))))), returns record { before = c .before; at-opening = c .at-opening })
@@ -3228,7 +3251,7 @@ module _ (claims· : Claims) where
         lay3 = λ c. (line-at-requires record { before = c .before; loop-test = c .loop-test }, λ g. lay4 record { before = record { before = c .before; loop-test = c .loop-test }; line-at = Called.called ps·0 r·0 (claims· .1) T14 (record { pos = 1; ty = Syntax.tyRef (Syntax.named 0) Syntax.imm (Syntax.tyInt Syntax.w8); ref = λ x. x }, (Num.vAt 13 λ x. x, (Num.vAt 14 λ x. x, tt))) (m14 (c .before)) g })
 
         lay2 : (c : After-loop) → at4 (W4 (c .before .before) (c .before .loop .starts) (c .before .loop .ends) (c .before .loop .items) (c .before .loop .expectations) (c .before .loop .w) (c .before .loop .at) (c .before .loop .number) (c .before .loop .pairs) (c .before .loop .expects)) (m13 (c .before .before) (c .before .loop .starts) (c .before .loop .ends) (c .before .loop .items) (c .before .loop .expectations) (c .before .loop .w) (c .before .loop .at) (c .before .loop .number) (c .before .loop .pairs) (c .before .loop .expects))
-        lay2 = λ c. lay11 record { before = c .before; loop-test = c .loop-test }
+        lay2 = λ c. lay12 record { before = c .before; loop-test = c .loop-test }
 
         lay1 : (c : In-loop) → at1 (W4 (c .before .before) (c .before .loop .starts) (c .before .loop .ends) (c .before .loop .items) (c .before .loop .expectations) (c .before .loop .w) (c .before .loop .at) (c .before .loop .number) (c .before .loop .pairs) (c .before .loop .expects)) (m13 (c .before .before) (c .before .loop .starts) (c .before .loop .ends) (c .before .loop .items) (c .before .loop .expectations) (c .before .loop .w) (c .before .loop .at) (c .before .loop .number) (c .before .loop .pairs) (c .before .loop .expects))
         lay1 = λ c. lay3 record { before = c .before; loop-test = c .loop-test }
@@ -3240,6 +3263,6 @@ module _ (claims· : Claims) where
           pub asked : (a : Kinds.Dens κs ps) → (good : Kinds.GoodsP κs ps a) → (pre : Pre· κs a) → (bs : List.List Nat.ℕ) → Φ (Any.wantQ 5 ps r xs m κs qs a (Post· κs a)) (Function.init 5 ps r xs m κs qs a)
           asked = λ a good pre bs. laid record { κs = κs; args = record { text = a .0; from = a .1 .0; first = a .1 .1 .0; stands = a .1 .1 .1 .0; starts = a .1 .1 .1 .1 .0; ends = a .1 .1 .1 .1 .1 .0; options = a .1 .1 .1 .1 .1 .1 .0; items = a .1 .1 .1 .1 .1 .1 .1 .0; i = a .1 .1 .1 .1 .1 .1 .1 .1 .0; expectations = a .1 .1 .1 .1 .1 .1 .1 .1 .1 .0; x = a .1 .1 .1 .1 .1 .1 .1 .1 .1 .1 .0 }; good = good; fits = record { from = record { fits = good .1 .0 .1 }; first = record { fits = good .1 .1 .0 .1 }; i = record { fits = good .1 .1 .1 .1 .1 .1 .1 .1 .0 .1 }; x = record { fits = good .1 .1 .1 .1 .1 .1 .1 .1 .1 .1 .0 .1 } }; pre = pre }
 
-        module _ {M : Type 1} (𝓤 : URA.URA M) (H : Wp.Heap 𝓤) (A : Atoms.Atoms 𝓤) (W : Kit.Given 𝓤 H A) (𝓣 : Wp.Tables 𝓤 H) (known0 : Plain.Known 𝓤 H A W 𝓣 1 ps·0 r·0 (claims· .0) (claims· .1) "text::lines::line_at") (known1 : Plain.Known 𝓤 H A W 𝓣 1 ps·1 r·1 (claims· .2) (claims· .3) "roles::steps::step") (known2 : Plain.Known 𝓤 H A W 𝓣 3 ps·2 r·2 (claims· .4) (claims· .5) "below::says::say") (known3 : Plain.Known 𝓤 H A W 𝓣 0 ps·3 r·3 (claims· .6) (claims· .7) "below::says::expectation_of") (known4 : Plain.Known 𝓤 H A W 𝓣 1 ps·4 r·4 (claims· .8) (claims· .9) "slots::put_expectation") (known5 : Plain.Known 𝓤 H A W 𝓣 0 ps·5 r·5 (claims· .10) (claims· .11) "below::lines::at_opening") (known6 : Plain.Known 𝓤 H A W 𝓣 0 ps·6 r·6 (claims· .12) (claims· .13) "below::lines::at_end") where
+        module _ {M : Type 1} (𝓤 : URA.URA M) (H : Wp.Heap 𝓤) (A : Atoms.Atoms 𝓤) (W : Kit.Given 𝓤 H A) (𝓣 : Wp.Tables 𝓤 H) (known0 : Plain.Known 𝓤 H A W 𝓣 1 ps·0 r·0 (claims· .0) (claims· .1) "text::lines::line_at") (known1 : Plain.Known 𝓤 H A W 𝓣 1 ps·1 r·1 (claims· .2) (claims· .3) "roles::steps::step") (known2 : Plain.Known 𝓤 H A W 𝓣 3 ps·2 r·2 (claims· .4) (claims· .5) "below::says::say") (known3 : Plain.Known 𝓤 H A W 𝓣 0 ps·3 r·3 (claims· .6) (claims· .7) "below::says::expectation_of") (known4 : Plain.Known 𝓤 H A W 𝓣 1 ps·4 r·4 (claims· .8) (claims· .9) "slots::put_expectation") (known5 : Plain.Known 𝓤 H A W 𝓣 0 ps·5 r·5 (claims· .10) (claims· .11) "below::lines::at_opening") (known6 : Plain.Known 𝓤 H A W 𝓣 0 ps·6 r·6 (claims· .12) (claims· .13) "roles::steps::same_place") (known7 : Plain.Known 𝓤 H A W 𝓣 0 ps·7 r·7 (claims· .14) (claims· .15) "below::lines::at_end") where
           pub spec : Statement.Triple 𝓤 (Wp.WpFn 𝓤 H (𝓣 .C) (𝓣 .Λ) (Function.fnOf 5 ps r xs m hs body)) (Function.plainOf 𝓤 H A 5 ps r Pre· Post·)
-          spec = Plain.t-fn-plain 𝓤 H A W 𝓣 5 ps r xs m hs body (λ κs qs bs. Φ) (λ κs qs bs bd. typed κs qs 𝓤 H A W 𝓣 (known0, known1, known2, known3, known4, known5, known6) bs bd) Pre· Post· asked
+          spec = Plain.t-fn-plain 𝓤 H A W 𝓣 5 ps r xs m hs body (λ κs qs bs. Φ) (λ κs qs bs bd. typed κs qs 𝓤 H A W 𝓣 (known0, known1, known2, known3, known4, known5, known6, known7) bs bd) Pre· Post· asked

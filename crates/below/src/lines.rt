@@ -127,7 +127,7 @@ pub fn read_lines(
             }
             Role::Bad(_) => {}
         }
-        w = next;
+        w = roles::steps::same_place(next);
         at = l.next;
         number += 1;
     }

@@ -4,14 +4,14 @@ use Prim.Native.Nat.{ℕ, _+_, _-_, _≤_}
 use mathlib.Core.Logic.{⊎-elim}
 use lib.ListN.{length, set}
 use Rattle.text.proofs.LineLaws.{line-steps}
-use mathlib.Core.Path.{sym, ap, _∙_}
+use mathlib.Core.Path.{refl, sym, ap, _∙_}
 use mathlib.Core.List.{_∷_}
 use Rattle.script.specs.Roles.{marked}
 use Rattle.script.specs.Contents as Contents
 use Rattle.script.specs.Contents.{lead, sayings}
 use Rattle.script.specs.declared.roles.Role.{Role}
 use Rattle.below.specs.Below.{rolesAt, aheadOf, NextIn, pairsItems}
-use Rattle.below.proofs.LinesLaws.{Led, led-first, line-in, line-forward, line-behind, line-number, line-args, says-room, says-fits, expects-room, expects-fits, roles-none, roles-more, turn-laws, opens-lead, opens-ahead, over-lead, over-ahead, done-pairs, done-count, done-items, done-expects, done-values, says-pairs, says-expects, says-ahead, says-in, led-same, led-nothing, led-bad, led-says, led-expects}
+use Rattle.below.proofs.LinesLaws.{Led, led-first, led-at, line-in, line-forward, line-behind, line-number, line-args, says-room, says-fits, expects-room, expects-fits, roles-none, roles-more, turn-laws, opens-lead, opens-ahead, over-lead, over-ahead, done-pairs, done-count, done-items, done-expects, done-values, says-pairs, says-expects, says-ahead, says-in, led-same, led-nothing, led-bad, led-says, led-expects}
 use borrow.Author.Needs.{needs}
 use Rattle.below.proofs.lines.read_lines.Statement.{statement}
 use Rattle.below.proofs.lines.read_lines.Proof.Tie as tie
@@ -160,6 +160,9 @@ returns c =
 enum-told-2 : tie.Need-enum-told-2 Inv-loop μ-loop
 enum-told-2 c = search needs
 
+same-place-requires : tie.Need-same-place-requires Inv-loop μ-loop
+same-place-requires c κs = search needs
+
 add-number : tie.Need-add-number Inv-loop μ-loop
 add-number c = search needs
 
@@ -168,7 +171,8 @@ loop-less c = search (needs, line-steps)
 
 loop-again : tie.Need-loop-again Inv-loop μ-loop
 loop-again c =
-    let A = c .before in
+    let C = c .before in
+    let A = C .before in
     let P = A .before .before .before in
     let L = P .loop in
     let text = P .before .before .before .before .args .text .now in
@@ -181,7 +185,10 @@ loop-again c =
       search needs,
       search needs,
       search needs,
-      ⊎-elim
+      led-at
+          _ _ _ _ _ _ _ _ (C .match .starts) (C .match .ends) (C .match .items) (C .match .expectations) (C .match .pairs) (C .match .expects)
+          _
+          (⊎-elim
           (λ w. led-same _ _ _ _ _ _ _ _ _ _ _ _ _ _ _ (led-nothing _ _ _ _ _ _ _ _ (L .starts) (L .ends) (L .items) (L .expectations) (L .pairs) (L .expects) _ (L .inv .8) (L .number) (A .step .result .role) _ m (search needs)) _ _ _ _ _ _ (w .2) (w .3) (w .4) (w .5) (w .6) (w .7))
           (⊎-elim
           (λ w.
@@ -196,7 +203,8 @@ loop-again c =
           _ _ _ _ _ _
           (w .7) (w .8) (w .9) (w .10) (w .11) (w .12))
           (λ w. led-same _ _ _ _ _ _ _ _ _ _ _ _ _ _ _ (led-bad _ _ _ _ _ _ _ _ (L .starts) (L .ends) (L .items) (L .expectations) (L .pairs) (L .expects) _ (L .inv .8) (L .number) (A .step .result .role) _ m _ (w .1 .given .1)) _ _ _ _ _ _ (w .2) (w .3) (w .4) (w .5) (w .6) (w .7))))
-          (c .match .came),
+          (C .match .came))
+          text (A .step .result .next) _ _ _ refl (c .same-place .ensures),
     )
 
 at-end-requires : tie.Need-at-end-requires Inv-loop μ-loop
@@ -269,6 +277,7 @@ read-lines-spec =
     same-length-4
     returns
     enum-told-2
+    same-place-requires
     add-number
     loop-less
     loop-again
