@@ -1,6 +1,3 @@
-pub mod ExpectationElem
 pub mod LinesLaws
-pub mod LinesReadLinesKinds
-pub mod LinesReadLinesLts
-pub mod LinesReadLinesReads
+pub mod Made
 pub mod SayLaws

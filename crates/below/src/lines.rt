@@ -113,10 +113,7 @@ pub fn read_lines(
         let next = step.next;
         match role {
             Role::Nothing => {}
-            Role::Says(s) => {
-                let n = crate::says::say(s, starts, ends, options, items, i + pairs);
-                pairs += n;
-            }
+            Role::Says(s) => pairs += crate::says::say(s, starts, ends, options, items, i + pairs),
             Role::Expects(e) => {
                 let e = crate::says::expectation_of(number, e);
                 slots::put_expectation(expectations, x + expects, e);

@@ -1,8 +1,8 @@
 -- The needs of `put_entry` at its contract. Made by tools/walk.py, from what Rattle makes for a twin in which the elements are arrays.
 -- Assumes nothing.
-use Rattle.slots.proofs.PutEntryKinds as Kinds
-use Rattle.slots.proofs.PutEntryLts as Lts
-use Rattle.slots.proofs.PutEntryReads as Reads
+use Rattle.slots.proofs.Made.PutEntryKinds as Kinds
+use Rattle.slots.proofs.Made.PutEntryLts as Lts
+use Rattle.slots.proofs.Made.PutEntryReads as Reads
 use Rattle.slots.proofs.put_entry.Code
 use Rattle.slots.proofs.put_entry.Key
 use Rattle.slots.proofs.put_entry.Statement

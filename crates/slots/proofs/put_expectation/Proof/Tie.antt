@@ -1,8 +1,8 @@
 -- The needs of `put_expectation` at its contract. Made by tools/walk.py, from what Rattle makes for a twin in which the elements are arrays.
 -- Assumes nothing.
-use Rattle.slots.proofs.PutExpectationKinds as Kinds
-use Rattle.slots.proofs.PutExpectationLts as Lts
-use Rattle.slots.proofs.PutExpectationReads as Reads
+use Rattle.slots.proofs.Made.PutExpectationKinds as Kinds
+use Rattle.slots.proofs.Made.PutExpectationLts as Lts
+use Rattle.slots.proofs.Made.PutExpectationReads as Reads
 use Rattle.slots.proofs.put_expectation.Code
 use Rattle.slots.proofs.put_expectation.Key
 use Rattle.slots.proofs.put_expectation.Statement

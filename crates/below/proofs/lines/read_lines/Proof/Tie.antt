@@ -1,8 +1,8 @@
 -- The needs of `lines::read_lines` at its contract. Made by tools/walk.py, from what Rattle makes for a twin in which the elements are arrays.
 -- Assumes nothing.
-use Rattle.below.proofs.LinesReadLinesKinds as Kinds
-use Rattle.below.proofs.LinesReadLinesLts as Lts
-use Rattle.below.proofs.LinesReadLinesReads as Reads''
+use Rattle.below.proofs.Made.LinesReadLinesKinds as Kinds
+use Rattle.below.proofs.Made.LinesReadLinesLts as Lts
+use Rattle.below.proofs.Made.LinesReadLinesReads as Reads''
 use Rattle.below.proofs.lines.at_end.Met
 use Rattle.below.proofs.lines.at_end.Reads
 use Rattle.below.proofs.lines.at_end.Symbol
@@ -24,7 +24,7 @@ use Rattle.roles.proofs.steps.same_place.Symbol as Symbol'4
 use Rattle.roles.proofs.steps.step.Met as Met'5
 use Rattle.roles.proofs.steps.step.Reads as Reads'6
 use Rattle.roles.proofs.steps.step.Symbol as Symbol'5
-use Rattle.slots.proofs.PutExpectationReads as Reads'7
+use Rattle.slots.proofs.Made.PutExpectationReads as Reads'7
 use Rattle.slots.proofs.put_expectation.Met as Met'6
 use Rattle.slots.proofs.put_expectation.Symbol as Symbol'6
 use Rattle.text.proofs.lines.line_at.Met as Met'7

@@ -1,7 +1,7 @@
 -- The needs of `whole::list` at its contract. Made by tools/walk.py, from what Rattle makes for a twin in which the elements are arrays.
 -- Assumes nothing.
-use Rattle.listing.proofs.WholeListLts as Lts
-use Rattle.listing.proofs.WholeListScriptReads as Reads'4
+use Rattle.listing.proofs.Made.WholeListLts as Lts
+use Rattle.listing.proofs.Made.WholeListScriptReads as Reads'4
 use Rattle.listing.proofs.blank.blank_entry.Met
 use Rattle.listing.proofs.blank.blank_entry.Reads
 use Rattle.listing.proofs.blank.blank_entry.Symbol
@@ -18,7 +18,7 @@ use Rattle.listing.proofs.whole.list.Reads as Reads'3
 use Rattle.listing.proofs.whole.list.Statement
 use Rattle.listing.proofs.whole.list_script.Met as Met'3
 use Rattle.listing.proofs.whole.list_script.Symbol as Symbol'3
-use Rattle.read.proofs.ReadingReadReads as Reads'5
+use Rattle.read.proofs.Made.ReadingReadReads as Reads'5
 use Rattle.read.proofs.reading.read.Met as Met'4
 use Rattle.read.proofs.reading.read.Symbol as Symbol'4
 use borrow.Fn.Run

@@ -1,8 +1,8 @@
 -- The needs of `whole::list_entries` at its contract. Made by tools/walk.py, from what Rattle makes for a twin in which the elements are arrays.
 -- Assumes nothing.
-use Rattle.listing.proofs.WholeListEntriesKinds as Kinds
-use Rattle.listing.proofs.WholeListEntriesLts as Lts
-use Rattle.listing.proofs.WholeListEntriesReads as Reads'
+use Rattle.listing.proofs.Made.WholeListEntriesKinds as Kinds
+use Rattle.listing.proofs.Made.WholeListEntriesLts as Lts
+use Rattle.listing.proofs.Made.WholeListEntriesReads as Reads'
 use Rattle.listing.proofs.lines.put_entry_line.Met
 use Rattle.listing.proofs.lines.put_entry_line.Reads
 use Rattle.listing.proofs.lines.put_entry_line.Symbol

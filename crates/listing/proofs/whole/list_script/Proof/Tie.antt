@@ -1,9 +1,9 @@
 -- The needs of `whole::list_script` at its contract. Made by tools/walk.py, from what Rattle makes for a twin in which the elements are arrays.
 -- Assumes nothing.
-use Rattle.listing.proofs.WholeListEntriesReads as Reads'
-use Rattle.listing.proofs.WholeListScriptKinds as Kinds
-use Rattle.listing.proofs.WholeListScriptLts as Lts
-use Rattle.listing.proofs.WholeListScriptReads as Reads''
+use Rattle.listing.proofs.Made.WholeListEntriesReads as Reads'
+use Rattle.listing.proofs.Made.WholeListScriptKinds as Kinds
+use Rattle.listing.proofs.Made.WholeListScriptLts as Lts
+use Rattle.listing.proofs.Made.WholeListScriptReads as Reads''
 use Rattle.listing.proofs.lines.put_header.Met
 use Rattle.listing.proofs.lines.put_header.Reads
 use Rattle.listing.proofs.lines.put_header.Symbol

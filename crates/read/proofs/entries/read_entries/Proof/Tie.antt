@@ -1,9 +1,9 @@
 -- The needs of `entries::read_entries` at its contract. Made by tools/walk.py, from what Rattle makes for a twin in which the elements are arrays.
 -- Assumes nothing.
-use Rattle.read.proofs.EntriesReadEntriesKinds as Kinds
-use Rattle.read.proofs.EntriesReadEntriesLts as Lts
-use Rattle.read.proofs.EntriesReadEntriesReads as Reads
-use Rattle.read.proofs.EntriesReadEntryReads as Reads'
+use Rattle.read.proofs.Made.EntriesReadEntriesKinds as Kinds
+use Rattle.read.proofs.Made.EntriesReadEntriesLts as Lts
+use Rattle.read.proofs.Made.EntriesReadEntriesReads as Reads
+use Rattle.read.proofs.Made.EntriesReadEntryReads as Reads'
 use Rattle.read.proofs.entries.read_entries.Code
 use Rattle.read.proofs.entries.read_entries.Key
 use Rattle.read.proofs.entries.read_entries.Statement

@@ -1,6 +1,6 @@
 -- The needs of `entries::read_entry` at its contract. Made by tools/walk.py, from what Rattle makes for a twin in which the elements are arrays.
 -- Assumes nothing.
-use Rattle.below.proofs.LinesReadLinesReads as Reads
+use Rattle.below.proofs.Made.LinesReadLinesReads as Reads
 use Rattle.below.proofs.lines.read_lines.Met
 use Rattle.below.proofs.lines.read_lines.Symbol
 use Rattle.closing.proofs.entry.entry_of.Met as Met'
@@ -9,9 +9,9 @@ use Rattle.closing.proofs.entry.entry_of.Symbol as Symbol'
 use Rattle.closing.proofs.values.put_values.Met as Met''
 use Rattle.closing.proofs.values.put_values.Reads as Reads''
 use Rattle.closing.proofs.values.put_values.Symbol as Symbol''
-use Rattle.read.proofs.EntriesReadEntryKinds as Kinds
-use Rattle.read.proofs.EntriesReadEntryLts as Lts
-use Rattle.read.proofs.EntriesReadEntryReads as Reads'4
+use Rattle.read.proofs.Made.EntriesReadEntryKinds as Kinds
+use Rattle.read.proofs.Made.EntriesReadEntryLts as Lts
+use Rattle.read.proofs.Made.EntriesReadEntryReads as Reads'4
 use Rattle.read.proofs.entries.advanced.Met as Met'3
 use Rattle.read.proofs.entries.advanced.Reads as Reads'3
 use Rattle.read.proofs.entries.advanced.Symbol as Symbol'3
@@ -21,7 +21,7 @@ use Rattle.read.proofs.entries.read_entry.Statement
 use Rattle.read.proofs.entries.takes_pairs.Met as Met'4
 use Rattle.read.proofs.entries.takes_pairs.Reads as Reads'5
 use Rattle.read.proofs.entries.takes_pairs.Symbol as Symbol'4
-use Rattle.slots.proofs.PutEntryReads as Reads'6
+use Rattle.slots.proofs.Made.PutEntryReads as Reads'6
 use Rattle.slots.proofs.put_entry.Met as Met'5
 use Rattle.slots.proofs.put_entry.Symbol as Symbol'5
 use borrow.Fn.Run

@@ -3,10 +3,10 @@
 use Rattle.parse.proofs.measure.measure.Met
 use Rattle.parse.proofs.measure.measure.Reads
 use Rattle.parse.proofs.measure.measure.Symbol
-use Rattle.read.proofs.ReadingReadKinds as Kinds
-use Rattle.read.proofs.ReadingReadLts as Lts
-use Rattle.read.proofs.ReadingReadReads as Reads''
-use Rattle.read.proofs.ReadingReadScriptReads as Reads'3
+use Rattle.read.proofs.Made.ReadingReadKinds as Kinds
+use Rattle.read.proofs.Made.ReadingReadLts as Lts
+use Rattle.read.proofs.Made.ReadingReadReads as Reads''
+use Rattle.read.proofs.Made.ReadingReadScriptReads as Reads'3
 use Rattle.read.proofs.reading.lent_of.Met as Met'
 use Rattle.read.proofs.reading.lent_of.Reads as Reads'
 use Rattle.read.proofs.reading.lent_of.Symbol as Symbol'

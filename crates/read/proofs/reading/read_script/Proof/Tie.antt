@@ -1,15 +1,15 @@
 -- The needs of `reading::read_script` at its contract. Made by tools/walk.py, from what Rattle makes for a twin in which the elements are arrays.
 -- Assumes nothing.
-use Rattle.below.proofs.LinesReadLinesReads as Reads
+use Rattle.below.proofs.Made.LinesReadLinesReads as Reads
 use Rattle.below.proofs.lines.read_lines.Met
 use Rattle.below.proofs.lines.read_lines.Symbol
 use Rattle.closing.proofs.front.put_front.Met as Met'
 use Rattle.closing.proofs.front.put_front.Reads as Reads'
 use Rattle.closing.proofs.front.put_front.Symbol as Symbol'
-use Rattle.read.proofs.EntriesReadEntriesReads as Reads''
-use Rattle.read.proofs.ReadingReadScriptKinds as Kinds
-use Rattle.read.proofs.ReadingReadScriptLts as Lts
-use Rattle.read.proofs.ReadingReadScriptReads as Reads'3
+use Rattle.read.proofs.Made.EntriesReadEntriesReads as Reads''
+use Rattle.read.proofs.Made.ReadingReadScriptKinds as Kinds
+use Rattle.read.proofs.Made.ReadingReadScriptLts as Lts
+use Rattle.read.proofs.Made.ReadingReadScriptReads as Reads'3
 use Rattle.read.proofs.entries.read_entries.Met as Met''
 use Rattle.read.proofs.entries.read_entries.Symbol as Symbol''
 use Rattle.read.proofs.reading.read_script.Code
