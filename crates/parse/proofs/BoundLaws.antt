@@ -21,8 +21,9 @@ use Rattle.parse.specs.declared.measure.What.{What}
 use Rattle.parse.specs.declared.measure.What.the-variants.{ThePreamble, AnEntry}
 use Rattle.parse.specs.declared.measure.Open.{Open}
 use Rattle.parse.specs.Bounds.{Small, Few}
-use Rattle.parse.specs.Measure.{begun, told, pairsOn, entryItems, entryStore, itemsOf, storeOf, closedItems, closedStore, closeOn, entered, opened, setCount, quotedCount, dataCount, rawCount, featureCount, sayOn}
-use Rattle.parse.proofs.CountLaws.{set-fits, quoted-fit, data-fit, raw-fit, features-fit, inline-fits, fits-text}
+use Rattle.counts.specs.Counts.{setCount, quotedCount, dataCount, rawCount, featureCount}
+use Rattle.parse.specs.Measure.{begun, told, pairsOn, entryItems, entryStore, itemsOf, storeOf, closedItems, closedStore, closeOn, entered, opened, sayOn}
+use Rattle.counts.proofs.CountLaws.{set-fits, quoted-fit, data-fit, raw-fit, features-fit, inline-fits, fits-text}
 
 -- ---- what is closed
 

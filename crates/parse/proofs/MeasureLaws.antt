@@ -33,7 +33,8 @@ use Rattle.script.specs.declared.roles.Role.the-variants.{Nothing, Says, Expect
 use Rattle.parse.specs.declared.measure.What.{What}
 use Rattle.parse.specs.declared.measure.What.the-variants.{ThePreamble, AnEntry}
 use Rattle.parse.specs.declared.measure.Open.{Open}
-use Rattle.parse.specs.Measure.{begun, preambleOpen, told, pairsOn, entryItems, entryStore, itemsOf, storeOf, closedItems, closedStore, counts, zeros, closeOn, entered, countOn, onward, inlineItems, opened, setCount, quotedCount, dataCount, rawCount, featureCount, sayOn, openOn, countFrom, walkFrom, measuredBy}
+use Rattle.counts.specs.Counts.{inlineItems, setCount, quotedCount, dataCount, rawCount, featureCount}
+use Rattle.parse.specs.Measure.{begun, preambleOpen, told, pairsOn, entryItems, entryStore, itemsOf, storeOf, closedItems, closedStore, counts, zeros, closeOn, entered, countOn, onward, opened, sayOn, openOn, countFrom, walkFrom, measuredBy}
 
 -- a number of the value that is said last
 told-is : (k : Key) (f : Option Span → ℕ) (s : Saying) (soFar : Option Span) → told k (λ v. f (some v)) s (f soFar) ≡ f (valueOr k s soFar)

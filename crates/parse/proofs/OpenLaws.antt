@@ -15,7 +15,8 @@ use Rattle.script.specs.declared.roles.Opening.{Opening}
 use Rattle.parse.specs.declared.measure.What.{What}
 use Rattle.parse.specs.declared.measure.What.the-variants.{ThePreamble, AnEntry}
 use Rattle.parse.specs.declared.measure.Open.{Open}
-use Rattle.parse.specs.Measure.{setCount, quotedCount, dataCount, rawCount, featureCount, inlineItems, begun, told, pairsOn, sayOn, opened, entryItems, entryStore, itemsOf, storeOf, closedItems, closedStore, counts, closeOn, entered}
+use Rattle.counts.specs.Counts.{setCount, quotedCount, dataCount, rawCount, featureCount, inlineItems}
+use Rattle.parse.specs.Measure.{begun, told, pairsOn, sayOn, opened, entryItems, entryStore, itemsOf, storeOf, closedItems, closedStore, counts, closeOn, entered}
 
 abbrev pub opens : (what : What) → (inline pairs paths refs suffix text name cam-str contents raw features server-features : ℕ) → Open
 opens what inline pairs paths refs suffix text name cam-str contents raw features server-features = record {

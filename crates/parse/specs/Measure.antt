@@ -2,24 +2,21 @@
 use Prim.Native.Nat.{ℕ, _+_}
 use mathlib.Core.Bool.{not}
 use mathlib.Core.List.{List, [], _∷_}
-use mathlib.Core.Option.{some}
 use lib.ListN.{length}
 use lib.Dec.{ltb}
-use Rattle.text.specs.Base.{if_then_else_, BLANK}
+use Rattle.text.specs.Base.{if_then_else_}
 use Rattle.text.specs.Utf8.{wellFormed}
 use Rattle.text.specs.Lines.{lines}
 use Rattle.text.specs.declared.parts.Span.{Span}
 use Rattle.text.specs.declared.lines.Line.{Line}
 use Rattle.wire.specs.declared.ops.Op.{Op}
-use Rattle.script.specs.Pieces.{cutOr}
 use Rattle.script.specs.Operations.{sameKey, Shape, singlePath, singleString, pathSet, pathSetFlag, pathSetMode, noArgs, setOptions, collectGarbage, verifyStore, addPermRoot, addSignatures, addTextToStore, addToStore, addMultipleToStore, addBuildLog, registerDrvOutput, queryRealisation, querySubstitutablePathInfo, querySubstitutablePathInfos, rawBytes, formOf}
 use Rattle.script.specs.Values.{plainRules}
 use Rattle.script.specs.Sets as Sets
 use Rattle.script.specs.Roles.{Marked, stepOf}
-use Rattle.script.specs.Contents.{itemsIn, unquotedOf, hexOf, dataOf}
-use Rattle.script.specs.Layout.{storedOf}
 use Rattle.script.specs.Reading.{Parsed, refusedAt, read, refusal}
 use Rattle.script.specs.declared.records.Counts.{Counts}
+use Rattle.counts.specs.Counts.{inlineItems, setCount, quotedCount, dataCount, rawCount, featureCount}
 use Rattle.parse.specs.declared.measure.What.{What}
 use Rattle.parse.specs.declared.measure.What.the-variants.{ThePreamble, AnEntry}
 use Rattle.parse.specs.declared.measure.Open.{Open}
@@ -169,48 +166,9 @@ onward line (Opens p) later = later
 onward line (Bad n) later = refusedAt (refusal n line)
 
 module _ (text : List ℕ) where
-  -- how many items stand on an opening line: `args` is what stands behind the operation's name
-  unfoldable pub inlineItems : Shape → (args : Span) → ℕ
-  inlineItems singlePath args = 0
-  inlineItems singleString args = 0
-  inlineItems pathSet args = length (itemsIn text args)
-  inlineItems pathSetFlag args = length (itemsIn text args)
-  inlineItems pathSetMode args = length (itemsIn text args)
-  inlineItems noArgs args = 0
-  inlineItems setOptions args = 0
-  inlineItems collectGarbage args = 0
-  inlineItems verifyStore args = 0
-  inlineItems addPermRoot args = 0
-  inlineItems addSignatures args = length (itemsIn text (cutOr text BLANK args .after))
-  inlineItems addTextToStore args = 0
-  inlineItems addToStore args = 0
-  inlineItems addMultipleToStore args = 0
-  inlineItems addBuildLog args = 0
-  inlineItems registerDrvOutput args = 0
-  inlineItems queryRealisation args = 0
-  inlineItems querySubstitutablePathInfo args = 0
-  inlineItems querySubstitutablePathInfos args = length (itemsIn text args)
-  inlineItems rawBytes args = 0
-
   -- an entry at its opening line
   unfoldable pub opened : Op → (args : Span) → Open
-  opened op args = begun (AnEntry op) (inlineItems (formOf op .shape) args)
-
-  -- how many items or bytes a value takes
-  unfoldable pub setCount : Span → ℕ
-  setCount v = length (itemsIn text v)
-
-  unfoldable pub quotedCount : Span → ℕ
-  quotedCount v = length (unquotedOf plainRules text (some v))
-
-  unfoldable pub dataCount : Span → ℕ
-  dataCount v = length (storedOf (dataOf plainRules text (some v)))
-
-  unfoldable pub rawCount : Span → ℕ
-  rawCount v = length (hexOf plainRules text (some v))
-
-  unfoldable pub featureCount : Span → ℕ
-  featureCount v = length (Sets.features text v)
+  opened op args = begun (AnEntry op) (inlineItems text (formOf op .shape) args)
 
   -- after a line that says something: its key's number is overwritten, a pair adds two items
   unfoldable pub sayOn : Open → Saying → Open
@@ -218,16 +176,16 @@ module _ (text : List ℕ) where
     what = o .what;
     inline = o .inline;
     pairs = pairsOn s (o .pairs);
-    paths = told Key.Paths setCount s (o .paths);
-    refs = told Key.Refs setCount s (o .refs);
-    suffix = told Key.Suffix quotedCount s (o .suffix);
-    text = told Key.Text quotedCount s (o .text);
-    name = told Key.Name quotedCount s (o .name);
-    «cam_str» = told Key.CamStr quotedCount s (o .«cam_str»);
-    «data» = told Key.Data dataCount s (o .«data»);
-    raw = told Key.Raw rawCount s (o .raw);
-    features = told Key.Features featureCount s (o .features);
-    «server_features» = told Key.ServerFeatures featureCount s (o .«server_features»);
+    paths = told Key.Paths (setCount text) s (o .paths);
+    refs = told Key.Refs (setCount text) s (o .refs);
+    suffix = told Key.Suffix (quotedCount text) s (o .suffix);
+    text = told Key.Text (quotedCount text) s (o .text);
+    name = told Key.Name (quotedCount text) s (o .name);
+    «cam_str» = told Key.CamStr (quotedCount text) s (o .«cam_str»);
+    «data» = told Key.Data (dataCount text) s (o .«data»);
+    raw = told Key.Raw (rawCount text) s (o .raw);
+    features = told Key.Features (featureCount text) s (o .features);
+    «server_features» = told Key.ServerFeatures (featureCount text) s (o .«server_features»);
   }
 
   -- what is open after a line

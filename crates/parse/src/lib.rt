@@ -1,3 +1,2 @@
-// Measure and Read (script/parse.rs of the Rust).
-pub mod counts;
+// Measure (script/parse.rs of the Rust).
 pub mod measure;

@@ -79,43 +79,43 @@ fn known_on(text: &[u8], o: Open, k: Key, v: Span) -> Open
 {
     match k {
         Key::Paths => Open {
-            paths: crate::counts::set_count(text, v),
+            paths: counts::counts::set_count(text, v),
             ..o
         },
         Key::Refs => Open {
-            refs: crate::counts::set_count(text, v),
+            refs: counts::counts::set_count(text, v),
             ..o
         },
         Key::Suffix => Open {
-            suffix: crate::counts::quoted_count(text, v),
+            suffix: counts::counts::quoted_count(text, v),
             ..o
         },
         Key::Text => Open {
-            text: crate::counts::quoted_count(text, v),
+            text: counts::counts::quoted_count(text, v),
             ..o
         },
         Key::Name => Open {
-            name: crate::counts::quoted_count(text, v),
+            name: counts::counts::quoted_count(text, v),
             ..o
         },
         Key::CamStr => Open {
-            cam_str: crate::counts::quoted_count(text, v),
+            cam_str: counts::counts::quoted_count(text, v),
             ..o
         },
         Key::Data => Open {
-            data: crate::counts::data_count(text, v),
+            data: counts::counts::data_count(text, v),
             ..o
         },
         Key::Raw => Open {
-            raw: crate::counts::raw_count(text, v),
+            raw: counts::counts::raw_count(text, v),
             ..o
         },
         Key::Features => Open {
-            features: crate::counts::feature_count(text, v),
+            features: counts::counts::feature_count(text, v),
             ..o
         },
         Key::ServerFeatures => Open {
-            server_features: crate::counts::feature_count(text, v),
+            server_features: counts::counts::feature_count(text, v),
             ..o
         },
         _ => o,
@@ -228,7 +228,7 @@ fn open_entry(text: &[u8], p: Opening) -> Open
     ensures { λ r. ⌜ r ≡ opened (now (text .entry)) (p .op) (p .args) ⌝ }
 {
     let op = p.op;
-    let inline = crate::counts::inline_items(text, op, p.args);
+    let inline = counts::counts::inline_items(text, op, p.args);
     begin(What::AnEntry(op), inline)
 }
 

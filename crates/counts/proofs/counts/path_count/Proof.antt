@@ -1,9 +1,9 @@
--- `parse::counts::path_count` meets its contract. Assumes nothing.
+-- `counts::counts::path_count` meets its contract. Assumes nothing.
 use Rattle.script.specs.Pieces.{bytes}
-use Rattle.parse.proofs.CountLaws.{set-counts}
+use Rattle.counts.proofs.CountLaws.{set-counts}
 use borrow.Author.Needs.{needs}
-use Rattle.parse.proofs.counts.path_count.Statement.{statement}
-use Rattle.parse.proofs.counts.path_count.Tie as tie
+use Rattle.counts.proofs.counts.path_count.Statement.{statement}
+use Rattle.counts.proofs.counts.path_count.Tie as tie
 
 returns : tie.Need-returns
 returns c = search (needs, set-counts)

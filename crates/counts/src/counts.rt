@@ -9,7 +9,7 @@ ghost use Rattle.script.specs.Operations.{formOf};
 ghost use Rattle.script.specs.Sets.{COMMA, nonEmpty, trimmedItems, pathItems};
 ghost use Rattle.script.specs.Inside.{In};
 ghost use Rattle.tables.specs.SetRead.{bracedItems};
-ghost use Rattle.parse.specs.Measure.{setCount, quotedCount, dataCount, rawCount, featureCount, inlineItems};
+ghost use Rattle.counts.specs.Counts.{setCount, quotedCount, dataCount, rawCount, featureCount, inlineItems};
 use roles::openings::SetPlace;
 use text::parts::Found;
 use text::parts::Span;

@@ -44,7 +44,7 @@ use Rattle.roles.specs.OpeningRead.{halves, setPlace}
 use Rattle.roles.specs.declared.openings.Halves.{Halves}
 use Rattle.roles.specs.declared.openings.SetPlace.{SetPlace}
 use Rattle.roles.specs.declared.openings.SetPlace.the-variants.{NoSet, AllOf, BehindBlank}
-use Rattle.parse.specs.Measure.{setCount, quotedCount, dataCount, rawCount, featureCount, inlineItems}
+use Rattle.counts.specs.Counts.{setCount, quotedCount, dataCount, rawCount, featureCount, inlineItems}
 use Rattle.script.proofs.Inside.{length-bytes, trim-in, position-in}
 use Rattle.pieces.proofs.PieceLaws.{trim-end}
 use Rattle.pieces.proofs.BehindLaws.{behind-none, behind-some, behind-in, cut-none, cut-some}

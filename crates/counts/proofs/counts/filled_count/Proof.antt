@@ -1,4 +1,4 @@
--- `parse::counts::filled_count` meets its contract. The loop's invariant: the items counted, and those from `at` on if there are more, are all items.
+-- `counts::counts::filled_count` meets its contract. The loop's invariant: the items counted, and those from `at` on if there are more, are all items.
 -- Assumes nothing.
 use Prim.Native.Nat.{_+_, _-_, _≤_}
 use mathlib.Core.Path.{_≡_}
@@ -8,10 +8,10 @@ use Rattle.text.specs.Parts.{span}
 use Rattle.script.specs.Pieces.{bytes, split}
 use Rattle.script.specs.Sets.{nonEmpty, trimmedItems}
 use Rattle.script.specs.Inside.{In}
-use Rattle.parse.proofs.CountLaws.{left, left-all, filled-counts}
+use Rattle.counts.proofs.CountLaws.{left, left-all, filled-counts}
 use borrow.Author.Needs.{needs}
-use Rattle.parse.proofs.counts.filled_count.Statement.{statement}
-use Rattle.parse.proofs.counts.filled_count.Tie as tie
+use Rattle.counts.proofs.counts.filled_count.Statement.{statement}
+use Rattle.counts.proofs.counts.filled_count.Tie as tie
 
 abbrev Inv-loop : tie.InvT-loop
 Inv-loop text first last at₀ n₀ more₀ at n more =

@@ -1,9 +1,9 @@
--- `parse::counts::feature_count` meets its contract. Assumes nothing.
+-- `counts::counts::feature_count` meets its contract. Assumes nothing.
 use Rattle.script.specs.Pieces.{bytes}
-use Rattle.parse.proofs.CountLaws.{feature-counts}
+use Rattle.counts.proofs.CountLaws.{feature-counts}
 use borrow.Author.Needs.{needs}
-use Rattle.parse.proofs.counts.feature_count.Statement.{statement}
-use Rattle.parse.proofs.counts.feature_count.Tie as tie
+use Rattle.counts.proofs.counts.feature_count.Statement.{statement}
+use Rattle.counts.proofs.counts.feature_count.Tie as tie
 
 trimmed-requires : tie.Need-trimmed-requires
 trimmed-requires c κs = search needs

@@ -1,10 +1,10 @@
--- `parse::counts::braced_count` meets its contract. Assumes nothing.
+-- `counts::counts::braced_count` meets its contract. Assumes nothing.
 use Rattle.pieces.proofs.BehindLaws.{sums}
 use Rattle.pieces.proofs.CutLaws.{before-in}
-use Rattle.parse.proofs.CountLaws.{set-counts}
+use Rattle.counts.proofs.CountLaws.{set-counts}
 use borrow.Author.Needs.{needs}
-use Rattle.parse.proofs.counts.braced_count.Statement.{statement}
-use Rattle.parse.proofs.counts.braced_count.Tie as tie
+use Rattle.counts.proofs.counts.braced_count.Statement.{statement}
+use Rattle.counts.proofs.counts.braced_count.Tie as tie
 
 find-in-requires : tie.Need-find-in-requires
 find-in-requires c κs = search needs

@@ -1,8 +1,8 @@
--- `parse::counts::set_count` meets its contract. Assumes nothing.
-use Rattle.parse.proofs.CountLaws.{set-counts}
+-- `counts::counts::set_count` meets its contract. Assumes nothing.
+use Rattle.counts.proofs.CountLaws.{set-counts}
 use borrow.Author.Needs.{needs}
-use Rattle.parse.proofs.counts.set_count.Statement.{statement}
-use Rattle.parse.proofs.counts.set_count.Tie as tie
+use Rattle.counts.proofs.counts.set_count.Statement.{statement}
+use Rattle.counts.proofs.counts.set_count.Tie as tie
 
 trimmed-requires : tie.Need-trimmed-requires
 trimmed-requires c κs = search needs

@@ -1,9 +1,9 @@
--- `parse::counts::data_count` meets its contract. Assumes nothing.
+-- `counts::counts::data_count` meets its contract. Assumes nothing.
 use Rattle.script.specs.Pieces.{bytes}
-use Rattle.parse.proofs.CountLaws.{value-counts}
+use Rattle.counts.proofs.CountLaws.{value-counts}
 use borrow.Author.Needs.{needs}
-use Rattle.parse.proofs.counts.data_count.Statement.{statement}
-use Rattle.parse.proofs.counts.data_count.Tie as tie
+use Rattle.counts.proofs.counts.data_count.Statement.{statement}
+use Rattle.counts.proofs.counts.data_count.Tie as tie
 
 slice-aggregate-begins : tie.Need-slice-aggregate-begins
 slice-aggregate-begins c = search needs

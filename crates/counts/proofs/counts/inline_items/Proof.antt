@@ -1,8 +1,8 @@
--- `parse::counts::inline_items` meets its contract. Assumes nothing.
-use Rattle.parse.proofs.CountLaws.{inline-counts}
+-- `counts::counts::inline_items` meets its contract. Assumes nothing.
+use Rattle.counts.proofs.CountLaws.{inline-counts}
 use borrow.Author.Needs.{needs}
-use Rattle.parse.proofs.counts.inline_items.Statement.{statement}
-use Rattle.parse.proofs.counts.inline_items.Tie as tie
+use Rattle.counts.proofs.counts.inline_items.Statement.{statement}
+use Rattle.counts.proofs.counts.inline_items.Tie as tie
 
 set-place-requires : tie.Need-set-place-requires
 set-place-requires c κs = search needs

@@ -1,14 +1,14 @@
--- `parse::counts::word_count` meets its contract. The loop's invariant: the words counted, and those from `at` on, are all words. Assumes nothing.
+-- `counts::counts::word_count` meets its contract. The loop's invariant: the words counted, and those from `at` on, are all words. Assumes nothing.
 use Prim.Native.Nat.{_+_, _-_, _≤_}
 use mathlib.Core.Path.{_≡_}
 use native.Mathlib.Nat.{zero-add}
 use lib.ListN.{length}
 use Rattle.text.specs.Words.{words}
 use Rattle.text.proofs.WordLaws.{wordsAt}
-use Rattle.parse.proofs.CountLaws.{word-counts}
+use Rattle.counts.proofs.CountLaws.{word-counts}
 use borrow.Author.Needs.{needs}
-use Rattle.parse.proofs.counts.word_count.Statement.{statement}
-use Rattle.parse.proofs.counts.word_count.Tie as tie
+use Rattle.counts.proofs.counts.word_count.Statement.{statement}
+use Rattle.counts.proofs.counts.word_count.Tie as tie
 
 abbrev Inv-loop : tie.InvT-loop
 Inv-loop s at₀ n₀ at n = (at ≤ length s) × (n ≤ at) × (n + length (wordsAt s at) ≡ length (words s))

@@ -1,9 +1,9 @@
--- `parse::counts::quoted_count` meets its contract. Assumes nothing.
+-- `counts::counts::quoted_count` meets its contract. Assumes nothing.
 use Rattle.script.specs.Pieces.{bytes}
-use Rattle.parse.proofs.CountLaws.{value-counts}
+use Rattle.counts.proofs.CountLaws.{value-counts}
 use borrow.Author.Needs.{needs}
-use Rattle.parse.proofs.counts.quoted_count.Statement.{statement}
-use Rattle.parse.proofs.counts.quoted_count.Tie as tie
+use Rattle.counts.proofs.counts.quoted_count.Statement.{statement}
+use Rattle.counts.proofs.counts.quoted_count.Tie as tie
 
 sub-unquoted-len : tie.Need-sub-unquoted-len
 sub-unquoted-len c = search needs

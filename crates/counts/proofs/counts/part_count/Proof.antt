@@ -1,4 +1,4 @@
--- `parse::counts::part_count` meets its contract. The loop's invariant: the commas counted, and the parts of what is left, are as many as the parts of all.
+-- `counts::counts::part_count` meets its contract. The loop's invariant: the commas counted, and the parts of what is left, are as many as the parts of all.
 -- Assumes nothing.
 use Prim.Native.Nat.{_+_, _-_, _≤_}
 use mathlib.Core.Path.{_≡_}
@@ -6,10 +6,10 @@ use native.Mathlib.Nat.{zero-add}
 use lib.ListN.{length, drop}
 use Rattle.text.specs.Parts.{split}
 use Rattle.script.specs.Sets.{COMMA}
-use Rattle.parse.proofs.CountLaws.{part-counts}
+use Rattle.counts.proofs.CountLaws.{part-counts}
 use borrow.Author.Needs.{needs}
-use Rattle.parse.proofs.counts.part_count.Statement.{statement}
-use Rattle.parse.proofs.counts.part_count.Tie as tie
+use Rattle.counts.proofs.counts.part_count.Statement.{statement}
+use Rattle.counts.proofs.counts.part_count.Tie as tie
 
 abbrev Inv-loop : tie.InvT-loop
 Inv-loop s i₀ commas₀ i commas = (i ≤ length s) × (commas ≤ i) × (commas + length (split COMMA (drop i s)) ≡ length (split COMMA s))

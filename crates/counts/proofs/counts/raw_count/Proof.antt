@@ -1,9 +1,9 @@
--- `parse::counts::raw_count` meets its contract. Assumes nothing.
+-- `counts::counts::raw_count` meets its contract. Assumes nothing.
 use Rattle.script.specs.Pieces.{bytes}
-use Rattle.parse.proofs.CountLaws.{value-counts}
+use Rattle.counts.proofs.CountLaws.{value-counts}
 use borrow.Author.Needs.{needs}
-use Rattle.parse.proofs.counts.raw_count.Statement.{statement}
-use Rattle.parse.proofs.counts.raw_count.Tie as tie
+use Rattle.counts.proofs.counts.raw_count.Statement.{statement}
+use Rattle.counts.proofs.counts.raw_count.Tie as tie
 
 sub-hex-len : tie.Need-sub-hex-len
 sub-hex-len c = search needs

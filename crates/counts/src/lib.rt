@@ -1,0 +1,2 @@
+// How many items, or bytes of the store, a value takes.
+pub mod counts;
