@@ -20,7 +20,7 @@ use Rattle.script.specs.declared.roles.Saying.{Saying}
 use Rattle.script.specs.declared.roles.Saying.the-variants.{Known}
 use Rattle.script.specs.declared.roles.Role.the-variants.{Says, Bad}
 use Rattle.script.specs.Inside.{In}
-use Rattle.roles.specs.ArgumentRead.{SayingIn}
+use Rattle.arguments.specs.ArgumentRead.{SayingIn}
 use Rattle.roles.specs.BlockRead.{kindOf, refusedOf}
 use Rattle.roles.specs.declared.blocks.ValueKind.{ValueKind}
 use Rattle.roles.specs.declared.blocks.ValueKind.the-variants.{Set, Data, Overrides, Other}

@@ -4,7 +4,7 @@ ghost use Rattle.script.specs.Operations.{keyRow};
 ghost use Rattle.script.specs.Values.{plainRules, framed};
 ghost use Rattle.script.specs.Roles.{opensList, afterKey, afterSaying, refusalIn, refusalOfKind, refusalOf, argumentStep};
 ghost use Rattle.script.specs.Inside.{In};
-ghost use Rattle.roles.specs.ArgumentRead.{SayingIn};
+ghost use Rattle.arguments.specs.ArgumentRead.{SayingIn};
 ghost use Rattle.roles.specs.BlockRead.{kindOf, refusedOf};
 use script::roles::Key;
 use script::roles::Role;
@@ -132,7 +132,7 @@ pub fn argument_step(text: &[u8], takes: Takes, list_open: bool, t: Span) -> Ste
     requires { ⌜ In (now text) t ⌝ }
     ensures { λ r. ⌜ r ≡ argumentStep plainRules (now (text .entry)) takes list_open t ⌝ }
 {
-    let s = crate::arguments::saying_in(text, takes, list_open, t);
+    let s = arguments::arguments::saying_in(text, takes, list_open, t);
     let next = after_saying(takes, s);
     match refusal_of(text, s) {
         Refused::No => Step {

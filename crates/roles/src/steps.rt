@@ -104,7 +104,7 @@ fn sorted_step(text: &[u8], sort: Sort, t: Span) -> Step
     ensures { λ r. ⌜ r ≡ sortedStep (now (text .entry)) sort t ⌝ }
 {
     match sort {
-        Sort::Preamble => crate::preamble::preamble_step(text, t),
+        Sort::Preamble => preambles::preamble::preamble_step(text, t),
         Sort::Skipped => Step {
             role: Role::Nothing,
             next: Where::Outside,

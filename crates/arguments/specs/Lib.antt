@@ -1,0 +1,3 @@
+pub mod ArgumentRead
+pub mod KeyRead
+pub mod KeyTables

@@ -1,0 +1,46 @@
+-- `preambles::preamble::preamble_expect` meets its contract: one of two words stands there, or the line has no known form. Assumes nothing.
+use Rattle.preambles.proofs.PreambleLaws.{preamble-expects}
+use borrow.Author.Needs.{needs}
+use Rattle.preambles.proofs.preamble.preamble_expect.Statement.{statement}
+use Rattle.preambles.proofs.preamble.preamble_expect.Tie as tie
+
+slice-aggregate-begins : tie.Need-slice-aggregate-begins
+slice-aggregate-begins c = search needs
+
+begins-requires : tie.Need-begins-requires
+begins-requires c κs = search needs
+
+expect-role-requires : tie.Need-expect-role-requires
+expect-role-requires c κs = search needs
+
+returns : tie.Need-returns
+returns c = search (needs, preamble-expects)
+
+slice-aggregate-begins-2 : tie.Need-slice-aggregate-begins-2
+slice-aggregate-begins-2 c = search needs
+
+begins-requires-2 : tie.Need-begins-requires-2
+begins-requires-2 c κs = search needs
+
+expect-role-requires-2 : tie.Need-expect-role-requires-2
+expect-role-requires-2 c κs = search needs
+
+returns-2 : tie.Need-returns-2
+returns-2 c = search (needs, preamble-expects)
+
+returns-3 : tie.Need-returns-3
+returns-3 c = search (needs, preamble-expects)
+
+pub preamble-expect-spec : {M : Type 1} → statement M
+preamble-expect-spec =
+    tie.close
+    (tie.spec
+    slice-aggregate-begins
+    begins-requires
+    expect-role-requires
+    returns
+    slice-aggregate-begins-2
+    begins-requires-2
+    expect-role-requires-2
+    returns-2
+    returns-3)

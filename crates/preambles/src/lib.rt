@@ -1,0 +1,2 @@
+// What each line of the preamble is.
+pub mod preamble;
