@@ -1,9 +1,10 @@
 //! Times the functions of the proved library beside Rust's, in one run.
 //!
 //! First each function on several texts of about 30,000 bytes, then each on its own text at several lengths: an even
-//! row says that the time for a byte does not depend on the length. At last Measure, on texts of its own.
+//! row says that the time for a byte does not depend on the length. At last Measure and Read, on texts of their own.
 
 mod measure;
+mod read;
 mod reference;
 mod texts;
 mod timing;
@@ -75,13 +76,14 @@ fn measured(function: &Function, text: &str) -> (f64, f64) {
     let mut out = vec![0; text.len()];
     let our_answer = (function.ours)(text.as_bytes(), &mut out);
     assert_eq!(our_answer, (function.rust)(text), "{}: only equal answers are timed", function.name);
-    let ours = || {
+    let mut ours = || {
         black_box((function.ours)(black_box(text.as_bytes()), black_box(&mut out)));
     };
-    let rust = || {
+    let mut rust = || {
         black_box((function.rust)(black_box(text)));
     };
-    timing::best(ours, rust)
+    let [ours, rust] = timing::best([&mut ours, &mut rust]);
+    (ours, rust)
 }
 
 const ABOUT: usize = 30_000;
@@ -139,4 +141,6 @@ fn main() {
     print_lengths();
     println!();
     measure::print();
+    println!();
+    read::print();
 }

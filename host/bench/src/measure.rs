@@ -11,11 +11,19 @@ use crate::{texts, timing};
 
 pub fn print() {
     println!("measure{:<52}bytes  ours ns/B  Rust ns/B   ratio", "");
-    print_row("a realistic, 30 KB", &texts::script(30_000));
-    for (name, counts, text) in cases() {
-        assert_eq!(counted(&text), counts, "{name}: bytes, lines, entries, expectations");
+    for (name, text) in named_texts() {
         print_row(name, &text);
     }
+}
+
+/// A realistic script, then texts that are all of one thing.
+pub fn named_texts() -> Vec<(&'static str, String)> {
+    let mut texts = vec![("a realistic, 30 KB", texts::script(30_000))];
+    for (name, counts, text) in cases() {
+        assert_eq!(counted(&text), counts, "{name}: bytes, lines, entries, expectations");
+        texts.push((name, text));
+    }
+    texts
 }
 
 fn print_row(name: &str, text: &str) {
@@ -24,13 +32,13 @@ fn print_row(name: &str, text: &str) {
         Measured::Read(counts) => assert_eq!([counts.entries, counts.expectations], [entries, expectations], "{name}"),
         refused => panic!("{name}: {refused:?}"),
     }
-    let ours = || {
+    let mut ours = || {
         black_box(library::measure(black_box(text.as_bytes())));
     };
-    let rust = || {
+    let mut rust = || {
         black_box(parse_script(black_box(text)).is_ok());
     };
-    let (ours, rust) = timing::best(ours, rust);
+    let [ours, rust] = timing::best([&mut ours, &mut rust]);
     let (our_share, rust_share) = (ours / bytes as f64, rust / bytes as f64);
     println!("{name:<56}{bytes:>8}{our_share:>11.3}{rust_share:>11.3}{:>8.2}", ours / rust);
 }

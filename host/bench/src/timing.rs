@@ -1,22 +1,23 @@
-//! Measuring two sides by turns.
+//! Measuring several sides by turns.
 
 use std::time::{Duration, Instant};
 
 const REPETITIONS: usize = 30;
 
 /// One repetition lasts about so long: far longer than a look at the clock.
-const SPAN: Duration = Duration::from_millis(1);
+pub const SPAN: Duration = Duration::from_millis(1);
 
-/// Nanoseconds for a call of each side, the best of all repetitions. The sides take turns, so that both meet the same
+/// Nanoseconds for a call of each side, the best of all repetitions. The sides take turns, so that all meet the same
 /// machine.
-pub fn best(mut ours: impl FnMut(), mut rust: impl FnMut()) -> (f64, f64) {
-    let (our_calls, rust_calls) = (calls_in_span(&mut ours), calls_in_span(&mut rust));
-    let (mut our_best, mut rust_best) = (f64::INFINITY, f64::INFINITY);
+pub fn best<const SIDES: usize>(mut sides: [&mut dyn FnMut(); SIDES]) -> [f64; SIDES] {
+    let calls = sides.each_mut().map(|side| calls_in_span(side));
+    let mut best = [f64::INFINITY; SIDES];
     for _ in 0..REPETITIONS {
-        our_best = our_best.min(nanoseconds(&mut ours, our_calls));
-        rust_best = rust_best.min(nanoseconds(&mut rust, rust_calls));
+        for (side, call) in sides.iter_mut().enumerate() {
+            best[side] = best[side].min(nanoseconds(call, calls[side]));
+        }
     }
-    (our_best, rust_best)
+    best
 }
 
 /// Nanoseconds for a call, on the average of some calls.

@@ -99,14 +99,14 @@ impl Decoder {
 }
 
 /// Bytes kept on both sides of those that are lent, to see a write beside them.
-const BESIDE: usize = 4;
+pub const BESIDE: usize = 4;
 
 /// What stands in lent bytes before a call: neighbours differ, and no byte is a frequent one.
-fn pattern(len: usize) -> Vec<u8> {
+pub fn pattern(len: usize) -> Vec<u8> {
     (0..len).map(|i| 0xA1 + (i % 89) as u8).collect()
 }
 
-fn shown(bytes: &[u8]) -> String {
+pub fn shown(bytes: &[u8]) -> String {
     format!("\"{}\"", bytes.escape_ascii())
 }
 

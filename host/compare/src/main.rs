@@ -1,48 +1,85 @@
 //! Compares the functions of the proved library with Rust's, on the same inputs.
 //!
 //!     compare [SEED]
+//!     compare folder PATH
 //!     compare sample [SEED]
 //!
-//! A line for each function, then `N passed, M failed`. Exit status 1 if any case failed. A sample is only printed.
+//! A line for each function, then `N passed, M failed`. Exit status 1 if any case failed. Of a folder's files the whole
+//! texts are compared. A sample is only printed.
 
+mod agreement;
 mod changes;
+mod coverage;
 mod decode;
+mod dump;
+mod folder;
 mod gen;
 mod hex;
+mod layout;
+mod lending;
 mod limits;
 mod measure;
 mod numbers;
+mod places;
+mod read;
 mod reference;
 mod report;
+mod row;
 mod sample;
+mod sample_read;
 mod scripts;
 mod text;
+mod texts;
 mod unquote;
 mod words;
 mod written;
 
+use std::ffi::OsString;
+use std::path::Path;
 use std::process::ExitCode;
 
 use report::Report;
 
 /// Each area makes its own random inputs from the seed, so that a change in one leaves the others as they were.
-const AREAS: [fn(u64, &mut Report); 5] =
-    [text::compare, numbers::compare, hex::compare, unquote::compare, measure::compare];
+const AREAS: [fn(u64, &mut Report); 6] =
+    [text::compare, numbers::compare, hex::compare, unquote::compare, measure::compare, read::compare];
 
 const SEED: u64 = 20_240_229;
 
 fn main() -> ExitCode {
-    let mut words = std::env::args().skip(1).peekable();
-    let is_sample = words.next_if_eq("sample").is_some();
-    let word = words.next().unwrap_or(SEED.to_string());
-    let Ok(seed) = word.parse() else {
-        eprintln!("compare: the seed is a number, and {word:?} is none.");
-        return ExitCode::from(2);
-    };
-    if is_sample {
-        sample::print(seed);
-        return ExitCode::SUCCESS;
+    let words: Vec<OsString> = std::env::args_os().skip(1).collect();
+    // Only a path may be no UTF-8.
+    let shown: Vec<&str> = words.iter().map(|word| word.to_str().unwrap_or_default()).collect();
+    match shown[..] {
+        ["folder", _] => folder::compare(Path::new(&words[1])),
+        ["sample"] => print_sample(SEED),
+        ["sample", word] => seed(word).map_or(ExitCode::from(2), print_sample),
+        [] => compare(SEED),
+        [word] => seed(word).map_or(ExitCode::from(2), compare),
+        _ => usage(),
     }
+}
+
+fn usage() -> ExitCode {
+    eprintln!("compare: usage: compare [SEED], compare folder PATH or compare sample [SEED]");
+    ExitCode::from(2)
+}
+
+fn seed(word: &str) -> Option<u64> {
+    let seed = word.parse().ok();
+    if seed.is_none() {
+        eprintln!("compare: the seed is a number, and {word:?} is none.");
+    }
+    seed
+}
+
+fn print_sample(seed: u64) -> ExitCode {
+    sample::print(seed);
+    sample_read::print(seed);
+    ExitCode::SUCCESS
+}
+
+fn compare(seed: u64) -> ExitCode {
     println!("seed {seed}");
     let mut report = Report::default();
     for compare in AREAS {

@@ -3,6 +3,7 @@
 //! Its errors have no number and no line. The number goes by the message. The line is the smallest count of lines that
 //! fail already: the reference walks the lines once, and the end of a text is never an error.
 
+use std::ops::Range;
 use std::str::from_utf8;
 
 use library::{Counts, Measured};
@@ -31,10 +32,30 @@ const MESSAGES: [(&str, u64); 8] = [
     ("unsupported data format:", 11),
 ];
 
-/// What is said of a text, and the operations of its entries: bit n is set if one has code n. None where it is refused.
-pub struct Reading {
-    pub measured: Measured,
-    pub operations: u64,
+/// What the reference says of a text: why it is refused and on which line (0 if on none), or its script.
+pub enum Reading {
+    Refused { number: u64, line: usize },
+    Read(Script),
+}
+
+impl Reading {
+    pub fn measured(&self) -> Measured {
+        match self {
+            Reading::Refused { number, line } => Measured::Refused {
+                number: *number,
+                line: *line,
+            },
+            Reading::Read(script) => Measured::Read(counts(script)),
+        }
+    }
+
+    /// The operations of the entries: bit n is set if one has code n. None where the text is refused.
+    pub fn operations(&self) -> u64 {
+        match self {
+            Reading::Refused { .. } => 0,
+            Reading::Read(script) => script.entries.iter().fold(0, |bits, entry| bits | 1 << entry.op_call.op() as u64),
+        }
+    }
 }
 
 pub fn reading(bytes: &[u8]) -> Reading {
@@ -48,10 +69,7 @@ pub fn reading(bytes: &[u8]) -> Reading {
 }
 
 fn refused(number: u64, line: usize) -> Reading {
-    Reading {
-        measured: Measured::Refused { number, line },
-        operations: 0,
-    }
+    Reading::Refused { number, line }
 }
 
 fn number(message: &str) -> u64 {
@@ -60,14 +78,14 @@ fn number(message: &str) -> u64 {
 }
 
 /// A text of which the first lines are parsed, some or all.
-struct Beginnings<'a> {
-    text: &'a str,
+pub struct Beginnings<'a> {
+    pub text: &'a str,
     /// Where each line ends.
     ends: Vec<usize>,
 }
 
 impl<'a> Beginnings<'a> {
-    fn of(text: &'a str) -> Beginnings<'a> {
+    pub fn of(text: &'a str) -> Beginnings<'a> {
         let mut end = 0;
         let past = |line: &str| {
             end += line.len();
@@ -86,10 +104,7 @@ impl<'a> Beginnings<'a> {
         }
         match parsed {
             Err((number, line)) => refused(number, line),
-            Ok(script) => Reading {
-                measured: Measured::Read(counts(&script)),
-                operations: script.entries.iter().fold(0, |bits, entry| bits | 1 << entry.op_call.op() as u64),
-            },
+            Ok(script) => Reading::Read(script),
         }
     }
 
@@ -112,18 +127,82 @@ impl<'a> Beginnings<'a> {
         lines.checked_sub(1).map_or(0, |last| self.ends[last])
     }
 
-    fn line(&self, line: usize) -> &str {
-        &self.text[self.end(line - 1)..self.end(line)]
+    /// Where a line stands, its ending with it. Past the last one there is an empty line.
+    pub fn range(&self, line: usize) -> Range<usize> {
+        match self.ends.get(line - 1) {
+            Some(end) => self.end(line - 1)..*end,
+            None => self.text.len()..self.text.len(),
+        }
+    }
+
+    pub fn line(&self, line: usize) -> &'a str {
+        &self.text[self.range(line)]
     }
 
     /// How many entries so many lines have.
     fn entries(&self, lines: usize) -> usize {
-        parse_script(&self.text[..self.end(lines)]).map_or(0, |script| script.entries.len())
+        self.held(lines).entries
+    }
+
+    /// What so many lines hold; nothing where they are refused.
+    fn held(&self, lines: usize) -> Held {
+        parse_script(&self.text[..self.end(lines)]).map_or(Held::default(), |script| Held::by(&script))
+    }
+
+    /// The lines of a text that is read which open an entry or have an expectation.
+    pub fn lines(&self) -> Lines {
+        let mut lines = Lines::default();
+        let last = self.ends.len();
+        self.add_lines(&mut lines, (0, Held::default()), (last, self.held(last)));
+        lines
+    }
+
+    /// Adds those below some lines and up to others, given what these and those hold.
+    fn add_lines(&self, lines: &mut Lines, above: (usize, Held), last: (usize, Held)) {
+        if above.1 == last.1 {
+            return;
+        }
+        if last.0 - above.0 > 1 {
+            let middle = above.0.midpoint(last.0);
+            let middle = (middle, self.held(middle));
+            self.add_lines(lines, above, middle);
+            return self.add_lines(lines, middle, last);
+        }
+        if above.1.entries < last.1.entries {
+            lines.entries.push(last.0);
+        }
+        if above.1.expectations < last.1.expectations {
+            lines.expectations.push(last.0);
+        }
     }
 }
 
+/// How many entries and expectations some lines have.
+#[derive(Clone, Copy, Default, PartialEq, Eq)]
+struct Held {
+    entries: usize,
+    expectations: usize,
+}
+
+impl Held {
+    fn by(script: &Script) -> Held {
+        let below: usize = script.entries.iter().map(|entry| entry.expects.len()).sum();
+        Held {
+            entries: script.entries.len(),
+            expectations: script.preamble.expects.len() + below,
+        }
+    }
+}
+
+/// The lines of the entries and those of the expectations, in their order.
+#[derive(Default)]
+pub struct Lines {
+    pub entries: Vec<usize>,
+    pub expectations: Vec<usize>,
+}
+
 /// What stands between `@` and the first `ms`.
-fn stamp(line: &str) -> Option<&str> {
+pub fn stamp(line: &str) -> Option<&str> {
     let (stamp, _) = line.trim().strip_prefix('@')?.split_once("ms")?;
     Some(stamp)
 }
@@ -137,15 +216,15 @@ fn is_not_carried(stamp: &str) -> bool {
     !is_carried && stamp.parse::<f64>().is_ok()
 }
 
-fn counts(script: &Script) -> Counts {
+pub fn counts(script: &Script) -> Counts {
     let preamble = &script.preamble;
     let server_features = preamble.server_features.as_ref().map_or(0, Vec::len);
     let all = |count: fn(&OpCall) -> usize| script.entries.iter().map(|entry| count(&entry.op_call)).sum::<usize>();
-    let expectations: usize = script.entries.iter().map(|entry| entry.expects.len()).sum();
+    let Held { entries, expectations } = Held::by(script);
     Counts {
-        entries: script.entries.len(),
+        entries,
         items: preamble.client_features.len() + server_features + all(items),
-        expectations: preamble.expects.len() + expectations,
+        expectations,
         store: all(store_bytes),
     }
 }

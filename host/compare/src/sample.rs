@@ -39,12 +39,17 @@ pub fn print(seed: u64) {
     }
 }
 
-fn random(rng: &mut Rng) -> Vec<u8> {
+/// A random script, or one with a change.
+pub fn random(rng: &mut Rng) -> Vec<u8> {
     let script = scripts::script(rng);
     match rng.below(2) {
         0 => script.into_bytes(),
         _ => changes::random(rng, script.as_bytes()),
     }
+}
+
+pub fn hex(bytes: &[u8]) -> String {
+    bytes.iter().map(|byte| format!("{byte:02x}")).collect()
 }
 
 #[derive(Default)]
@@ -62,7 +67,7 @@ impl Sample {
     }
 
     fn needs(&self, text: &[u8]) -> bool {
-        let [number, ..] = reading(text).measured.numbers();
+        let [number, ..] = reading(text).measured().numbers();
         self.refusals[number as usize] < if number == 0 { READ } else { REFUSED }
     }
 
@@ -72,11 +77,10 @@ impl Sample {
             return;
         }
         let reading = reading(text);
-        let numbers = reading.measured.numbers();
+        let numbers = reading.measured().numbers();
         self.refusals[numbers[0] as usize] += 1;
-        self.operations |= reading.operations;
+        self.operations |= reading.operations();
         let numbers: Vec<String> = numbers.iter().map(u64::to_string).collect();
-        let hex: String = text.iter().map(|byte| format!("{byte:02x}")).collect();
-        println!("measure {} {hex}", numbers.join(" "));
+        println!("measure {} {}", numbers.join(" "), hex(text));
     }
 }

@@ -24,6 +24,17 @@ mod exports {
             expectations: *mut usize,
             store: *mut usize,
         ) -> u64;
+        pub fn nwscript_read(
+            text: *const u8,
+            text_len: usize,
+            entries: usize,
+            items: usize,
+            expectations: usize,
+            store: usize,
+            out: *mut u8,
+            out_len: usize,
+        ) -> usize;
+        pub fn nwscript_read_times(text: *const u8, text_len: usize, times: u64) -> u64;
     }
 }
 
@@ -91,7 +102,7 @@ pub fn parse_i64(s: &[u8], value: &mut i64) -> bool {
 }
 
 /// What a script takes: records of three tables, and bytes of the store.
-#[derive(Debug, Clone, Copy, PartialEq, Eq)]
+#[derive(Debug, Clone, Copy, Default, PartialEq, Eq)]
 pub struct Counts {
     pub entries: usize,
     pub items: usize,
@@ -149,4 +160,30 @@ fn measured(text: &[u8]) -> (u64, [usize; 5]) {
     let number =
         unsafe { exports::nwscript_measure(text.as_ptr(), text.len(), line, entries, items, expectations, store) };
     (number, written)
+}
+
+/// The most that `read` lends of each table; a larger number counts as this.
+pub const MOST: Counts = Counts {
+    entries: 256,
+    items: 1_024,
+    expectations: 1_024,
+    store: 32_768,
+};
+
+/// Reads a text into tables of which so much is lent, and writes what they hold after that to the front of out, if it
+/// fits. Gives the number of bytes either way.
+pub fn read(text: &[u8], lent: Counts, out: &mut [u8]) -> usize {
+    let Counts {
+        entries,
+        items,
+        expectations,
+        store,
+    } = lent;
+    let (text, text_len, out, out_len) = (text.as_ptr(), text.len(), out.as_mut_ptr(), out.len());
+    unsafe { exports::nwscript_read(text, text_len, entries, items, expectations, store, out, out_len) }
+}
+
+/// Reads a text so many times into tables of its own. Gives the number of the last refusal, 0 if it is read.
+pub fn read_times(text: &[u8], times: u64) -> u64 {
+    unsafe { exports::nwscript_read_times(text.as_ptr(), text.len(), times) }
 }
