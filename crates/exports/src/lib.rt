@@ -12,6 +12,8 @@ ghost use Rattle.values.specs.Unquote.{unquoted};
 ghost use Rattle.script.specs.Reading.{measured};
 ghost use Rattle.exports.specs.Answered.{refusedAs, lineOf, countsOr};
 ghost use Rattle.exports.specs.Given.{isGiven, givenOr};
+ghost use Rattle.dump.specs.Dump.{readDump};
+ghost use Rattle.dump.specs.Times.{lastNumber};
 use parse::measure::Measured;
 use values::number::Integer;
 use values::number::Number;
@@ -181,4 +183,30 @@ pub extern "C" fn nwscript_measure(
             0
         }
     }
+}
+
+// Read into blank tables of its own, of which so many records and bytes are lent (at most 256 entries, 1,024 items, 1,024 expectations, 32,768
+// bytes of the store): the dump, at the front of out if there is room; how many bytes it has.
+#[no_mangle]
+pub extern "C" fn nwscript_read(
+    text: &[u8],
+    entries: usize,
+    items: usize,
+    expectations: usize,
+    store: usize,
+    out: &mut [u8],
+) -> usize
+    ensures { λ r. ⌜ r ≡ length (readDump (now (text .entry)) entries items expectations store) ⌝ }
+    ensures { λ _. ⌜ now (out .exit) ≡ overlaid (readDump (now (text .entry)) entries items expectations store) (now (out .entry)) ⌝ }
+{
+    dump::dumps::dump_read(text, entries, items, expectations, store, out)
+}
+
+// Read so many times into tables of 4,096 entries, 16,384 items, 4,096 expectations and 32,768 bytes of the store: the number of the last
+// refusal, or 0.
+#[no_mangle]
+pub extern "C" fn nwscript_read_times(text: &[u8], times: u64) -> u64
+    ensures { λ r. ⌜ r ≡ lastNumber (now (text .entry)) times ⌝ }
+{
+    dump::times::read_times(text, times)
 }

@@ -1,0 +1,7 @@
+pub mod BlankLaws
+pub mod DumpLaws
+pub mod Made
+pub mod NumberLaws
+pub mod PuttingLaws
+pub mod SignedLaws
+pub mod TimesLaws
