@@ -1,4 +1,5 @@
 pub mod BlankLaws
+pub mod DumpExamples
 pub mod DumpLaws
 pub mod Made
 pub mod NumberLaws

@@ -1,6 +1,6 @@
 -- Laws of the two's complement: an integer below 0 is counted down from the largest number. Assumes nothing.
 use Prim.Native.Nat.{ℕ, zero, suc, _-_, _≤_}
-use mathlib.Core.Path.{_≡_, refl, sym, ap, _∙_}
+use mathlib.Core.Path.{_≡_, refl, ap, _∙_}
 use native.Mathlib.Omega.{arith}
 use mathlib.Core.Bool.{true, false}
 use lib.Dec.{T, ltb→lt}

@@ -1,8 +1,6 @@
 -- `dump::dumps::put_answer` meets its contract. Assumes nothing.
 use mathlib.Core.Path.{_∙_}
 use native.Mathlib.Nat.{zero-add}
-use native.Mathlib.Omega.{arith}
-use lib.ListN.{length}
 use Rattle.dump.proofs.DumpLaws.{head-room, numbers-end, numbers-put}
 use borrow.Author.Needs.{needs}
 use Rattle.dump.proofs.dumps.put_answer.Statement.{statement}
