@@ -30,7 +30,8 @@ use Rattle.parse.specs.declared.measure.Measured.the-variants as Measured
 use Rattle.read.specs.declared.reading.Answer.the-variants as Answer
 use Rattle.read.specs.declared.reading.Fit.{Fit}
 use Rattle.read.specs.declared.reading.Fit.the-variants.{Enough, Short}
-use Rattle.read.specs.Read.{answerOf, scriptOr, tablesOr, readingOf, shortage, fitOf}
+use Rattle.read.specs.Read.{answerOf, scriptOr, tablesOr}
+use Rattle.read.specs.ReadWalk.{readingOf, shortage, fitOf}
 
 -- ---- Only the first 32,768 records count
 

@@ -35,7 +35,7 @@ use Rattle.closing.proofs.WriteLaws.{items-length}
 use Rattle.below.specs.Below.{rolesAt, ahead, aheadOf, pairsItems}
 use Rattle.below.specs.declared.lines.Next.{Next}
 use Rattle.read.specs.Entries.{entriesAhead}
-use Rattle.read.specs.Read.{readingOf}
+use Rattle.read.specs.ReadWalk.{readingOf}
 use Rattle.read.proofs.EntriesLaws.{entries-ahead}
 use Rattle.read.proofs.InsideLaws.{values-in}
 

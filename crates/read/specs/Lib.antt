@@ -1,2 +1,3 @@
 pub mod Entries
 pub mod Read
+pub mod ReadWalk

@@ -2,7 +2,8 @@
 mod Tie
 use mathlib.Core.Path.{_≡_}
 use Rattle.read.specs.declared.reading.Fit.the-variants.{Enough}
-use Rattle.read.specs.Read.{lentOf, readingOf}
+use Rattle.read.specs.Read.{lentOf}
+use Rattle.read.specs.ReadWalk.{readingOf}
 use Rattle.read.proofs.ScriptLaws.{written-kept, places-kept}
 use Rattle.read.proofs.ReadLaws.{measure-refuses, short-refuses, enough-reads, text-short, counts-are, entries-there, entries-few, items-there, items-few, expectations-there, expectations-few, store-there, refused-answer, entries-as-was, items-as-was, expectations-as-was, store-as-was, read-answer, entries-read, items-read, expectations-read, store-read}
 use borrow.Author.Needs.{needs}
