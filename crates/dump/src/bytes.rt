@@ -23,7 +23,7 @@ pub fn unsigned(v: i64) -> u64
     v as u64
 }
 
-fn bytes_of(n: u64) -> [u8; 8]
+pub fn bytes_of(n: u64) -> [u8; 8]
     ensures { λ r. ⌜ r ≡ bytesOf n ⌝ }
 {
     let b = n / 256;

@@ -1,0 +1,42 @@
+-- `fields::bytes::decode` meets its contract. Assumes nothing.
+use Rattle.fields.proofs.FieldLaws.{hex-laws}
+use borrow.Author.Needs.{needs}
+use Rattle.fields.proofs.bytes.decode.Statement.{statement}
+use Rattle.fields.proofs.bytes.decode.Tie as tie
+
+hex-decode-requires : tie.Need-hex-decode-requires
+hex-decode-requires c κs = search needs
+
+same-length : tie.Need-same-length
+same-length c = search needs
+
+returns : tie.Need-returns
+returns c = search (needs, hex-laws)
+
+sub-if2 : tie.Need-sub-if2
+sub-if2 c = search (needs, hex-laws)
+
+same-length-2 : tie.Need-same-length-2
+same-length-2 c = search needs
+
+returns-2 : tie.Need-returns-2
+returns-2 c = search (needs, hex-laws)
+
+same-length-3 : tie.Need-same-length-3
+same-length-3 c = search needs
+
+returns-3 : tie.Need-returns-3
+returns-3 c = search (needs, hex-laws)
+
+pub decode-spec : {M : Type 1} → statement M
+decode-spec =
+    tie.close
+    (tie.spec
+    hex-decode-requires
+    same-length
+    returns
+    sub-if2
+    same-length-2
+    returns-2
+    same-length-3
+    returns-3)

@@ -1,0 +1,2 @@
+// Stored answers of the Rust to Read, replayed.
+pub mod lines;
