@@ -8,7 +8,7 @@ use native.Mathlib.Nat.{sub-zero}
 use native.Mathlib.Numerals.{add-one}
 use native.Mathlib.Omega.{arith}
 use lib.Dec.{eqb, leb}
-use lib.ListN.{length, getD, take, drop, set, length-set}
+use lib.ListN.{length, getD, take, drop, set, length-set, length-drop}
 use lib.Seq.{take-at, take-all, take-suc-set}
 use borrow.Author.Tests.{eq-eqb, ne-eqb, le-leb, lt-leb}
 use Rattle.text.specs.Base.{if_then_else_, _&_, part, overlaid}
@@ -142,6 +142,10 @@ field-bound r n end most e h = rw e at h
 
 -- for the callers
 pub ruleset field-laws = (numbers-inside, bytes-inside, field-bound)
+
+-- what is left of a line from a place on
+pub rest-of : (s : List ℕ) (p : ℕ) → take (length s - p) (drop p s) ≡ drop p s
+rest-of s p = take-all (length s - p) (drop p s) (omega (arith, length-drop p s))
 
 pub ruleset numbers-laws = (all-filled, none-next, one-filled, still-long, begun, number-inside)
 

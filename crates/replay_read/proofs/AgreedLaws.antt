@@ -7,7 +7,7 @@ use mathlib.Core.Option.{Option, none, some}
 use native.Mathlib.Omega.{arith}
 use lib.Dec.{eqb, leb}
 use lib.ListN.{length, take, drop, length-drop}
-use lib.Seq.{drop-drop, take-all, take-at}
+use lib.Seq.{drop-drop, take-at}
 use borrow.Author.Tests.{eq-eqb, le-leb, lt-leb, not-true, not-false}
 use Rattle.text.specs.Base.{if_then_else_, _&_, overlaid}
 use Rattle.text.specs.Parts.{startsWith, sameBytes}
@@ -25,6 +25,7 @@ use Rattle.fields.specs.declared.numbers.NumbersAt.the-variants as NumbersAt
 use Rattle.fields.specs.declared.bytes.BytesAt.{BytesAt}
 use Rattle.fields.specs.declared.bytes.BytesAt.the-variants as BytesAt
 use Rattle.fields.specs.Fields.{after, wordBytes, numbersAt, bytesAt, numbersField, bytesField}
+use Rattle.fields.proofs.FieldLaws.{rest-of}
 use Rattle.replay_read.specs.Agreed.{lentBy, inFront, isDump, leaves, storeAgreed, textAgreed, agreed}
 
 -- ---- a number in front
@@ -63,10 +64,6 @@ overlaid-front bytes lent now n c o h l =
 -- a word takes something of the line
 pub word-less : (line : List ℕ) (at : ℕ) (w : Span) → w ≡ wordAt line at → at ≤ length line → (w .start ≡ w .end → ⊥) → length line - w .end < length line - at
 word-less line at w e i d = let k = known line at w i e in omega (arith, k .begins, k .forward, k .inside, d)
-
--- what is left of a slice from a place on
-rest-of : (s : List ℕ) (p : ℕ) → take (length s - p) (drop p s) ≡ drop p s
-rest-of s p = take-all (length s - p) (drop p s) (omega (arith, length-drop p s))
 
 module _ (line store found : List ℕ) (at p : ℕ) (whole : Bool) (here : isDump line (wordsAt line at) store (drop p found) ≡ whole) where
   none-left : wordsAt line at ≡ [] → (b : Bool) → b ≡ sameBytes (take (length found - p) (drop p found)) store → b ≡ whole

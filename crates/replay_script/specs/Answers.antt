@@ -1,17 +1,21 @@
 -- What a stored answer of the Rust is compared with, and what the comparison says. Assumes nothing.
-use Prim.Native.Nat.{ℕ, _≤_}
+use Prim.Native.Nat.{ℕ}
 use mathlib.Core.Bool.{Bool}
 use mathlib.Core.List.{List}
+use mathlib.Core.Option.{Option, none, some}
 use lib.Dec.{eqb}
-use lib.ListN.{length}
+use lib.ListN.{getD, drop}
 use Rattle.text.specs.Base.{if_then_else_, _&_}
-use Rattle.script.specs.Reading.{Parsed, refusedAt, read}
+use Rattle.text.specs.Literal.{spells}
+use Rattle.text.specs.Trim.{trimmed}
+use Rattle.text.specs.Words.{wordAt}
+use Rattle.script.specs.Reading.{Parsed, refusedAt, read, measured}
 use Rattle.script.specs.declared.records.Counts.{Counts}
+use Rattle.fields.specs.Fields.{after, wordBytes, numbersAt, hexFor}
+use Rattle.replay_read.specs.Agreed.{agreed}
 use Rattle.replay_script.specs.declared.Answer.{Answer}
-use Rattle.replay_script.specs.declared.Stored.{Stored}
-use Rattle.replay_script.specs.declared.Stored.the-variants as stored-variants
 use Rattle.replay_script.specs.declared.Case.{Case}
-use Rattle.replay_script.specs.declared.Case.the-variants as case-variants
+use Rattle.replay_script.specs.declared.Case.the-variants.{Read, Refused, Dumped, Wrong}
 
 abbrev pub answer : (number line entries items expectations store : ℕ) → Answer
 answer number line entries items expectations store =
@@ -33,15 +37,38 @@ sameAnswer a b =
     & eqb (a .store) (b .store)
 
 -- Measure answered what is stored
-abbrev pub agreed : Parsed Counts → Answer → Bool
-agreed p stored = sameAnswer (answerOf p) stored
+abbrev pub matched : Parsed Counts → Answer → Bool
+matched p stored = sameAnswer (answerOf p) stored
 
 -- a case that agrees counts as what it is, a text that is read or one that is refused
 unfoldable pub replayed : Parsed Counts → Answer → Case
 replayed p stored =
-    if agreed p stored then (if eqb (stored .number) 0 then case-variants.Read else case-variants.Refused) else case-variants.Wrong
+    if matched p stored then (if eqb (stored .number) 0 then Read else Refused) else Wrong
 
--- the numbers of a line end inside it
-abbrev pub EndsIn : (line : List ℕ) → Stored → Type 0
-EndsIn line (stored-variants.Numbers a at) = at ≤ length line
-EndsIn line stored-variants.Bad = Unit {0}
+unfoldable pub replayedText : Option (List ℕ) → Answer → Case
+replayedText none stored = Wrong
+replayedText (some text) stored = replayed (measured text) stored
+
+-- the six numbers of a line
+abbrev pub answerBy : List ℕ → Answer
+answerBy n = answer (getD n 0 0) (getD n 1 0) (getD n 2 0) (getD n 3 0) (getD n 4 0) (getD n 5 0)
+
+-- a text in hex, of at most so many bytes
+unfoldable pub hexReplayed : (most : ℕ) → (hex : List ℕ) → Answer → Case
+hexReplayed most hex stored = replayedText (hexFor most hex) stored
+
+-- what follows the word `measure`: six numbers, and the rest of the line is the text, of at most 1,024 bytes
+unfoldable pub measureReplayed : (line : List ℕ) → (at : ℕ) → Case
+measureReplayed line at = after (numbersAt 6 line at) Wrong (λ n end. hexReplayed 1024 (trimmed (drop end line)) (answerBy n))
+
+-- what follows the word `read`
+unfoldable pub readReplayed : (line : List ℕ) → (at : ℕ) → Case
+readReplayed line at = if agreed line at then Dumped else Wrong
+
+-- a line by its first word; one with another word is wrong
+unfoldable pub lineReplayed : (line : List ℕ) → Case
+lineReplayed line =
+    let w = wordAt line 0 in
+    if spells "measure" (wordBytes line w) then measureReplayed line (w .end)
+    else if spells "read" (wordBytes line w) then readReplayed line (w .end)
+    else Wrong

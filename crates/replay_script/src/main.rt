@@ -1,16 +1,18 @@
-// Replays stored answers of the Rust. Standard input has a case a line: `measure`, six numbers (the refusal's number or 0, its line, entries, items,
-// expectations, store bytes) and the text in hex. Measure is asked for each text, and what it answers is compared with the numbers. Said is how many
-// texts were read and refused as the Rust did, and how many cases were wrong.
+// Replays stored answers of the Rust. Standard input has a case a line. `measure`, six numbers (the refusal's number or 0, its line, entries, items,
+// expectations, store bytes) and the text in hex: Measure is asked, and what it answers is compared with the numbers. `read` and what crate replay_read
+// says: Read is asked, and what it leaves is compared. Said is how many texts were read and refused by Measure as the Rust did, how many were left by
+// Read as the Rust has them, and how many cases were wrong.
 ghost use mathlib.Core.Path.{_≡_};
 ghost use Prim.Native.Nat.{_≤_};
 ghost use lib.ListN.{length};
 ghost use Rattle.script.specs.Reading.{measured};
 ghost use Rattle.parse.specs.MeasureRead.{measuredOf};
-ghost use Rattle.replay_script.specs.Answers.{answerOf, sameAnswer, agreed, replayed, EndsIn};
-ghost use Rattle.replay_script.specs.Tallies.{counted, total};
+ghost use Rattle.replay_script.specs.Answers.{answerOf, sameAnswer, matched, replayed, hexReplayed, measureReplayed, readReplayed, lineReplayed};
+ghost use Rattle.replay_script.specs.Tallies.{counted, total, allCounted};
+use fields::bytes::Bytes;
+use fields::numbers::NumbersAt;
 use libc::STDOUT_FILENO;
 use parse::measure::Measured;
-use values::number::Number;
 
 // An answer of Measure, in the numbers of a line.
 struct Answer {
@@ -22,23 +24,18 @@ struct Answer {
     store: usize,
 }
 
-// The numbers of a line and where the last of them ends.
-enum Stored {
-    Numbers(Answer, usize),
-    Bad,
-}
-
-// What a line of the input came to. Nothing is a comment or a line with no bytes: a line that cannot be read is Wrong.
+// What a line of the input came to: a text that Measure reads, one that it refuses, one whose dump by Read is right. A line that cannot be read is Wrong.
 enum Case {
     Read,
     Refused,
+    Dumped,
     Wrong,
-    Nothing,
 }
 
 struct Tally {
     read: usize,
     refused: usize,
+    dumped: usize,
     wrong: usize,
 }
 
@@ -88,7 +85,7 @@ fn same_answer(a: Answer, b: Answer) -> bool
 
 // Whether Measure answered what is stored.
 fn agrees(m: Measured, stored: Answer) -> bool
-    ensures { λ r. ⌜ r ≡ agreed (measuredOf m) stored ⌝ }
+    ensures { λ r. ⌜ r ≡ matched (measuredOf m) stored ⌝ }
 {
     same_answer(answer_of(m), stored)
 }
@@ -106,41 +103,26 @@ fn replay(text: &[u8], stored: Answer) -> Case
     Case::Wrong
 }
 
-// A text in hex, which is decoded into the room lent. Decoding passes over what is no pair of digits, so the lengths are compared.
-fn replay_hex(hex: &[u8], room: &mut [u8], stored: Answer) -> Case {
-    let n = values::hex::hex_decode(hex, room);
-    if room.len() < n {
+// A text in hex, which is decoded into the room lent, and its stored answer.
+fn replay_hex(hex: &[u8], room: &mut [u8], stored: Answer) -> Case
+    ensures { λ r. ⌜ r ≡ hexReplayed (length (now (room .entry))) (now (hex .entry)) stored ⌝ }
+{
+    let Bytes::Are(n) = fields::bytes::decode(hex, room) else {
         return Case::Wrong;
-    }
-    if hex.len() / 2 != n {
-        return Case::Wrong;
-    }
-    if hex.len() % 2 != 0 {
-        return Case::Wrong;
-    }
+    };
     replay(&room[..n], stored)
 }
 
-// Six numbers from a place of the line on.
-fn numbers(line: &[u8], from: usize) -> Stored
+// What follows the word `measure`: six numbers, and the rest of the line is the text.
+fn replay_measure(line: &[u8], from: usize) -> Case
     requires { ⌜ from ≤ length (now line) ⌝ }
-    ensures { λ r. ⌜ EndsIn (now (line .entry)) r ⌝ }
+    ensures { λ r. ⌜ r ≡ measureReplayed (now (line .entry)) from ⌝ }
 {
     let mut n = [0u64; 6];
-    let mut at = from;
-    let mut i: usize = 0;
-    while i < 6 {
-        let w = text::words::word_at(line, at);
-        let start = w.start;
-        let end = w.end;
-        let Number::Value(v) = values::number::parse_u64(&line[start..end]) else {
-            return Stored::Bad;
-        };
-        n[i] = v;
-        at = end;
-        i += 1;
-    }
-    let answer = Answer {
+    let NumbersAt::End(end) = fields::numbers::numbers_at(line, from, &mut n) else {
+        return Case::Wrong;
+    };
+    let stored = Answer {
         number: n[0],
         line: n[1] as usize,
         entries: n[2] as usize,
@@ -148,34 +130,32 @@ fn numbers(line: &[u8], from: usize) -> Stored
         expectations: n[4] as usize,
         store: n[5] as usize,
     };
-    Stored::Numbers(answer, at)
+    let mut room = [0u8; 1024];
+    replay_hex(text::trim::trim(&line[end..]), &mut room, stored)
 }
 
-// What follows the word `measure`: the numbers, and the rest of the line is the text.
-fn replay_rest(line: &[u8], from: usize) -> Case
+// What follows the word `read`.
+fn replay_read(line: &[u8], from: usize) -> Case
     requires { ⌜ from ≤ length (now line) ⌝ }
+    ensures { λ r. ⌜ r ≡ readReplayed (now (line .entry)) from ⌝ }
 {
-    match numbers(line, from) {
-        Stored::Numbers(answer, at) => {
-            let mut room = [0u8; 1024];
-            replay_hex(text::trim::trim(&line[at..]), &mut room, answer)
-        }
-        Stored::Bad => Case::Wrong,
+    if replay_read::lines::agrees(line, from) {
+        return Case::Dumped;
     }
+    Case::Wrong
 }
 
-fn replay_line(line: &[u8]) -> Case {
-    if line.len() == 0 {
-        return Case::Nothing;
-    }
-    if text::parts::starts_with(line, b"#") {
-        return Case::Nothing;
-    }
+fn replay_line(line: &[u8]) -> Case
+    ensures { λ r. ⌜ r ≡ lineReplayed (now (line .entry)) ⌝ }
+{
     let w = text::words::word_at(line, 0);
     let start = w.start;
     let end = w.end;
     if text::parts::same(&line[start..end], b"measure") {
-        return replay_rest(line, end);
+        return replay_measure(line, end);
+    }
+    if text::parts::same(&line[start..end], b"read") {
+        return replay_read(line, end);
     }
     Case::Wrong
 }
@@ -183,7 +163,7 @@ fn replay_line(line: &[u8]) -> Case {
 impl Tally {
     // With one case more. The counts are small: a case takes a line of the input.
     fn with(self, c: Case) -> Tally
-        requires { ⌜ total self ≤ 0x40000 ⌝ }
+        requires { ⌜ total self ≤ 0x80000 ⌝ }
         ensures { λ r. ⌜ r ≡ counted self c ⌝ }
     {
         match c {
@@ -195,38 +175,45 @@ impl Tally {
                 refused: self.refused + 1,
                 ..self
             },
+            Case::Dumped => Tally {
+                dumped: self.dumped + 1,
+                ..self
+            },
             Case::Wrong => Tally {
                 wrong: self.wrong + 1,
                 ..self
             },
-            Case::Nothing => self,
         }
     }
 }
 
 fn replay_all(input: &[u8]) -> Tally
-    requires { ⌜ length (now input) ≤ 0x40000 ⌝ }
-    ensures { λ r. ⌜ total r ≤ 0x40000 ⌝ }
+    requires { ⌜ length (now input) ≤ 0x80000 ⌝ }
+    ensures { λ r. ⌜ r ≡ allCounted (now (input .entry)) ⌝ }
+    ensures { λ r. ⌜ total r ≤ 0x80000 ⌝ }
 {
     let mut tally = Tally {
         read: 0,
         refused: 0,
+        dumped: 0,
         wrong: 0,
     };
+    let mut number: usize = 1;
     let mut at: usize = 0;
     while at < input.len() {
-        let l = text::lines::line_at(input, at, 0);
+        let l = text::lines::line_at(input, at, number);
         let start = l.start;
         let end = l.end;
         tally = tally.with(replay_line(&input[start..end]));
         at = l.next;
+        number += 1;
     }
     tally
 }
 
 // An input that does not fit is not replayed to its end: that is one case wrong.
 fn with_unread(tally: Tally) -> Tally
-    requires { ⌜ total tally ≤ 0x40000 ⌝ }
+    requires { ⌜ total tally ≤ 0x80000 ⌝ }
 {
     let mut beyond = [0u8; 1];
     if io::read_full(0, &mut beyond) == 0 {
@@ -241,11 +228,12 @@ fn say(words: &[u8], n: usize) {
 }
 
 fn main() {
-    let mut input = [0u8; 0x40000];
+    let mut input = [0u8; 0x80000];
     let n = io::read_full(0, &mut input);
     let tally = with_unread(replay_all(&input[..n]));
     say(b"read ", tally.read);
     say(b"\nrefused ", tally.refused);
+    say(b"\ndumped ", tally.dumped);
     say(b"\nwrong ", tally.wrong);
     io::write_all(STDOUT_FILENO, b"\n");
 }

@@ -4,12 +4,12 @@ use mathlib.Core.Bool.{Bool}
 use Rattle.script.specs.Reading.{Parsed}
 use Rattle.script.specs.declared.records.Counts.{Counts}
 use Rattle.replay_script.specs.declared.Answer.{Answer}
-use Rattle.replay_script.specs.Answers.{answerOf, sameAnswer, agreed}
+use Rattle.replay_script.specs.Answers.{answerOf, sameAnswer, matched}
 use borrow.Author.Needs.{needs}
 use Rattle.replay_script.proofs.agrees.Statement.{statement}
 use Rattle.replay_script.proofs.agrees.Tie as tie
 
-compared : (p : Parsed Counts) (given stored : Answer) (b : Bool) → given ≡ answerOf p → b ≡ sameAnswer given stored → b ≡ agreed p stored
+compared : (p : Parsed Counts) (given stored : Answer) (b : Bool) → given ≡ answerOf p → b ≡ sameAnswer given stored → b ≡ matched p stored
 compared p given stored b e q = q ∙ ap (λ (a : Answer). sameAnswer a stored) e
 
 answer-of-requires : tie.Need-answer-of-requires

@@ -8,12 +8,12 @@ use Rattle.parse.specs.MeasureRead.{measuredOf}
 use Rattle.parse.specs.declared.measure.Measured.{Measured}
 use Rattle.replay_script.specs.declared.Answer.{Answer}
 use Rattle.replay_script.specs.declared.Case.the-variants.{Read, Refused, Wrong}
-use Rattle.replay_script.specs.Answers.{agreed, replayed}
+use Rattle.replay_script.specs.Answers.{matched, replayed}
 use borrow.Author.Needs.{needs}
 use Rattle.replay_script.proofs.replay.Statement.{statement}
 use Rattle.replay_script.proofs.replay.Tie as tie
 
-module _ (p : Parsed Counts) (m : Measured) (stored : Answer) (b : Bool) (e : measuredOf m ≡ p) (q : b ≡ agreed (measuredOf m) stored) where
+module _ (p : Parsed Counts) (m : Measured) (stored : Answer) (b : Bool) (e : measuredOf m ≡ p) (q : b ≡ matched (measuredOf m) stored) where
   as-read : b ≡ true → stored .number ≡ 0 → Read ≡ replayed p stored
   unfolding replayed
   as-read t z = rw (← e, ← q, t, eq-eqb _ _ z)

@@ -1,20 +1,36 @@
--- `replay_script::replay_line` is safe and ends. Assumes nothing.
+-- `replay_script::replay_line` meets its contract. Assumes nothing.
+use mathlib.Core.Path.{_≡_, sym, _∙_}
+use mathlib.Core.Bool.{Bool, true, false}
+use mathlib.Core.List.{List}
+use Prim.Native.Nat.{ℕ}
+use Rattle.text.specs.Parts.{sameBytes}
+use Rattle.text.specs.Words.{wordAt}
+use Rattle.text.specs.declared.parts.Span.{Span}
+use Rattle.text.proofs.LiteralLaws.{codes, spells-as}
 use Rattle.text.proofs.WordLaws.{word-places}
+use Rattle.fields.specs.Fields.{wordBytes}
+use Rattle.replay_script.specs.declared.Case.{Case}
+use Rattle.replay_script.specs.declared.Case.the-variants.{Wrong}
+use Rattle.replay_script.specs.Answers.{measureReplayed, readReplayed, lineReplayed}
 use borrow.Author.Needs.{needs}
 use Rattle.replay_script.proofs.replay_line.Statement.{statement}
 use Rattle.replay_script.proofs.replay_line.Tie as tie
 
-returns : tie.Need-returns
-returns c = search needs
+module _ (line : List ℕ) (w : Span) (e : w ≡ wordAt line 0) (b : Bool) (p : b ≡ sameBytes (wordBytes line w) (codes "measure")) where
+  is-measure : (c : Case) → b ≡ true → c ≡ measureReplayed line (w .end) → c ≡ lineReplayed line
+  unfolding lineReplayed
+  is-measure c t f = rw (← e, spells-as "measure" (wordBytes line w) ∙ sym p ∙ t) f
 
-slice-aggregate-starts-with : tie.Need-slice-aggregate-starts-with
-slice-aggregate-starts-with c = search needs
+  module _ (f : b ≡ false) (d : Bool) (q : d ≡ sameBytes (wordBytes line w) (codes "read")) where
+    is-read : (c : Case) → d ≡ true → c ≡ readReplayed line (w .end) → c ≡ lineReplayed line
+    unfolding lineReplayed
+    is-read c t g = rw (← e, spells-as "measure" (wordBytes line w) ∙ sym p ∙ f, spells-as "read" (wordBytes line w) ∙ sym q ∙ t) g
 
-starts-with-requires : tie.Need-starts-with-requires
-starts-with-requires c κs = search needs
+    is-other : d ≡ false → Wrong ≡ lineReplayed line
+    unfolding lineReplayed
+    is-other g = rw (← e, spells-as "measure" (wordBytes line w) ∙ sym p ∙ f, spells-as "read" (wordBytes line w) ∙ sym q ∙ g)
 
-returns-2 : tie.Need-returns-2
-returns-2 c = search needs
+ruleset kinds = (is-measure, is-read, is-other)
 
 word-at-requires : tie.Need-word-at-requires
 word-at-requires c κs = search needs
@@ -34,29 +50,53 @@ slice-aggregate-same c = search needs
 same-requires : tie.Need-same-requires
 same-requires c κs = search needs
 
-replay-rest-requires : tie.Need-replay-rest-requires
-replay-rest-requires c κs = search (needs, word-places)
+replay-measure-requires : tie.Need-replay-measure-requires
+replay-measure-requires c κs = search (needs, word-places)
+
+returns : tie.Need-returns
+returns c = search (needs, kinds)
+
+sub-same-2 : tie.Need-sub-same-2
+sub-same-2 c = search (needs, word-places)
+
+part-same-start-2 : tie.Need-part-same-start-2
+part-same-start-2 c = search (needs, word-places)
+
+part-same-end-2 : tie.Need-part-same-end-2
+part-same-end-2 c = search (needs, word-places)
+
+slice-aggregate-same-2 : tie.Need-slice-aggregate-same-2
+slice-aggregate-same-2 c = search needs
+
+same-requires-2 : tie.Need-same-requires-2
+same-requires-2 c κs = search needs
+
+replay-read-requires : tie.Need-replay-read-requires
+replay-read-requires c κs = search (needs, word-places)
+
+returns-2 : tie.Need-returns-2
+returns-2 c = search (needs, kinds)
 
 returns-3 : tie.Need-returns-3
-returns-3 c = search needs
-
-returns-4 : tie.Need-returns-4
-returns-4 c = search needs
+returns-3 c = search (needs, kinds)
 
 pub replay-line-spec : {M : Type 1} → statement M
 replay-line-spec =
     tie.close
     (tie.spec
-    returns
-    slice-aggregate-starts-with
-    starts-with-requires
-    returns-2
     word-at-requires
     sub-same
     part-same-start
     part-same-end
     slice-aggregate-same
     same-requires
-    replay-rest-requires
-    returns-3
-    returns-4)
+    replay-measure-requires
+    returns
+    sub-same-2
+    part-same-start-2
+    part-same-end-2
+    slice-aggregate-same-2
+    same-requires-2
+    replay-read-requires
+    returns-2
+    returns-3)

@@ -3,30 +3,30 @@ use Prim.Native.Nat.{_+_}
 use mathlib.Core.Path.{_≡_}
 use Rattle.replay_script.specs.declared.Tally.{Tally}
 use Rattle.replay_script.specs.declared.Case.{Case}
-use Rattle.replay_script.specs.declared.Case.the-variants.{Read, Refused, Wrong, Nothing}
+use Rattle.replay_script.specs.declared.Case.the-variants.{Read, Refused, Dumped, Wrong}
 use Rattle.replay_script.specs.Tallies.{tally, counted}
 use borrow.Author.Needs.{needs}
 use Rattle.replay_script.proofs.Tally.with.Statement.{statement}
 use Rattle.replay_script.proofs.Tally.with.Tie as tie
 
 module _ (t : Tally) (c : Case) where
-  one-read : c ≡ Read → tally (t .read + 1) (t .refused) (t .wrong) ≡ counted t c
+  one-read : c ≡ Read → tally (t .read + 1) (t .refused) (t .dumped) (t .wrong) ≡ counted t c
   unfolding counted
   one-read e = rw e
 
-  one-refused : c ≡ Refused → tally (t .read) (t .refused + 1) (t .wrong) ≡ counted t c
+  one-refused : c ≡ Refused → tally (t .read) (t .refused + 1) (t .dumped) (t .wrong) ≡ counted t c
   unfolding counted
   one-refused e = rw e
 
-  one-wrong : c ≡ Wrong → tally (t .read) (t .refused) (t .wrong + 1) ≡ counted t c
+  one-dumped : c ≡ Dumped → tally (t .read) (t .refused) (t .dumped + 1) (t .wrong) ≡ counted t c
+  unfolding counted
+  one-dumped e = rw e
+
+  one-wrong : c ≡ Wrong → tally (t .read) (t .refused) (t .dumped) (t .wrong + 1) ≡ counted t c
   unfolding counted
   one-wrong e = rw e
 
-  none : c ≡ Nothing → t ≡ counted t c
-  unfolding counted
-  none e = rw e
-
-ruleset counting = (one-read, one-refused, one-wrong, none)
+ruleset counting = (one-read, one-refused, one-dumped, one-wrong)
 
 enum-told : tie.Need-enum-told
 enum-told c = search needs
@@ -37,17 +37,20 @@ add-t4 c = search needs
 enum-told-2 : tie.Need-enum-told-2
 enum-told-2 c = search needs
 
-add-t7 : tie.Need-add-t7
-add-t7 c = search needs
+add-t8 : tie.Need-add-t8
+add-t8 c = search needs
 
 enum-told-3 : tie.Need-enum-told-3
 enum-told-3 c = search needs
 
-add-t10 : tie.Need-add-t10
-add-t10 c = search needs
+add-t12 : tie.Need-add-t12
+add-t12 c = search needs
 
 enum-told-4 : tie.Need-enum-told-4
 enum-told-4 c = search needs
+
+add-t16 : tie.Need-add-t16
+add-t16 c = search needs
 
 returns : tie.Need-returns
 returns c = search (needs, counting)
@@ -68,10 +71,11 @@ with-spec =
     enum-told
     add-t4
     enum-told-2
-    add-t7
+    add-t8
     enum-told-3
-    add-t10
+    add-t12
     enum-told-4
+    add-t16
     returns
     returns-2
     returns-3
