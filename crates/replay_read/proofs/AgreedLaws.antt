@@ -94,8 +94,6 @@ module _ (line store found : List ℕ) (at p : ℕ) (whole : Bool) (here : isDum
           let e = rw (rest-of found p) at (sym g ∙ not-false t r) in
           omega (arith, eight (number (2 ^ 64) (wordBytes line w)) (drop p found) e, length-drop p found)
 
-pub ruleset dump-laws = (word-less, line-over, no-word, other, goes-on, has-room)
-
 -- ---- the dump
 
 module _ (line : List ℕ) (at : ℕ) (lent : Counts) (text store : List ℕ) (n : ℕ) (c : n ≡ length (readDump text (lent .entries) (lent .items) (lent .expectations) (lent .store))) where
