@@ -12,7 +12,7 @@ use borrow.Author.Tests.{lt-ltb, le-ltb, ltb-true, ltb-false, le-leb}
 use Rattle.text.specs.Base.{within}
 use Rattle.text.proofs.Scan.{both}
 use Rattle.values.specs.Numbers.{allDigits, decimalFrom, digits}
-use Rattle.listing.specs.Decimal.{decimalBy, decimal}
+use Rattle.values.specs.Decimal.{decimalBy, decimal}
 
 -- n is ten times its tenth and its last digit
 tenth : (n : ℕ) → (n / 10 * 10 + n % 10 ≡ n) × (n % 10 < 10)

@@ -17,7 +17,7 @@ use Rattle.script.specs.declared.records.Refusal.{Refusal}
 use Rattle.script.specs.declared.records.Script.{Script}
 use Rattle.tables.specs.Written.{writtenAt}
 use Rattle.tables.proofs.WrittenLaws.{written-none, written-one, written-more, written-twice, written-length}
-use Rattle.listing.specs.Decimal.{decimal}
+use Rattle.values.specs.Decimal.{decimal}
 use Rattle.listing.specs.Listing.{opOf, after, versionWords, headerLine, entryLine, refusalLine}
 use Rattle.listing.proofs.DecimalLaws.{decimal-small, decimal-more, decimal-length}
 

@@ -17,7 +17,7 @@ use Rattle.script.specs.declared.records.Entry.{Entry}
 use Rattle.script.specs.declared.records.Counts.{Counts}
 use Rattle.script.specs.declared.records.Script.{Script}
 use Rattle.script.specs.declared.records.Refusal.{Refusal}
-use Rattle.listing.specs.Decimal.{decimal}
+use Rattle.values.specs.Decimal.{decimal}
 
 -- Tables: 256 entries, 1,024 expectations, 1,024 items, store 32,768.
 abbrev pub lent : Counts

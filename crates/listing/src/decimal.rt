@@ -3,7 +3,7 @@ ghost use mathlib.Core.Path.{_≡_};
 ghost use Prim.Native.Nat.{_+_, _≤_};
 ghost use lib.ListN.{length};
 ghost use Rattle.tables.specs.Written.{writtenAt};
-ghost use Rattle.listing.specs.Decimal.{decimal};
+ghost use Rattle.values.specs.Decimal.{decimal};
 ghost use Rattle.listing.specs.Room.{numberRoom};
 
 // Writes a number from `at` on, and says where the next byte goes.

@@ -4,7 +4,7 @@ ghost use mathlib.Core.List.{_++_};
 ghost use Prim.Native.Nat.{_+_, _≤_, _<_};
 ghost use lib.ListN.{length};
 ghost use Rattle.tables.specs.Written.{writtenAt};
-ghost use Rattle.listing.specs.Decimal.{decimal};
+ghost use Rattle.values.specs.Decimal.{decimal};
 ghost use Rattle.listing.specs.Listing.{opOf, versionWords, headerLine, entryLine, refusalLine};
 ghost use Rattle.listing.specs.Room.{numberRoom, versionRoom, headerRoom, lineRoom, refusalRoom};
 use crate::decimal::put_decimal;

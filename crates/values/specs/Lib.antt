@@ -1,3 +1,4 @@
+pub mod Decimal
 pub mod Hex
 pub mod HexWalk
 pub mod Numbers
