@@ -1,0 +1,2 @@
+// Places in lent bytes: what stands there, and whether they lie inside.
+pub mod texts;
