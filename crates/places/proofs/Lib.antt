@@ -1,1 +1,2 @@
+pub mod InsideLaws
 pub mod PartLaws

@@ -1,2 +1,3 @@
 // Places in lent bytes: what stands there, and whether they lie inside.
+pub mod inside;
 pub mod texts;

@@ -1,0 +1,25 @@
+-- `places::inside::maybe_list_in` meets its contract: each arm is its case of the definition. Assumes nothing.
+use borrow.Author.Needs.{needs}
+use Rattle.verdicts.specs.Held.{maybeListIn}
+use Rattle.places.proofs.inside.maybe_list_in.Statement.{statement}
+use Rattle.places.proofs.inside.maybe_list_in.Tie as tie
+
+enum-told : tie.Need-enum-told
+enum-told c = search needs
+
+enum-known-m : tie.Need-enum-known-m
+enum-known-m c = search needs
+
+list-in-requires : tie.Need-list-in-requires
+list-in-requires c κs = search needs
+
+returns : tie.Need-returns
+unfolding maybeListIn
+returns c = cc
+
+returns-2 : tie.Need-returns-2
+unfolding maybeListIn
+returns-2 c = cc
+
+pub maybe-list-in-spec : {M : Type 1} → statement M
+maybe-list-in-spec = tie.close (tie.spec enum-told enum-known-m list-in-requires returns returns-2)
