@@ -44,6 +44,9 @@ pub examples :
     -- P7: `>= 9223372036854775807` on 9223372036854775808 fails
     × (decides (greaterOrEqual (pos 9223372036854775807)) (utf8 "9223372036854775808") ≡ Failed)
     × (decides (greaterOrEqual (pos 9223372036854775807)) (utf8 "9223372036854775807") ≡ Passed)
+    × (decides (greaterOrEqual (pos 5)) (utf8 "6") ≡ Passed)
+    × (decides (greaterOrEqual (pos 5)) (utf8 "-6") ≡ Failed)
+    × (decides (lessThan (pos 5)) (utf8 " 4") ≡ Failed)
     -- P8: `{}` against no features fails, the value being `{  }`
     × (verdict (told none) (serverFeatures (exact (utf8 "{}"))) ≡ Failed)
     × (verdict (told none) (serverFeatures (exact (utf8 "{  }"))) ≡ Passed)
@@ -69,4 +72,4 @@ pub examples :
     × (message (told none) (serverFeatures (exact (utf8 "{}"))) ≡ utf8 "server_features: expected {}, got {  }")
     × (message (told none) (terminal (utf8 "Last")) ≡ utf8 "non-handshake expect in preamble: ")
 unfolding text-Base.within text-Unicode.encoded text-Literal.utf8 text-Literal.spells text-Parts.startsWith text-Parts.sameBytes values-Numbers.allDigits values-Numbers.decimalFrom values-Numbers.digits values-Numbers.number values-Numbers.minus values-Numbers.signed values-Decimal.decimalBy values-Decimal.decimal Lookup.joined Lookup.bracketed Lookup.braced Lookup.flag Lookup.fields Lookup.valueIn Lookup.wholeValue Lookup.daemonText Lookup.trustOf Lookup.trustText Lookup.featuresText Lookup.lookedIn Lookup.toldIn Lookup.looked Decisions.passedIf Decisions.oneOf Decisions.plain Decisions.contains Decisions.patternDecides Decisions.ordered Decisions.decides Verdicts.valued Verdicts.namedBy Verdicts.verdict Messages.integer Messages.shown Messages.saysOf Messages.valueSays Messages.heading Messages.errorHeading Messages.resultSays Messages.terminalSays Messages.misplacedInEntry Messages.misplacedInPreamble Messages.entryMessage Messages.handshakeMessage Messages.message
-examples = (refl, refl, refl, refl, refl, refl, refl, refl, refl, refl, refl, refl, refl, refl, refl, refl, refl, refl, refl, refl, refl, refl, refl, refl, refl)
+examples = (refl, refl, refl, refl, refl, refl, refl, refl, refl, refl, refl, refl, refl, refl, refl, refl, refl, refl, refl, refl, refl, refl, refl, refl, refl, refl, refl, refl)

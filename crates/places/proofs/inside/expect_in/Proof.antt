@@ -55,11 +55,11 @@ matcher-in-requires-6 c κs = search needs
 
 returns : tie.Need-returns
 unfolding expectIn
-returns c = cc
+returns c = c .place-in .ensures ∙ ap (expectIn (c .before .before .before .before .args .n)) (sym (c .before .before .e .given .1))
 
 returns-2 : tie.Need-returns-2
 unfolding expectIn
-returns-2 c = cc
+returns-2 c = c .matcher-in .ensures ∙ ap (expectIn (c .before .before .before .before .args .n)) (sym (c .before .before .e2 .given .1))
 
 returns-3 : tie.Need-returns-3
 unfolding expectIn
@@ -67,23 +67,23 @@ returns-3 c = c .field-in .ensures ∙ ap (expectIn (c .before .before .before .
 
 returns-4 : tie.Need-returns-4
 unfolding expectIn
-returns-4 c = cc
+returns-4 c = c .matcher-in2 .ensures ∙ ap (expectIn (c .before .before .before .before .args .n)) (sym (c .before .before .e4 .given .1))
 
 returns-5 : tie.Need-returns-5
 unfolding expectIn
-returns-5 c = cc
+returns-5 c = c .matcher-in3 .ensures ∙ ap (expectIn (c .before .before .before .before .args .n)) (sym (c .before .before .e5 .given .1))
 
 returns-6 : tie.Need-returns-6
 unfolding expectIn
-returns-6 c = cc
+returns-6 c = c .matcher-in4 .ensures ∙ ap (expectIn (c .before .before .before .before .args .n)) (sym (c .before .before .e6 .given .1))
 
 returns-7 : tie.Need-returns-7
 unfolding expectIn
-returns-7 c = cc
+returns-7 c = c .matcher-in5 .ensures ∙ ap (expectIn (c .before .before .before .before .args .n)) (sym (c .before .before .e7 .given .1))
 
 returns-8 : tie.Need-returns-8
 unfolding expectIn
-returns-8 c = cc
+returns-8 c = c .matcher-in6 .ensures ∙ ap (expectIn (c .before .before .before .before .args .n)) (sym (c .before .before .e8 .given .1))
 
 pub expect-in-spec : {M : Type 1} → statement M
 expect-in-spec =

@@ -1,5 +1,6 @@
 -- `places::inside::matcher_in` meets its contract: each arm is its case of the definition. Assumes nothing.
 use borrow.Author.Needs.{needs}
+use mathlib.Core.Path.{sym, ap, _∙_}
 use Rattle.verdicts.specs.Held.{matcherIn}
 use Rattle.places.proofs.inside.matcher_in.Statement.{statement}
 use Rattle.places.proofs.inside.matcher_in.Tie as tie
@@ -30,27 +31,27 @@ enum-told-4 c = search needs
 
 returns : tie.Need-returns
 unfolding matcherIn
-returns c = cc
+returns c = c .place-in .ensures ∙ ap (matcherIn (c .before .before .before .before .args .n)) (sym (c .before .before .m .given .1))
 
 returns-2 : tie.Need-returns-2
 unfolding matcherIn
-returns-2 c = cc
+returns-2 c = c .place-in2 .ensures ∙ ap (matcherIn (c .before .before .before .before .args .n)) (sym (c .before .before .m2 .given .1))
 
 returns-3 : tie.Need-returns-3
 unfolding matcherIn
-returns-3 c = cc
+returns-3 c = ap (matcherIn (c .before .before .args .n)) (sym (c .enum-told .given .1))
 
 returns-4 : tie.Need-returns-4
 unfolding matcherIn
-returns-4 c = cc
+returns-4 c = ap (matcherIn (c .before .before .args .n)) (sym (c .enum-told2 .given .1))
 
 returns-5 : tie.Need-returns-5
 unfolding matcherIn
-returns-5 c = cc
+returns-5 c = ap (matcherIn (c .before .before .args .n)) (sym (c .enum-told3 .given .1))
 
 returns-6 : tie.Need-returns-6
 unfolding matcherIn
-returns-6 c = cc
+returns-6 c = ap (matcherIn (c .before .before .args .n)) (sym (c .enum-told4 .given .1))
 
 pub matcher-in-spec : {M : Type 1} → statement M
 matcher-in-spec =

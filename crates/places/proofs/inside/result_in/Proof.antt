@@ -52,15 +52,15 @@ enum-told-9 c = search needs
 
 returns : tie.Need-returns
 unfolding resultIn
-returns c = cc
+returns c = ap (resultIn (c .before .before .args .n) (c .before .before .args .lists .now)) (sym (c .enum-told .given .1))
 
 returns-2 : tie.Need-returns-2
 unfolding resultIn
-returns-2 c = cc
+returns-2 c = ap (resultIn (c .before .before .args .n) (c .before .before .args .lists .now)) (sym (c .enum-told2 .given .1))
 
 returns-3 : tie.Need-returns-3
 unfolding resultIn
-returns-3 c = cc
+returns-3 c = c .place-in .ensures ∙ ap (resultIn (c .before .before .before .before .args .n) (c .before .before .before .before .args .lists .now)) (sym (c .before .before .r .given .1))
 
 returns-4 : tie.Need-returns-4
 unfolding resultIn
@@ -68,35 +68,35 @@ returns-4 c = c .path-info-in .ensures ∙ ap (resultIn (c .before .before .befo
 
 returns-5 : tie.Need-returns-5
 unfolding resultIn
-returns-5 c = cc
+returns-5 c = c .list-in .ensures ∙ ap (resultIn (c .before .before .before .before .args .n) (c .before .before .before .before .args .lists .now)) (sym (c .before .before .r3 .given .1))
 
 returns-6 : tie.Need-returns-6
 unfolding resultIn
-returns-6 c = cc
+returns-6 c = ap (resultIn (c .before .before .args .n) (c .before .before .args .lists .now)) (sym (c .enum-told3 .given .1))
 
 returns-7 : tie.Need-returns-7
 unfolding resultIn
-returns-7 c = cc
+returns-7 c = ap (resultIn (c .before .before .args .n) (c .before .before .args .lists .now)) (sym (c .enum-told4 .given .1))
 
 returns-8 : tie.Need-returns-8
 unfolding resultIn
-returns-8 c = cc
+returns-8 c = ap (resultIn (c .before .before .args .n) (c .before .before .args .lists .now)) (sym (c .enum-told5 .given .1))
 
 returns-9 : tie.Need-returns-9
 unfolding resultIn
-returns-9 c = cc
+returns-9 c = ap (resultIn (c .before .before .args .n) (c .before .before .args .lists .now)) (sym (c .enum-told6 .given .1))
 
 returns-10 : tie.Need-returns-10
 unfolding resultIn
-returns-10 c = cc
+returns-10 c = ap (resultIn (c .before .before .args .n) (c .before .before .args .lists .now)) (sym (c .enum-told7 .given .1))
 
 returns-11 : tie.Need-returns-11
 unfolding resultIn
-returns-11 c = cc
+returns-11 c = ap (resultIn (c .before .before .args .n) (c .before .before .args .lists .now)) (sym (c .enum-told8 .given .1))
 
 returns-12 : tie.Need-returns-12
 unfolding resultIn
-returns-12 c = cc
+returns-12 c = ap (resultIn (c .before .before .args .n) (c .before .before .args .lists .now)) (sym (c .enum-told9 .given .1))
 
 pub result-in-spec : {M : Type 1} → statement M
 result-in-spec =
