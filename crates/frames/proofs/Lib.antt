@@ -1,2 +1,3 @@
+pub mod FrameLaws
 pub mod SameLaws
 pub mod WordLaws

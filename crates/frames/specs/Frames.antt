@@ -3,6 +3,7 @@
 use Prim.Native.Nat.{ℕ}
 use mathlib.Core.Bool.{Bool, true, false}
 use mathlib.Core.List.{List, [], _++_}
+use mathlib.Core.Option.{Option, none, some}
 use Rattle.text.specs.Base.{if_then_else_}
 use Rattle.script.specs.declared.records.Place.{Place}
 use Rattle.script.specs.declared.records.Matcher.{Matcher}
@@ -21,6 +22,16 @@ use Rattle.frames.specs.declared.frames.Piece.the-variants as pieces
 use Rattle.frames.specs.declared.frames.Frame.{Frame}
 use Rattle.frames.specs.declared.frames.Shown.{Shown}
 use Rattle.frames.specs.declared.frames.Heading.{Heading}
+
+-- ---- a value that may be missing
+
+unfoldable pub isMissing : Option (List ℕ) → Bool
+isMissing none = true
+isMissing (some value) = false
+
+unfoldable pub presentBytes : Option (List ℕ) → List ℕ
+presentBytes none = []
+presentBytes (some value) = value
 
 -- ---- what a frame comes to
 
