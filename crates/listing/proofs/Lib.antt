@@ -1,5 +1,4 @@
 pub mod AnswerLaws
-pub mod DecimalLaws
 pub mod ListingExamples
 pub mod Made
 pub mod PutLaws

@@ -16,7 +16,7 @@ use Rattle.script.specs.declared.records.Script.{Script}
 use Rattle.tables.specs.Written.{writtenAt}
 use Rattle.listing.specs.Listing.{lent, headerLine, entryLines, refusalLine, listing, listingOf}
 use Rattle.listing.specs.Room.{Front}
-use Rattle.listing.proofs.PutLaws.{Put}
+use Rattle.writing.proofs.PutLaws.{Put}
 use Rattle.listing.proofs.ReadingLaws.{Fitting, fits}
 
 -- at the front, a table written is one overlaid; it has room, since it keeps its length

@@ -12,7 +12,7 @@ use Rattle.slots.specs.Blank.{blankEntry}
 use Rattle.tables.specs.Written.{writtenAt}
 use Rattle.tables.proofs.WrittenLaws.{written-none}
 use Rattle.listing.specs.Listing.{headerLine, entryLine, entryLines}
-use Rattle.listing.proofs.PutLaws.{Put, put-length, put-then}
+use Rattle.writing.proofs.PutLaws.{Put, put-length, put-then}
 
 lines-append : (xs ys : List Entry) → entryLines (xs ++ ys) ≡ entryLines xs ++ entryLines ys
 unfolding entryLines

@@ -4,9 +4,6 @@ use mathlib.Core.Path.{_≡_}
 use mathlib.Core.List.{List}
 use lib.ListN.{length, take}
 
-abbrev pub numberRoom : ℕ
-numberRoom = 20
-
 -- `refused `, ` line ` and LF, with two numbers
 abbrev pub refusalRoom : ℕ
 refusalRoom = 55

@@ -1,5 +1,4 @@
 // What the program `script-list` prints.
 mod blank;
-pub mod decimal;
 pub mod lines;
 pub mod whole;

@@ -1,44 +1,18 @@
 // The lines of a listing. Each function writes from `at` on and says where the next byte goes.
 ghost use mathlib.Core.Path.{_≡_};
-ghost use mathlib.Core.List.{_++_};
 ghost use Prim.Native.Nat.{_+_, _≤_, _<_};
 ghost use lib.ListN.{length};
 ghost use Rattle.tables.specs.Written.{writtenAt};
-ghost use Rattle.values.specs.Decimal.{decimal};
 ghost use Rattle.listing.specs.Listing.{opOf, versionWords, headerLine, entryLine, refusalLine};
-ghost use Rattle.listing.specs.Room.{numberRoom, versionRoom, headerRoom, lineRoom, refusalRoom};
-use crate::decimal::put_decimal;
+ghost use Rattle.listing.specs.Room.{versionRoom, headerRoom, lineRoom, refusalRoom};
 use script::records::Entry;
 use script::records::OpCall;
 use script::records::Refusal;
 use script::records::Script;
 use wire::handshake::ProtocolVersion;
 use wire::ops::Op;
-
-// Writes a word.
-fn put_word(word: &[u8], out: &mut [u8], at: usize) -> usize
-    requires { ⌜ at + length (now word) ≤ length (now out) ⌝ }
-    ensures { λ r. ⌜ r ≡ at + length (now (word .entry)) ⌝ }
-    ensures { λ _. ⌜ now (out .exit) ≡ writtenAt at (now (word .entry)) (now (out .entry)) ⌝ }
-{
-    let mut i: usize = 0;
-    while i < word.len() {
-        out[at + i] = word[i];
-        i += 1;
-    }
-    at + i
-}
-
-// Writes a word and a number behind it.
-fn put_after(word: &[u8], n: u64, out: &mut [u8], at: usize) -> usize
-    requires { ⌜ at + (length (now word) + numberRoom) ≤ length (now out) ⌝ }
-    ensures { λ r. ⌜ r ≡ at + length (now (word .entry) ++ decimal n) ⌝ }
-    ensures { λ _. ⌜ now (out .exit) ≡ writtenAt at (now (word .entry) ++ decimal n) (now (out .entry)) ⌝ }
-    ensures { λ r. ⌜ r ≤ at + (length (now (word .entry)) + numberRoom) ⌝ }
-{
-    let behind = put_word(word, out, at);
-    put_decimal(n, out, behind)
-}
+use writing::decimal::put_decimal;
+use writing::words::put_after;
 
 // Writes `version` and the two numbers of a version.
 fn put_version(v: ProtocolVersion, out: &mut [u8], at: usize) -> usize

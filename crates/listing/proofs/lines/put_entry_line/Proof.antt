@@ -3,13 +3,15 @@ use mathlib.Core.Path.{ap, _∙_}
 use native.Mathlib.Omega.{arith}
 use Rattle.wire.specs.Operations.{operation}
 use Rattle.wire.specs.declared.ops.Op.{Op}
-use Rattle.listing.proofs.PutLaws.{put-length, entry-put}
+use Rattle.writing.proofs.DecimalLaws.{decimal-length}
+use Rattle.writing.proofs.PutLaws.{put-length}
+use Rattle.listing.proofs.PutLaws.{entry-put}
 use borrow.Author.Needs.{needs}
 use Rattle.listing.proofs.lines.put_entry_line.Statement.{statement}
 use Rattle.listing.proofs.lines.put_entry_line.Tie as tie
 
 put-decimal-requires : tie.Need-put-decimal-requires
-put-decimal-requires c κs = search needs
+put-decimal-requires c κs = omega (arith, decimal-length (c .before .before .args .e .line) (omega arith))
 
 slice-aggregate-put-after : tie.Need-slice-aggregate-put-after
 slice-aggregate-put-after c = search needs

@@ -2,7 +2,8 @@
 use Prim.Native.Nat.{_<_}
 use lib.ListN.{length}
 use native.Mathlib.Omega.{arith}
-use Rattle.listing.proofs.PutLaws.{put-length, header-put}
+use Rattle.writing.proofs.PutLaws.{put-length}
+use Rattle.listing.proofs.PutLaws.{header-put}
 use borrow.Author.Needs.{needs}
 use Rattle.listing.proofs.lines.put_header.Statement.{statement}
 use Rattle.listing.proofs.lines.put_header.Tie as tie

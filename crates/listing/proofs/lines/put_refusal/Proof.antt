@@ -1,6 +1,7 @@
 -- `listing::lines::put_refusal` meets its contract. Assumes nothing.
 use native.Mathlib.Omega.{arith}
-use Rattle.listing.proofs.PutLaws.{put-length, refusal-put}
+use Rattle.writing.proofs.PutLaws.{put-length}
+use Rattle.listing.proofs.PutLaws.{refusal-put}
 use borrow.Author.Needs.{needs}
 use Rattle.listing.proofs.lines.put_refusal.Statement.{statement}
 use Rattle.listing.proofs.lines.put_refusal.Tie as tie

@@ -1,15 +1,16 @@
--- `listing::lines::put_after` meets its contract. Assumes nothing.
+-- `writing::words::put_after` meets its contract. Assumes nothing.
 use native.Mathlib.Omega.{arith}
-use Rattle.listing.proofs.PutLaws.{after-put}
+use Rattle.writing.proofs.DecimalLaws.{decimal-length}
+use Rattle.writing.proofs.PutLaws.{after-put}
 use borrow.Author.Needs.{needs}
-use Rattle.listing.proofs.lines.put_after.Statement.{statement}
-use Rattle.listing.proofs.lines.put_after.Tie as tie
+use Rattle.writing.proofs.words.put_after.Statement.{statement}
+use Rattle.writing.proofs.words.put_after.Tie as tie
 
 put-word-requires : tie.Need-put-word-requires
 put-word-requires c κs = search needs
 
 put-decimal-requires : tie.Need-put-decimal-requires
-put-decimal-requires c κs = search needs
+put-decimal-requires c κs = omega (arith, decimal-length (c .before .before .before .before .before .before .before .args .n) (omega arith))
 
 same-length : tie.Need-same-length
 same-length c = search needs

@@ -1,15 +1,16 @@
--- `listing::decimal::put_decimal` meets its contract. It calls itself at the tenth of the number, so the measure is the number. Assumes nothing.
+-- `writing::decimal::put_decimal` meets its contract. It calls itself at the tenth of the number, so the measure is the number. Assumes nothing.
 use Prim.Native.Nat.{ℕ, _<_}
 use native.Mathlib.Omega.{arith}
 use borrow.Author.Needs.{needs}
 use borrow.Fn.Kinds.{In}
 use borrow.Fn.PlainCycle.{Measures, is, falls, and}
-use Rattle.listing.proofs.PutLaws.{put-small, put-more, last-in}
-use Rattle.listing.proofs.decimal.put_decimal.Reads as put-decimal
-use Rattle.listing.proofs.decimal.put_decimal.Kinds as put-decimal-kinds
-use Rattle.listing.proofs.decimal.+put_decimal.Lts-put_decimal as put-decimal-lts
-use Rattle.listing.proofs.decimal.+put_decimal.{statement}
-use Rattle.listing.proofs.decimal.+put_decimal.Tie.{close}
+use Rattle.writing.proofs.DecimalLaws.{tenth-less}
+use Rattle.writing.proofs.PutLaws.{place-small, put-small, tenth-room, put-more, last-in}
+use Rattle.writing.proofs.decimal.put_decimal.Reads as put-decimal
+use Rattle.writing.proofs.decimal.put_decimal.Kinds as put-decimal-kinds
+use Rattle.writing.proofs.decimal.+put_decimal.Lts-put_decimal as put-decimal-lts
+use Rattle.writing.proofs.decimal.+put_decimal.{statement}
+use Rattle.writing.proofs.decimal.+put_decimal.Tie.{close}
 
 abbrev μ-put-decimal : Measures 1 put-decimal-kinds.ps ℕ
 μ-put-decimal κs a = a .0
@@ -38,7 +39,7 @@ put-decimal-slice-write-out : (t : ℕ) → put-decimal-lts.Need-slice-write-out
   put-decimal-below t,
   put-decimal.Post,
 ) (put-decimal-at t) put-decimal.Post
-put-decimal-slice-write-out t c = search needs
+put-decimal-slice-write-out t c = let a = c .before .before .args in place-small (a .n) (a .at) (a .out .now) (omega arith) (omega arith)
 
 put-decimal-add-result : (t : ℕ) → put-decimal-lts.Need-add-result (
   put-decimal-below t,
@@ -62,7 +63,9 @@ put-decimal-put-decimal-requires : (t : ℕ) → put-decimal-lts.Need-put-decima
   put-decimal-below t,
   put-decimal.Post,
 ) (put-decimal-at t) put-decimal.Post
-put-decimal-put-decimal-requires t c κs = search needs
+put-decimal-put-decimal-requires t c κs =
+    let a = c .before .before .before .args in
+    (omega (arith, tenth-less (a .n) (omega arith)), tenth-room (a .n) (a .at) (a .out .now) (omega arith) (omega arith))
 
 put-decimal-cast-out-2 : (t : ℕ) → put-decimal-lts.Need-cast-out-2 (
   put-decimal-below t,
@@ -80,7 +83,10 @@ put-decimal-slice-write-out-2 : (t : ℕ) → put-decimal-lts.Need-slice-write-o
   put-decimal-below t,
   put-decimal.Post,
 ) (put-decimal-at t) put-decimal.Post
-put-decimal-slice-write-out-2 t c = omega (arith, last-in _ _ _ (omega arith) _ _ (omega arith) (omega arith) (c .before .before .put-decimal .ensures))
+put-decimal-slice-write-out-2 t c =
+    let a = c .before .before .before .before .before .before .args in
+    let p = c .before .before .put-decimal in
+    last-in (a .n) (a .at) (a .out .now) (omega arith) (omega arith) (p .result) (p .last .1 .0) (omega arith) (p .ensures)
 
 put-decimal-add-result-2 : (t : ℕ) → put-decimal-lts.Need-add-result-2 (
   put-decimal-below t,
@@ -101,7 +107,7 @@ put-decimal-returns-2 : (t : ℕ) → put-decimal-lts.Need-returns-2 (
 put-decimal-returns-2 t c =
     let a = c .before .before .before .before .before .before .args in
     let p = c .before .before .put-decimal in
-    put-more (a .n) (a .at) (a .out .now) (omega arith) (p .result) (p .last .1 .0) (omega arith) (omega arith) (p .ensures)
+    put-more (a .n) (a .at) (a .out .now) (omega arith) (omega arith) (p .result) (p .last .1 .0) (omega arith) (p .ensures)
 
 pub +put-decimal-spec : {M : Type 1} → statement M
 +put-decimal-spec = close μ-put-decimal λ t. put-decimal-lts.spec (

@@ -1,15 +1,15 @@
--- `listing::lines::put_word` meets its contract. The loop's invariant: the bytes passed are written. The measure is what is left of the word.
+-- `writing::words::put_word` meets its contract. The loop's invariant: the bytes passed are written. The measure is what is left of the word.
 -- Assumes nothing.
 use Prim.Native.Nat.{_-_, _≤_}
 use mathlib.Core.Path.{_≡_}
 use lib.ListN.{length, take}
 use borrow.Author.Needs.{needs}
 use Rattle.tables.specs.Written.{writtenAt}
-use Rattle.listing.proofs.PutLaws.{word-laws}
-use Rattle.listing.proofs.lines.put_word.Statement.{statement}
-use Rattle.listing.proofs.lines.put_word.Tie as tie
-use Rattle.listing.proofs.lines.put_word.Reads as reads
-use Rattle.listing.proofs.lines.put_word.Lts as lts
+use Rattle.writing.proofs.PutLaws.{word-laws}
+use Rattle.writing.proofs.words.put_word.Statement.{statement}
+use Rattle.writing.proofs.words.put_word.Tie as tie
+use Rattle.writing.proofs.words.put_word.Reads as reads
+use Rattle.writing.proofs.words.put_word.Lts as lts
 
 abbrev Inv-loop : tie.InvT-loop
 Inv-loop word out₀ at i₀ out i = (i ≤ length word) × (length out ≡ length out₀) × (out ≡ writtenAt at (take i word) out₀)

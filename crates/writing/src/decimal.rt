@@ -4,11 +4,25 @@ ghost use Prim.Native.Nat.{_+_, _≤_};
 ghost use lib.ListN.{length};
 ghost use Rattle.tables.specs.Written.{writtenAt};
 ghost use Rattle.values.specs.Decimal.{decimal};
-ghost use Rattle.listing.specs.Room.{numberRoom};
+ghost use Rattle.writing.specs.Room.{numberRoom};
+
+// How many digits a number has.
+pub fn decimal_len(n: u64) -> usize
+    ensures { λ r. ⌜ r ≡ length (decimal n) ⌝ }
+    ensures { λ r. ⌜ r ≤ numberRoom ⌝ }
+{
+    let mut rest = n;
+    let mut len: usize = 1;
+    while 10 <= rest {
+        rest = rest / 10;
+        len += 1;
+    }
+    len
+}
 
 // Writes a number from `at` on, and says where the next byte goes.
 pub fn put_decimal(n: u64, out: &mut [u8], at: usize) -> usize
-    requires { ⌜ at + numberRoom ≤ length (now out) ⌝ }
+    requires { ⌜ at + length (decimal n) ≤ length (now out) ⌝ }
     ensures { λ r. ⌜ r ≡ at + length (decimal n) ⌝ }
     ensures { λ _. ⌜ now (out .exit) ≡ writtenAt at (decimal n) (now (out .entry)) ⌝ }
     ensures { λ r. ⌜ r ≤ at + numberRoom ⌝ }

@@ -49,6 +49,16 @@ decimal-more n h =
     let t = tenth n in
     by-more n n h ∙ ap (λ (xs : List ℕ). xs ++ ((0x30 + n % 10) ∷ [])) (enough n (suc (n / 10)) (n / 10) (omega arith) (omega arith))
 
+-- one digit, or one more than the tenth has
+pub digits-one : (n : ℕ) → n < 10 → length (decimal n) ≡ 1
+digits-one n h = ap length (decimal-small n h)
+
+pub digits-longer : (n : ℕ) → 10 ≤ n → length (decimal n) ≡ length (decimal (n / 10)) + 1
+digits-longer n h = ap length (decimal-more n h) ∙ length-append (decimal (n / 10)) ((0x30 + n % 10) ∷ [])
+
+pub tenth-less : (n : ℕ) → 10 ≤ n → n / 10 < n
+tenth-less n h = let t = tenth n in omega arith
+
 -- a number below the k-th power of 10 has at most k digits
 digits-most : (k n : ℕ) → n < 10 ^ suc k → length (decimal n) ≤ suc k
 digits-most zero n h = omega (arith, ap length (decimal-small n (omega arith)))
