@@ -1,0 +1,23 @@
+-- The four ordering matchers as the code tells them apart. Assumes nothing.
+use Prim.Native.Nat.{ℕ}
+use mathlib.Core.Bool.{Bool}
+use lib.IntN.{ℤ}
+use lib.Signed.{ltZ, leZ}
+use Rattle.verdicts.specs.Expected as expected
+use Rattle.verdicts.specs.Expected.{Matching}
+use Rattle.decisions.specs.declared.orders.Order.{Order}
+use Rattle.decisions.specs.declared.orders.Order.the-variants.{GreaterThan, LessThan, GreaterOrEqual, LessOrEqual}
+
+-- the matcher with this order and the number n
+unfoldable pub matching : Order → ℤ → Matching
+matching GreaterThan n = expected.greaterThan n
+matching LessThan n = expected.lessThan n
+matching GreaterOrEqual n = expected.greaterOrEqual n
+matching LessOrEqual n = expected.lessOrEqual n
+
+-- whether the value v passes it
+unfoldable pub holding : Order → (n v : ℤ) → Bool
+holding GreaterThan n v = ltZ n v
+holding LessThan n v = ltZ v n
+holding GreaterOrEqual n v = leZ n v
+holding LessOrEqual n v = leZ v n
