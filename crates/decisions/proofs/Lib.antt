@@ -1,2 +1,3 @@
 pub mod PatternLaws
 pub mod SearchLaws
+pub mod SignedLaws

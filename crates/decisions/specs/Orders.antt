@@ -1,8 +1,10 @@
 -- The four ordering matchers as the code tells them apart. Assumes nothing.
 use Prim.Native.Nat.{ℕ}
 use mathlib.Core.Bool.{Bool}
+use lib.Dec.{eqb}
 use lib.IntN.{ℤ}
 use lib.Signed.{ltZ, leZ}
+use Rattle.text.specs.Base.{if_then_else_}
 use Rattle.verdicts.specs.Expected as expected
 use Rattle.verdicts.specs.Expected.{Matching}
 use Rattle.decisions.specs.declared.orders.Order.{Order}
@@ -21,3 +23,11 @@ holding GreaterThan n v = ltZ n v
 holding LessThan n v = ltZ v n
 holding GreaterOrEqual n v = leZ n v
 holding LessOrEqual n v = leZ v n
+
+-- as a host numbers them: 1 to 4 for `>`, `<`, `>=`, `<=`; any other number reads as `<=`
+unfoldable pub orderOf : (kind : ℕ) → Order
+orderOf kind =
+    if eqb kind 1 then GreaterThan
+    else if eqb kind 2 then LessThan
+    else if eqb kind 3 then GreaterOrEqual
+    else LessOrEqual

@@ -1,7 +1,7 @@
 // Matchers that compare numbers.
 ghost use mathlib.Core.Path.{_≡_};
-ghost use Rattle.verdicts.specs.Decisions.{passedIf, decides};
-ghost use Rattle.decisions.specs.Orders.{holding, matching};
+ghost use Rattle.verdicts.specs.Decisions.{decides};
+ghost use Rattle.decisions.specs.Orders.{holding, matching, orderOf};
 use values::number::Integer;
 use verdicts::Verdict;
 
@@ -13,12 +13,19 @@ pub enum Order {
     LessOrEqual,
 }
 
-pub fn passed_if(b: bool) -> Verdict
-    ensures { λ r. ⌜ r ≡ passedIf b ⌝ }
+// The order that a host's number says.
+pub fn order_of(kind: u8) -> Order
+    ensures { λ r. ⌜ r ≡ orderOf kind ⌝ }
 {
-    if b { Verdict::Passed } else { Verdict::Failed }
+    match kind {
+        1 => Order::GreaterThan,
+        2 => Order::LessThan,
+        3 => Order::GreaterOrEqual,
+        _ => Order::LessOrEqual,
+    }
 }
 
+// Whether the number v passes.
 fn holds(order: Order, n: i64, v: i64) -> bool
     ensures { λ r. ⌜ r ≡ holding order n v ⌝ }
 {
@@ -35,7 +42,7 @@ pub fn compare(order: Order, n: i64, value: &[u8]) -> Verdict
     ensures { λ r. ⌜ r ≡ decides (matching order n) (now (value .entry)) ⌝ }
 {
     match values::number::parse_i64(value) {
-        Integer::Value(v) => passed_if(holds(order, n, v)),
+        Integer::Value(v) => crate::passed_if(holds(order, n, v)),
         Integer::Bad => Verdict::Failed,
     }
 }

@@ -6,8 +6,7 @@ use mathlib.Core.Option.{Option, none, some}
 use Prim.Native.Nat.{ℕ}
 use lib.IntN.{ℤ}
 use mir.Syntax.{w64}
-use mir.Val.{SFits, toZ, ofZ}
-use mir.ValLaws.{toZ-ofZ}
+use mir.Val.{SFits}
 use borrow.Author.Needs.{needs}
 use Rattle.values.specs.Numbers.{signed, integerOf}
 use Rattle.values.specs.declared.number.Integer.{Integer}
@@ -18,6 +17,7 @@ use Rattle.verdicts.specs.declared.Verdict.the-variants.{Failed}
 use Rattle.decisions.specs.Orders.{holding, matching}
 use Rattle.decisions.specs.declared.orders.Order.{Order}
 use Rattle.decisions.specs.declared.orders.Order.the-variants.{GreaterThan, LessThan, GreaterOrEqual, LessOrEqual}
+use Rattle.decisions.proofs.SignedLaws.{back, back-is}
 use Rattle.decisions.proofs.orders.compare.Statement.{statement}
 use Rattle.decisions.proofs.orders.compare.Tie as tie
 
@@ -28,15 +28,11 @@ in-order LessThan n value = refl
 in-order GreaterOrEqual n value = refl
 in-order LessOrEqual n value = refl
 
--- the machine hands a signed number on as bits, and reads it back
-abbrev back : ℤ → ℤ
-back z = toZ w64 (ofZ w64 z)
-
 module _ (order : Order) (n : ℤ) (value : List ℕ) (i : Integer) (q : integerOf i ≡ signed value) where
   is-number : (v : ℤ) (b : Bool) (r : Verdict) → i ≡ Value v → SFits w64 n → SFits w64 v → b ≡ holding order (back n) (back v) → r ≡ passedIf b → r ≡ decides (matching order n) value
   unfolding integerOf ordered
   is-number v b r e fn fv h p =
-      let k : b ≡ holding order n v = rw (toZ-ofZ w64 n fn, toZ-ofZ w64 v fv) at h in
+      let k : b ≡ holding order n v = rw (back-is n fn, back-is v fv) at h in
       p ∙ rw k (rw (sym (sym (ap integerOf e) ∙ q)) at (in-order order n value))
 
   no-number : i ≡ Bad → Failed ≡ decides (matching order n) value

@@ -3,34 +3,31 @@ use mathlib.Core.Path.{_≡_}
 use lib.IntN.{ℤ}
 use lib.Signed.{ltZ, leZ}
 use mir.Syntax.{w64}
-use mir.Val.{SFits, toZ, ofZ}
-use mir.ValLaws.{toZ-ofZ}
+use mir.Val.{SFits}
 use borrow.Author.Needs.{needs}
 use Rattle.decisions.specs.Orders.{holding}
 use Rattle.decisions.specs.declared.orders.Order.{Order}
 use Rattle.decisions.specs.declared.orders.Order.the-variants.{GreaterThan, LessThan, GreaterOrEqual, LessOrEqual}
+use Rattle.decisions.proofs.SignedLaws.{back, back-is}
 use Rattle.decisions.proofs.orders.holds.Statement.{statement}
 use Rattle.decisions.proofs.orders.holds.Tie as tie
-
-abbrev back : ℤ → ℤ
-back z = toZ w64 (ofZ w64 z)
 
 module _ (order : Order) (n v : ℤ) (fn : SFits w64 n) (fv : SFits w64 v) where
   greater : order ≡ GreaterThan → ltZ (back n) (back v) ≡ holding order n v
   unfolding holding
-  greater e = rw (e, toZ-ofZ w64 n fn, toZ-ofZ w64 v fv)
+  greater e = rw (e, back-is n fn, back-is v fv)
 
   less : order ≡ LessThan → ltZ (back v) (back n) ≡ holding order n v
   unfolding holding
-  less e = rw (e, toZ-ofZ w64 n fn, toZ-ofZ w64 v fv)
+  less e = rw (e, back-is n fn, back-is v fv)
 
   at-least : order ≡ GreaterOrEqual → leZ (back n) (back v) ≡ holding order n v
   unfolding holding
-  at-least e = rw (e, toZ-ofZ w64 n fn, toZ-ofZ w64 v fv)
+  at-least e = rw (e, back-is n fn, back-is v fv)
 
   at-most : order ≡ LessOrEqual → leZ (back v) (back n) ≡ holding order n v
   unfolding holding
-  at-most e = rw (e, toZ-ofZ w64 n fn, toZ-ofZ w64 v fv)
+  at-most e = rw (e, back-is n fn, back-is v fv)
 
 enum-told : tie.Need-enum-told
 enum-told c = search needs

@@ -1,7 +1,7 @@
--- `decisions::orders::passed_if` meets its contract. Assumes nothing.
+-- `decisions::passed_if` meets its contract. Assumes nothing.
 use Rattle.verdicts.specs.Decisions.{passedIf}
-use Rattle.decisions.proofs.orders.passed_if.Statement.{statement}
-use Rattle.decisions.proofs.orders.passed_if.Tie as tie
+use Rattle.decisions.proofs.passed_if.Statement.{statement}
+use Rattle.decisions.proofs.passed_if.Tie as tie
 
 returns : tie.Need-returns
 unfolding passedIf
