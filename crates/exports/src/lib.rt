@@ -10,6 +10,10 @@ ghost use Rattle.values.specs.Numbers.{number, signed, numberOf, integerOf};
 ghost use Rattle.values.specs.Hex.{hexDecoded};
 ghost use Rattle.values.specs.Unquote.{unquoted};
 ghost use Rattle.script.specs.Reading.{measured};
+ghost use Rattle.verdicts.specs.Decisions.{decides};
+ghost use Rattle.verdicts.specs.Expected.{exact, regex};
+ghost use Rattle.verdicts.specs.Verdicts.{code};
+ghost use Rattle.decisions.specs.Orders.{matching, orderOf};
 ghost use Rattle.exports.specs.Answered.{refusedAs, lineOf, countsOr};
 ghost use Rattle.exports.specs.Given.{isGiven, givenOr};
 ghost use Rattle.dump.specs.Dump.{readDump};
@@ -209,4 +213,28 @@ pub extern "C" fn nwscript_read_times(text: &[u8], times: u64) -> u64
     ensures { λ r. ⌜ r ≡ lastNumber (now (text .entry)) times ⌝ }
 {
     dump::times::read_times(text, times)
+}
+
+// What an exact matcher decides of a value: the verdict's number.
+#[no_mangle]
+pub extern "C" fn nwscript_exact(text: &[u8], value: &[u8]) -> u8
+    ensures { λ r. ⌜ r ≡ code (decides (exact (now (text .entry))) (now (value .entry))) ⌝ }
+{
+    decisions::hosted::exact(text, value)
+}
+
+// And a pattern.
+#[no_mangle]
+pub extern "C" fn nwscript_pattern(pattern: &[u8], value: &[u8]) -> u8
+    ensures { λ r. ⌜ r ≡ code (decides (regex (now (pattern .entry))) (now (value .entry))) ⌝ }
+{
+    decisions::hosted::pattern(pattern, value)
+}
+
+// And an ordering matcher with the number n; the kinds 1 to 4 are `>`, `<`, `>=`, `<=`, and any other reads as `<=`.
+#[no_mangle]
+pub extern "C" fn nwscript_ordering(kind: u8, n: i64, value: &[u8]) -> u8
+    ensures { λ r. ⌜ r ≡ code (decides (matching (orderOf kind) n) (now (value .entry))) ⌝ }
+{
+    decisions::hosted::ordering(kind, n, value)
 }

@@ -35,6 +35,9 @@ mod exports {
             out_len: usize,
         ) -> usize;
         pub fn nwscript_read_times(text: *const u8, text_len: usize, times: u64) -> u64;
+        pub fn nwscript_exact(text: *const u8, text_len: usize, value: *const u8, value_len: usize) -> u8;
+        pub fn nwscript_pattern(pattern: *const u8, pattern_len: usize, value: *const u8, value_len: usize) -> u8;
+        pub fn nwscript_ordering(kind: u8, n: i64, value: *const u8, value_len: usize) -> u8;
     }
 }
 
@@ -186,4 +189,29 @@ pub fn read(text: &[u8], lent: Counts, out: &mut [u8]) -> usize {
 /// Reads a text so many times into tables of its own. Gives the number of the last refusal, 0 if it is read.
 pub fn read_times(text: &[u8], times: u64) -> u64 {
     unsafe { exports::nwscript_read_times(text.as_ptr(), text.len(), times) }
+}
+
+/// What an exact matcher decides of a value: 1 passed, 2 failed, 3 undecided; so too below.
+pub fn exact(text: &[u8], value: &[u8]) -> u8 {
+    unsafe { exports::nwscript_exact(text.as_ptr(), text.len(), value.as_ptr(), value.len()) }
+}
+
+/// What a pattern decides of a value.
+pub fn pattern(pattern: &[u8], value: &[u8]) -> u8 {
+    unsafe { exports::nwscript_pattern(pattern.as_ptr(), pattern.len(), value.as_ptr(), value.len()) }
+}
+
+/// How an ordering matcher compares a value with its number.
+#[derive(Debug, Clone, Copy, PartialEq, Eq)]
+#[repr(u8)]
+pub enum Order {
+    GreaterThan = 1,
+    LessThan = 2,
+    GreaterOrEqual = 3,
+    LessOrEqual = 4,
+}
+
+/// What an ordering matcher with the number n decides of a value.
+pub fn ordering(order: Order, n: i64, value: &[u8]) -> u8 {
+    unsafe { exports::nwscript_ordering(order as u8, n, value.as_ptr(), value.len()) }
 }
