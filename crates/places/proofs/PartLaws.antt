@@ -5,15 +5,14 @@ use mathlib.Core.List.{List}
 use native.Mathlib.Omega.{arith}
 use lib.ListN.{length, take, drop, length-drop, drop-of-length-le}
 use lib.Seq.{take-all, take-nil, drop-length}
-use Rattle.text.specs.Base.{part}
 
-pub part-none : (s : List ℕ) (start len : ℕ) → length s ≤ start → take (length s - length s) (drop (length s) s) ≡ part s start len
+pub part-none : {A : Type 0} (s : List A) (start len : ℕ) → length s ≤ start → take (length s - length s) (drop (length s) s) ≡ take len (drop start s)
 part-none s start len h = rw (drop-length s, drop-of-length-le s h, take-nil (length s - length s), take-nil len)
 
-pub part-rest : (s : List ℕ) (start len : ℕ) → length s - start ≤ len → take (length s - start) (drop start s) ≡ part s start len
+pub part-rest : {A : Type 0} (s : List A) (start len : ℕ) → length s - start ≤ len → take (length s - start) (drop start s) ≡ take len (drop start s)
 part-rest s start len h =
     take-all (length s - start) (drop start s) (omega (arith, length-drop start s))
     ∙ sym (take-all len (drop start s) (omega (arith, length-drop start s)))
 
-pub part-whole : (s : List ℕ) (start len : ℕ) → take (start + len - start) (drop start s) ≡ part s start len
+pub part-whole : {A : Type 0} (s : List A) (start len : ℕ) → take (start + len - start) (drop start s) ≡ take len (drop start s)
 part-whole s start len = let e : start + len - start ≡ len = omega arith in ap (λ (n : ℕ). take n (drop start s)) e

@@ -52,3 +52,15 @@ module _ (r : Room) (n : ℕ) where
   pub short-still : r ≡ Short → Short ≡ lessBy r n
   unfolding lessBy
   short-still e = ap (λ (q : Room). lessBy q n) (sym e)
+
+-- ---- lengths taken off any room
+
+pub less-none : (r : Room) → lessBy r 0 ≡ r
+unfolding lessBy
+less-none (Left k) = left-none k
+less-none Short = refl
+
+pub less-more : (r : Room) (a b : ℕ) → lessBy (lessBy r a) b ≡ lessBy r (a + b)
+unfolding lessBy
+less-more (Left k) a b = left-more k a b
+less-more Short a b = refl
