@@ -1,0 +1,255 @@
+-- Rooms that were found, and what Message answers by them. Assumes nothing.
+use Prim.Native.Nat.{ℕ, _+_, _-_, _≤_, _<_}
+use mathlib.Core.Path.{_≡_, refl, sym, ap, subst, _∙_}
+use mathlib.Core.Bool.{Bool, true, false}
+use mathlib.Core.List.{List, [], map}
+use mathlib.Core.Option.{Option, none, some, Option·getD}
+use native.Mathlib.Omega.{arith}
+use lib.Dec.{leb, ltb}
+use borrow.Author.Tests.{le-leb, lt-leb, leb-true, leb-false, lt-ltb, le-ltb}
+use lib.ListN.{length, take, drop, drop-of-length-le, length-drop, length-take}
+use lib.Seq.{take-all, take-nil, length-take-le}
+use Rattle.text.specs.Base.{if_then_else_, overlaid}
+use Rattle.script.specs.Reading.{refusal}
+use Rattle.script.specs.declared.records.Items.{Items}
+use Rattle.writing.specs.Room.{left}
+use Rattle.writing.specs.declared.room.Room.{Room}
+use Rattle.writing.specs.declared.room.Room.the-variants.{Left, Short}
+use Rattle.writing.proofs.RoomLaws.{left-fits, left-short}
+use Rattle.writing.proofs.PutLaws.{front-taken}
+use Rattle.script.specs.declared.records.Expect.{Expect}
+use Rattle.script.specs.declared.response.DaemonResponse.{DaemonResponse}
+use Rattle.script.specs.declared.response.HandshakeInfo.{HandshakeInfo}
+use Rattle.verdicts.specs.Held.{ranged, expectedOf, responseOf, infoOf, expectIn, responseIn, infoIn}
+use Rattle.verdicts.specs.Expected.{Expected}
+use Rattle.verdicts.specs.Told.{Subject, greeting, reply}
+use Rattle.verdicts.specs.Lookup.{looked, lookedIn, toldIn}
+use Rattle.verdicts.specs.Verdicts.{verdict}
+use Rattle.verdicts.specs.Messages.{message, entryMessage, handshakeMessage}
+use Rattle.verdicts.specs.declared.Verdict.{Verdict}
+use Rattle.frames.specs.Frames.{isMissing, presentBytes, frameBytes, entryFrame, handshakeFrame}
+use Rattle.frames.specs.declared.frames.Frame.{Frame}
+use Rattle.frames.proofs.FrameLaws.{entry-says, handshake-says}
+use Rattle.messages.specs.Lengths.{frameLength}
+use Rattle.messages.proofs.MessageLaws.{frame-length}
+use Rattle.lookups.specs.Values.{valueBytes, valueText}
+use Rattle.lookups.specs.declared.value.Value.{Value}
+use Rattle.lookups.specs.declared.value.Value.the-variants as Value
+use Rattle.expect.specs.Told.{counted, framedAs, toldOf, unlessRefused}
+use Rattle.expect.specs.ExpectRead.{noValue}
+use Rattle.expect.specs.declared.message.Told.{Told}
+use Rattle.expect.specs.declared.message.Told.the-variants.{Refused, Says}
+
+-- ---- ranges and tables
+
+pub all-counted : (lists : List (List ℕ)) → length lists ≤ 0x8000 → lists ≡ counted lists
+all-counted lists h = sym (take-all 0x8000 lists h)
+
+pub counted-few : (lists : List (List ℕ)) → 0x8000 ≤ length lists → 0x8000 ≡ length (counted lists)
+counted-few lists h = sym (length-take-le 0x8000 lists h)
+
+pub none-there : (n : ℕ) (r : Items) → n ≤ r .first → (lists : List (List ℕ)) → length lists ≡ n → [] ≡ ranged lists r
+none-there n r h lists e = let k : length lists ≤ r .first = omega arith in rw (drop-of-length-le lists k, take-nil (r .count))
+
+pub rest-there : (n : ℕ) (r : Items) → n - r .first ≤ r .count → (lists : List (List ℕ)) → length lists ≡ n → take (n - r .first) (drop (r .first) lists) ≡ ranged lists r
+rest-there n r h lists e =
+    take-all (n - r .first) (drop (r .first) lists) (omega (arith, length-drop (r .first) lists))
+    ∙ sym (take-all (r .count) (drop (r .first) lists) (omega (arith, length-drop (r .first) lists)))
+
+-- ---- rooms
+
+pub room-left : (room n k : ℕ) (r : Room) → r ≡ left room n → r ≡ Left k → (n ≤ room) × (k ≡ room - n)
+room-left room n k r p q = go (leb n room) refl
+  where
+    go : (t : Bool) → leb n room ≡ t → (n ≤ room) × (k ≡ room - n)
+    go true e =
+        let h = leb-true n room e in
+        let f : left room n ≡ Left (room - n) = left-fits room n h in
+        let z : k ≡ room - n = cc in
+        (h, z)
+    go false e =
+        let f : left room n ≡ Short = left-short room n (leb-false n room e) in
+        let z : _≡_ {A = ℕ} 0 1 = cc in
+        absurd (omega arith)
+
+pub room-short : (room n : ℕ) (r : Room) → r ≡ left room n → r ≡ Short → room < n
+room-short room n r p q = go (leb n room) refl
+  where
+    go : (t : Bool) → leb n room ≡ t → room < n
+    go true e =
+        let f : left room n ≡ Left (room - n) = left-fits room n (leb-true n room e) in
+        let z : _≡_ {A = ℕ} 0 1 = cc in
+        absurd (omega arith)
+    go false e = leb-false n room e
+
+-- ---- what Message answers, where value and message are known by their bytes
+
+module _ (v : Verdict) (value message scratch buffer : List ℕ) where
+  abbrev pub Answers : Told → (s b : List ℕ) → Type 0
+  Answers t s b =
+      (t ≡ framedAs v (length value) (length message) (length scratch) (length buffer))
+      × ((s ≡ unlessRefused t value scratch) × (b ≡ unlessRefused t message buffer))
+
+  nothing-changed : (t : Told) (n : ℕ) → t ≡ Refused (refusal n 0) → (bytes lent : List ℕ) → lent ≡ unlessRefused t bytes lent
+  unfolding unlessRefused
+  nothing-changed t n e bytes lent = ap (λ (x : Told). unlessRefused x bytes lent) (sym e)
+
+  pub value-too-long : (t : Told) → t ≡ Refused (refusal 34 0) → length scratch < length value → Answers t scratch buffer
+  unfolding framedAs
+  value-too-long t e h = (e ∙ sym (first-fails (lt-ltb (length scratch) (length value) h)), (nothing-changed t 34 e value scratch, nothing-changed t 34 e message buffer))
+    where
+      first-fails : ltb (length scratch) (length value) ≡ true → framedAs v (length value) (length message) (length scratch) (length buffer) ≡ Refused (refusal 34 0)
+      first-fails p = rw p
+
+  pub message-too-long : (t : Told) → t ≡ Refused (refusal 38 0) → length value ≤ length scratch → length buffer < length message → Answers t scratch buffer
+  unfolding framedAs
+  message-too-long t e k h = (
+    e ∙ sym (second-fails (le-ltb (length scratch) (length value) k) (lt-ltb (length buffer) (length message) h)),
+    (nothing-changed t 38 e value scratch, nothing-changed t 38 e message buffer),
+  )
+    where
+      second-fails : ltb (length scratch) (length value) ≡ false → ltb (length buffer) (length message) ≡ true → framedAs v (length value) (length message) (length scratch) (length buffer) ≡ Refused (refusal 38 0)
+      second-fails p q = rw (p, q)
+
+  pub both-written : (n : ℕ) (s b : List ℕ) → length value ≤ length scratch → length message ≤ length buffer → n ≡ length message → s ≡ overlaid value scratch → b ≡ overlaid message buffer → Answers (Says v n) s b
+  unfolding framedAs unlessRefused
+  both-written n s b k h e p q = (ap (Says v) e ∙ sym (fits (le-ltb (length scratch) (length value) k) (le-ltb (length buffer) (length message) h)), (p, q))
+    where
+      fits : ltb (length scratch) (length value) ≡ false → ltb (length buffer) (length message) ≡ false → framedAs v (length value) (length message) (length scratch) (length buffer) ≡ Says v (length message)
+      fits p q = rw (p, q)
+
+-- ---- values that may be missing
+
+pub missing-is : (bytes : List ℕ) (lists : List (List ℕ)) (v : Value) → noValue v ≡ isMissing (valueBytes bytes lists v)
+unfolding noValue isMissing valueBytes
+missing-is bytes lists Value.Missing = refl
+missing-is bytes lists (Value.Number n) = refl
+missing-is bytes lists (Value.Text p) = refl
+missing-is bytes lists Value.Unknown = refl
+missing-is bytes lists Value.Trusted = refl
+missing-is bytes lists Value.NotTrusted = refl
+missing-is bytes lists (Value.List r) = refl
+missing-is bytes lists (Value.Features r) = refl
+
+-- what is written of a value is its bytes, if it is there
+pub text-is : (bytes : List ℕ) (lists : List (List ℕ)) (v : Value) (o : Option (List ℕ)) → valueBytes bytes lists v ≡ o → valueText bytes lists v ≡ presentBytes o
+unfolding valueText presentBytes
+text-is bytes lists v o e = ap (λ (x : Option (List ℕ)). Option·getD x []) e ∙ given o
+  where
+    given : (o : Option (List ℕ)) → Option·getD o [] ≡ presentBytes o
+    given none = refl
+    given (some x) = refl
+
+-- ---- a value that stands at the front of the scratch, and its message
+
+module _ (value scratch written : List ℕ) (n : ℕ) (fits : length value ≤ length scratch) (e : n ≡ length value) (o : written ≡ overlaid value scratch) where
+  pub value-taken : take n written ≡ value
+  value-taken = front-taken value scratch written n fits e o
+
+  pub value-sized : n ≡ length (take n written)
+  value-sized = e ∙ ap length (sym value-taken)
+
+  pub value-in : n ≤ length written
+  value-in = omega (arith, value-sized, length-take n written)
+
+-- the length that was added up: k is what is left of a room of s bytes
+pub frame-size : (text bytes value : List ℕ) (f : Frame) (s k : ℕ) → length value ≤ s → k ≡ s - length value → frameLength text bytes (s - k) f ≡ length (frameBytes text bytes value f)
+frame-size text bytes value f s k h e =
+    let l : s - k ≡ length value = omega arith in
+    ap (λ (n : ℕ). frameLength text bytes n f) l ∙ frame-length text bytes value f
+
+pub frame-fits : (text bytes value taken : List ℕ) (f : Frame) (s k room j : ℕ) (r : Room) → length value ≤ s → k ≡ s - length value → taken ≡ value
+    → r ≡ left room (frameLength text bytes (s - k) f) → r ≡ Left j → length (frameBytes text bytes taken f) ≤ room
+frame-fits text bytes value taken f s k room j r h e t p q =
+    let a = room-left room (frameLength text bytes (s - k) f) j r p q in
+    omega (arith, a .0, frame-size text bytes value f s k h e, ap (λ (l : List ℕ). length (frameBytes text bytes l f)) t)
+
+pub frame-long : (text bytes value : List ℕ) (f : Frame) (s k room : ℕ) (r : Room) → length value ≤ s → k ≡ s - length value
+    → r ≡ left room (frameLength text bytes (s - k) f) → r ≡ Short → room < length (frameBytes text bytes value f)
+frame-long text bytes value f s k room r h e p q = omega (arith, room-short room (frameLength text bytes (s - k) f) r p q, frame-size text bytes value f s k h e)
+
+-- ---- whole answers
+
+module _ (inText inBytes : Bool) (s : Subject) (e : Expected) (scratch buffer : List ℕ) where
+  abbrev pub Whole : Told → (scr buf : List ℕ) → Type 0
+  Whole t scr buf =
+      (t ≡ toldOf inText inBytes s e (length scratch) (length buffer))
+      × ((scr ≡ unlessRefused t (presentBytes (looked s e)) scratch) × (buf ≡ unlessRefused t (message s e) buffer))
+
+  pub judged : (v : Verdict) (value said scr buf : List ℕ) (t : Told) → inText ≡ true → inBytes ≡ true → v ≡ verdict s e → value ≡ presentBytes (looked s e) → said ≡ message s e
+      → Answers v value said scratch buffer t scr buf → Whole t scr buf
+  unfolding toldOf
+  judged v value said scr buf t p q h k l a = rw (p, q, ← h, ← k, ← l) a
+
+  pub outside-bytes : (t : Told) → inText ≡ true → inBytes ≡ false → t ≡ Refused (refusal 32 0) → Whole t scratch buffer
+  unfolding toldOf unlessRefused
+  outside-bytes t p q h = rw (p, q, h) (refl, (refl, refl))
+
+  pub outside-text : (t : Told) → inText ≡ false → t ≡ Refused (refusal 31 0) → Whole t scratch buffer
+  unfolding toldOf unlessRefused
+  outside-text t p h = rw (p, h) (refl, (refl, refl))
+
+pub few : (table lists : List (List ℕ)) → table ≡ counted lists → length table ≤ 0x8000
+few table lists e = omega (arith, ap length e, length-take 0x8000 lists)
+
+module _ (text bytes : List ℕ) (x : Expect) (scratch buffer : List ℕ) (lists table : List (List ℕ)) (same : table ≡ counted lists) where
+  -- by a table that is the one that counts
+  module _ (r : DaemonResponse) where
+    abbrev pub EntryTold : List (List ℕ) → Told → (scr buf : List ℕ) → Type 0
+    EntryTold T t scr buf =
+        (t ≡ toldOf (expectIn (length text) x) (responseIn (length bytes) T r) (reply (responseOf bytes T r)) (expectedOf text x) (length scratch) (length buffer))
+        × ((scr ≡ unlessRefused t (presentBytes (lookedIn (responseOf bytes T r) (expectedOf text x))) scratch) × (buf ≡ unlessRefused t (entryMessage (responseOf bytes T r) (expectedOf text x)) buffer))
+
+    pub entry-judged : (a b missing : Bool) (value : Value) (v : Verdict) (f : Frame) (t : Told) (scr buf : List ℕ) → a ≡ expectIn (length text) x → a ≡ true
+        → b ≡ responseIn (length bytes) table r → b ≡ true
+        → valueBytes bytes table value ≡ lookedIn (responseOf bytes table r) (expectedOf text x)
+        → v ≡ verdict (reply (responseOf bytes table r)) (expectedOf text x)
+        → missing ≡ noValue value
+        → f ≡ entryFrame x missing v (r .terminal)
+        → Answers v (valueText bytes table value) (frameBytes text bytes (valueText bytes table value) f) scratch buffer t scr buf
+        → EntryTold (counted lists) t scr buf
+    unfolding looked message
+    entry-judged a b missing value v f t scr buf p p′ q q′ l h k g w =
+        let y = text-is bytes table value _ l in
+        let m = k ∙ missing-is bytes table value ∙ ap isMissing l in
+        let says =
+        ap (frameBytes text bytes (valueText bytes table value)) g
+        ∙ ap (λ (z : List ℕ). frameBytes text bytes z (entryFrame x missing v (r .terminal))) y
+        ∙ entry-says text bytes table r x missing v m h in
+        subst (λ (T : List (List ℕ)). EntryTold T t scr buf) same
+        (judged (expectIn (length text) x) (responseIn (length bytes) table r) (reply (responseOf bytes table r)) (expectedOf text x) scratch buffer v (valueText bytes table value) (frameBytes text bytes (valueText bytes table value) f) scr buf t (sym p ∙ p′) (sym q ∙ q′) h y says w)
+
+    pub entry-refused : (a b : Bool) (t : Told) → a ≡ expectIn (length text) x → a ≡ true → b ≡ responseIn (length bytes) table r → b ≡ false → t ≡ Refused (refusal 32 0) → EntryTold (counted lists) t scratch buffer
+    unfolding looked message
+    entry-refused a b t p p′ q q′ h =
+        subst (λ (T : List (List ℕ)). EntryTold T t scratch buffer) same
+        (outside-bytes (expectIn (length text) x) (responseIn (length bytes) table r) (reply (responseOf bytes table r)) (expectedOf text x) scratch buffer t (sym p ∙ p′) (sym q ∙ q′) h)
+
+  module _ (i : HandshakeInfo) where
+    abbrev pub HandshakeTold : List (List ℕ) → Told → (scr buf : List ℕ) → Type 0
+    HandshakeTold T t scr buf =
+        (t ≡ toldOf (expectIn (length text) x) (infoIn (length bytes) T i) (greeting (infoOf bytes T i)) (expectedOf text x) (length scratch) (length buffer))
+        × ((scr ≡ unlessRefused t (presentBytes (toldIn (infoOf bytes T i) (expectedOf text x))) scratch) × (buf ≡ unlessRefused t (handshakeMessage (infoOf bytes T i) (expectedOf text x)) buffer))
+
+    pub handshake-judged : (a b : Bool) (value : Value) (v : Verdict) (f : Frame) (t : Told) (scr buf : List ℕ) → a ≡ expectIn (length text) x → a ≡ true
+        → b ≡ infoIn (length bytes) table i → b ≡ true
+        → valueBytes bytes table value ≡ toldIn (infoOf bytes table i) (expectedOf text x)
+        → v ≡ verdict (greeting (infoOf bytes table i)) (expectedOf text x)
+        → f ≡ handshakeFrame x v
+        → Answers v (valueText bytes table value) (frameBytes text bytes (valueText bytes table value) f) scratch buffer t scr buf
+        → HandshakeTold (counted lists) t scr buf
+    unfolding looked message
+    handshake-judged a b value v f t scr buf p p′ q q′ l h g w =
+        let y = text-is bytes table value _ l in
+        let says =
+        ap (frameBytes text bytes (valueText bytes table value)) g
+        ∙ ap (λ (z : List ℕ). frameBytes text bytes z (handshakeFrame x v)) y
+        ∙ handshake-says text bytes table i x v h in
+        subst (λ (T : List (List ℕ)). HandshakeTold T t scr buf) same
+        (judged (expectIn (length text) x) (infoIn (length bytes) table i) (greeting (infoOf bytes table i)) (expectedOf text x) scratch buffer v (valueText bytes table value) (frameBytes text bytes (valueText bytes table value) f) scr buf t (sym p ∙ p′) (sym q ∙ q′) h y says w)
+
+    pub handshake-refused : (a b : Bool) (t : Told) → a ≡ expectIn (length text) x → a ≡ true → b ≡ infoIn (length bytes) table i → b ≡ false → t ≡ Refused (refusal 32 0) → HandshakeTold (counted lists) t scratch buffer
+    unfolding looked message
+    handshake-refused a b t p p′ q q′ h =
+        subst (λ (T : List (List ℕ)). HandshakeTold T t scratch buffer) same
+        (outside-bytes (expectIn (length text) x) (infoIn (length bytes) table i) (greeting (infoOf bytes table i)) (expectedOf text x) scratch buffer t (sym p ∙ p′) (sym q ∙ q′) h)

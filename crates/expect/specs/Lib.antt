@@ -1,0 +1,2 @@
+pub mod ExpectRead
+pub mod Told
