@@ -1,3 +1,4 @@
+pub mod EqualLaws
 pub mod PatternLaws
 pub mod SearchLaws
 pub mod SignedLaws

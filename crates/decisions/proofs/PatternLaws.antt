@@ -1,13 +1,13 @@
 -- Which bytes are among some others, as the arms of a `match` tell it: by a list of keys, and by runs of numbers. Assumes nothing.
 use Prim.Native.Nat.{ℕ, zero, suc, _+_, _≤_, _<_}
-use mathlib.Core.Path.{_≡_, refl, sym, _∙_}
+use mathlib.Core.Path.{_≡_, refl, sym}
 use mathlib.Core.Bool.{Bool, true, false}
 use mathlib.Core.Logic.{_⊎_, inl, inr}
 use mathlib.Core.List.{List, [], _∷_}
 use native.Mathlib.Omega.{arith}
 use lib.Dec.{eqb, ltb, leb}
 use types.Run.{OneOf}
-use borrow.Author.Tests.{eq-eqb, ne-eqb, eqb-true, eqb-false, lt-ltb, le-ltb, le-leb, lt-leb}
+use borrow.Author.Tests.{ne-eqb, eqb-true, eqb-false, le-ltb, lt-leb}
 use Rattle.text.specs.Base.{_&_, _or_}
 use Rattle.text.proofs.Scan.{both, never}
 use Rattle.verdicts.specs.Decisions.{oneOf}

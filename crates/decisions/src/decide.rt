@@ -10,7 +10,7 @@ use verdicts::Verdict;
 pub fn exact(text: &[u8], value: &[u8]) -> Verdict
     ensures { λ r. ⌜ r ≡ decides (expected.exact (now (text .entry))) (now (value .entry)) ⌝ }
 {
-    crate::passed_if(text::parts::same(value, text))
+    crate::passed_if(crate::equal::same_value(value, text))
 }
 
 pub fn regex(pattern: &[u8], value: &[u8]) -> Verdict

@@ -4,6 +4,7 @@ ghost use Rattle.verdicts.specs.Decisions.{passedIf};
 use verdicts::Verdict;
 
 pub mod decide;
+pub mod equal;
 pub mod hosted;
 pub mod orders;
 pub mod patterns;

@@ -1,6 +1,6 @@
 -- `decisions::decide::decide` meets its contract: each arm is its case of the definition. Assumes nothing.
 use Prim.Native.Nat.{ℕ}
-use mathlib.Core.Path.{_≡_, sym, _∙_}
+use mathlib.Core.Path.{_≡_}
 use mathlib.Core.List.{List}
 use lib.IntN.{ℤ}
 use mir.Syntax.{w64}
@@ -9,12 +9,10 @@ use Rattle.script.specs.declared.records.Place.{Place}
 use Rattle.script.specs.declared.records.Matcher.{Matcher}
 use Rattle.script.specs.declared.records.Matcher.the-variants as matcher
 use Rattle.verdicts.specs.Expected as expected
-use Rattle.verdicts.specs.Expected.{Matching}
 use Rattle.verdicts.specs.Decisions.{decides}
 use Rattle.verdicts.specs.Held.{textAt, matchingOf}
 use Rattle.verdicts.specs.declared.Verdict.{Verdict}
 use Rattle.decisions.specs.Orders.{matching}
-use Rattle.decisions.specs.declared.orders.Order.{Order}
 use Rattle.decisions.specs.declared.orders.Order.the-variants as order
 use Rattle.decisions.proofs.SignedLaws.{back, back-is}
 use borrow.Author.Needs.{needs}

@@ -1,6 +1,4 @@
 -- `decisions::orders::order_of` meets its contract. Assumes nothing.
-use mathlib.Core.Path.{refl}
-use mathlib.Core.Logic.{inl, inr}
 use borrow.Author.Tests.{ne-eqb}
 use Rattle.decisions.specs.Orders.{orderOf}
 use Rattle.decisions.proofs.orders.order_of.Statement.{statement}

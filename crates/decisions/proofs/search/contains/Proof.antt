@@ -1,58 +1,78 @@
 -- `decisions::search::contains` meets its contract. The loop's invariant: the pattern stands in the rest of the value just where it stands in the
 -- value. Assumes nothing.
 use Prim.Native.Nat.{ℕ, _+_, _-_, _≤_, _<_}
-use mathlib.Core.Path.{_≡_, refl, sym, _∙_}
+use mathlib.Core.Path.{_≡_, sym, _∙_}
 use mathlib.Core.Bool.{Bool, true, false}
 use mathlib.Core.List.{List}
 use native.Mathlib.Omega.{arith}
-use lib.ListN.{length, getD, take, drop, length-drop}
-use lib.Seq.{take-all}
-use borrow.Author.Needs.{needs}
+use lib.ListN.{length, getD, take, drop}
 use Rattle.text.specs.Parts.{startsWith}
-use Rattle.text.specs.Skip.{Without}
 use Rattle.verdicts.specs.Decisions.{contains}
-use Rattle.decisions.proofs.SearchLaws.{empty-in, none-left, tried, stands, passed}
+use Rattle.decisions.specs.Places.{Apart}
+use Rattle.decisions.proofs.EqualLaws.{rest-is}
+use Rattle.decisions.proofs.SearchLaws.{empty-in, too-short, none-left, tried, stands, passed}
+use borrow.Author.Needs.{needs}
 use Rattle.decisions.proofs.search.contains.Statement.{statement}
 use Rattle.decisions.proofs.search.contains.Tie as tie
 
+short : (p s : List ℕ) → length s < length p → false ≡ contains p s
+short p s h = sym (too-short p s h)
+
+-- how far the last byte stands behind the first
+abbrev reach : (p : List ℕ) → ℕ
+reach p = length p - 1
+
+abbrev Clear : (p s : List ℕ) (i j : ℕ) → Type 0
+Clear p s i j = Apart (getD p 0 0) (getD p (reach p) 0) (reach p) s i j
+
 module _ (p s : List ℕ) (n : length p ≡ 0 → ⊥) where
-  begun : (r : ℕ) → r ≤ length s → Without (getD p 0 0) s 0 r → contains p (drop r s) ≡ contains p s
-  begun r h w = passed p s 0 r n (search needs) h w
+  begun : (r : ℕ) → r + reach p ≤ length s → Clear p s 0 r → contains p (drop r s) ≡ contains p s
+  begun r h w = passed p s (reach p) 0 r (omega arith) (omega arith) h w
 
   module _ (i : ℕ) (e : contains p (drop i s) ≡ contains p s) where
-    over : length s ≤ i → false ≡ contains p s
-    over h = sym (none-left p s i n h) ∙ e
+    over : length s < i + length p → i ≤ length s → false ≡ contains p s
+    over h k = sym (none-left p s i h k) ∙ e
 
     -- b says whether the pattern stands here
-    module _ (h : i < length s) (b : Bool) (q : b ≡ startsWith p (take (length s - i) (drop i s))) where
-      all-of : b ≡ startsWith p (drop i s)
-      all-of = rw (take-all (length s - i) (drop i s) (omega (arith, length-drop i s))) at q
-
+    module _ (h : i + length p ≤ length s) (b : Bool) (q : b ≡ startsWith p (take (length s - i) (drop i s))) where
       here : b ≡ true → true ≡ contains p s
-      here t = sym (stands p s i n h (sym all-of ∙ t)) ∙ e
+      here t = sym (stands p s i (omega arith) (sym (rw (rest-is s i) at q) ∙ t)) ∙ e
 
-      later : (r : ℕ) → b ≡ false → i + 1 ≤ r → r ≤ length s → Without (getD p 0 0) s (i + 1) r → contains p (drop r s) ≡ contains p s
-      later r f l k w = passed p s (i + 1) r n l k w ∙ sym (tried p s i n h (sym all-of ∙ f)) ∙ e
+      later : (r : ℕ) → b ≡ false → i + 1 ≤ r → r + reach p ≤ length s → Clear p s (i + 1) r → contains p (drop r s) ≡ contains p s
+      later r f l k w =
+          passed p s (reach p) (i + 1) r (omega arith) l k w ∙ sym (tried p s i (omega arith) (sym (rw (rest-is s i) at q) ∙ f)) ∙ e
 
-ruleset walk = (empty-in, begun, over, here, later)
+ruleset walk = (empty-in, short, begun, over, here, later)
 
 abbrev Inv-loop : tie.InvT-loop
-Inv-loop value pattern first i₀ i = (i ≤ length value) × (contains pattern (drop i value) ≡ contains pattern value)
+Inv-loop value pattern reach first last i₀ i = (i ≤ length value) × (i + reach ≤ length value) × (contains pattern (drop i value) ≡ contains pattern value)
 
 abbrev μ-loop : tie.MeasureT-loop
-μ-loop value pattern first i₀ i = length value - i
+μ-loop value pattern reach first last i₀ i = length value - i
 
 returns : tie.Need-returns Inv-loop μ-loop
 returns c = search (needs, walk)
 
+returns-2 : tie.Need-returns-2 Inv-loop μ-loop
+returns-2 c = search (needs, walk)
+
+sub-reach : tie.Need-sub-reach Inv-loop μ-loop
+sub-reach c = search needs
+
 shared-slice-read-first : tie.Need-shared-slice-read-first Inv-loop μ-loop
 shared-slice-read-first c = search needs
 
-skip-others-requires : tie.Need-skip-others-requires Inv-loop μ-loop
-skip-others-requires c κs = search needs
+shared-slice-read-last : tie.Need-shared-slice-read-last Inv-loop μ-loop
+shared-slice-read-last c = search needs
+
+skip-apart-requires : tie.Need-skip-apart-requires Inv-loop μ-loop
+skip-apart-requires c κs = search needs
 
 loop-holds : tie.Need-loop-holds Inv-loop μ-loop
 loop-holds c = search (needs, walk)
+
+add-loop : tie.Need-add-loop Inv-loop μ-loop
+add-loop c = search needs
 
 sub-starts-with : tie.Need-sub-starts-with Inv-loop μ-loop
 sub-starts-with c = search needs
@@ -66,14 +86,14 @@ part-starts-with-end c = search needs
 starts-with-requires : tie.Need-starts-with-requires Inv-loop μ-loop
 starts-with-requires c κs = search needs
 
-returns-2 : tie.Need-returns-2 Inv-loop μ-loop
-returns-2 c = search (needs, walk)
+returns-3 : tie.Need-returns-3 Inv-loop μ-loop
+returns-3 c = search (needs, walk)
 
-add-skip-others : tie.Need-add-skip-others Inv-loop μ-loop
-add-skip-others c = search needs
+add-skip-apart : tie.Need-add-skip-apart Inv-loop μ-loop
+add-skip-apart c = search needs
 
-skip-others-requires-2 : tie.Need-skip-others-requires-2 Inv-loop μ-loop
-skip-others-requires-2 c κs = search needs
+skip-apart-requires-2 : tie.Need-skip-apart-requires-2 Inv-loop μ-loop
+skip-apart-requires-2 c κs = search needs
 
 loop-less : tie.Need-loop-less Inv-loop μ-loop
 loop-less c = search needs
@@ -81,8 +101,8 @@ loop-less c = search needs
 loop-again : tie.Need-loop-again Inv-loop μ-loop
 loop-again c = search (needs, walk)
 
-returns-3 : tie.Need-returns-3 Inv-loop μ-loop
-returns-3 c = search (needs, walk)
+returns-4 : tie.Need-returns-4 Inv-loop μ-loop
+returns-4 c = search (needs, walk)
 
 pub contains-spec : {M : Type 1} → statement M
 contains-spec =
@@ -91,16 +111,20 @@ contains-spec =
     Inv-loop
     μ-loop
     returns
+    returns-2
+    sub-reach
     shared-slice-read-first
-    skip-others-requires
+    shared-slice-read-last
+    skip-apart-requires
     loop-holds
+    add-loop
     sub-starts-with
     part-starts-with-start
     part-starts-with-end
     starts-with-requires
-    returns-2
-    add-skip-others
-    skip-others-requires-2
+    returns-3
+    add-skip-apart
+    skip-apart-requires-2
     loop-less
     loop-again
-    returns-3)
+    returns-4)
