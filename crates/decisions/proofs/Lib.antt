@@ -1,4 +1,5 @@
 pub mod EqualLaws
 pub mod PatternLaws
+pub mod PlaceLaws
 pub mod SearchLaws
 pub mod SignedLaws

@@ -14,7 +14,7 @@ pub enum Order {
 }
 
 // The order that a host's number says.
-pub fn order_of(kind: u8) -> Order
+pub(crate) fn order_of(kind: u8) -> Order
     ensures { λ r. ⌜ r ≡ orderOf kind ⌝ }
 {
     match kind {

@@ -10,7 +10,7 @@ use lib.Dec.{eqb}
 use lib.ListN.{getD}
 use borrow.Author.Tests.{eqb-true}
 use Rattle.decisions.specs.Places.{Apart, oneIfBoth}
-use Rattle.decisions.proofs.SearchLaws.{apart-none, apart-more}
+use Rattle.decisions.proofs.PlaceLaws.{apart-none, apart-more}
 use borrow.Author.Needs.{needs}
 use Rattle.decisions.proofs.search.apart.Statement.{statement}
 use Rattle.decisions.proofs.search.apart.Tie as tie

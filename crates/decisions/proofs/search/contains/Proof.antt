@@ -10,7 +10,8 @@ use Rattle.text.specs.Parts.{startsWith}
 use Rattle.verdicts.specs.Decisions.{contains}
 use Rattle.decisions.specs.Places.{Apart}
 use Rattle.decisions.proofs.EqualLaws.{rest-is}
-use Rattle.decisions.proofs.SearchLaws.{empty-in, too-short, none-left, tried, stands, passed}
+use Rattle.decisions.proofs.SearchLaws.{empty-in, tried, stands}
+use Rattle.decisions.proofs.PlaceLaws.{too-short, short-left, passed-by}
 use borrow.Author.Needs.{needs}
 use Rattle.decisions.proofs.search.contains.Statement.{statement}
 use Rattle.decisions.proofs.search.contains.Tie as tie
@@ -27,20 +28,20 @@ Clear p s i j = Apart (getD p 0 0) (getD p (reach p) 0) (reach p) s i j
 
 module _ (p s : List ℕ) (n : length p ≡ 0 → ⊥) where
   begun : (r : ℕ) → r + reach p ≤ length s → Clear p s 0 r → contains p (drop r s) ≡ contains p s
-  begun r h w = passed p s (reach p) 0 r (omega arith) (omega arith) h w
+  begun r h w = passed-by p s (reach p) 0 r (omega arith) (omega arith) h w
 
   module _ (i : ℕ) (e : contains p (drop i s) ≡ contains p s) where
     over : length s < i + length p → i ≤ length s → false ≡ contains p s
-    over h k = sym (none-left p s i h k) ∙ e
+    over h k = sym (short-left p s i h k) ∙ e
 
     -- b says whether the pattern stands here
     module _ (h : i + length p ≤ length s) (b : Bool) (q : b ≡ startsWith p (take (length s - i) (drop i s))) where
       here : b ≡ true → true ≡ contains p s
-      here t = sym (stands p s i (omega arith) (sym (rw (rest-is s i) at q) ∙ t)) ∙ e
+      here t = sym (stands p s i n (omega arith) (sym (rw (rest-is s i) at q) ∙ t)) ∙ e
 
       later : (r : ℕ) → b ≡ false → i + 1 ≤ r → r + reach p ≤ length s → Clear p s (i + 1) r → contains p (drop r s) ≡ contains p s
       later r f l k w =
-          passed p s (reach p) (i + 1) r (omega arith) l k w ∙ sym (tried p s i (omega arith) (sym (rw (rest-is s i) at q) ∙ f)) ∙ e
+          passed-by p s (reach p) (i + 1) r (omega arith) l k w ∙ sym (tried p s i n (omega arith) (sym (rw (rest-is s i) at q) ∙ f)) ∙ e
 
 ruleset walk = (empty-in, short, begun, over, here, later)
 

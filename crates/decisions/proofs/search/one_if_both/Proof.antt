@@ -1,5 +1,5 @@
 -- `decisions::search::one_if_both` meets its contract. Assumes nothing.
-use Rattle.decisions.proofs.SearchLaws.{apart-steps}
+use Rattle.decisions.proofs.PlaceLaws.{apart-steps}
 use borrow.Author.Needs.{needs}
 use Rattle.decisions.proofs.search.one_if_both.Statement.{statement}
 use Rattle.decisions.proofs.search.one_if_both.Tie as tie

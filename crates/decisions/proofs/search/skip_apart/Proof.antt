@@ -2,7 +2,7 @@
 use Prim.Native.Nat.{_+_, _-_, _≤_}
 use lib.ListN.{length}
 use Rattle.decisions.specs.Places.{Apart}
-use Rattle.decisions.proofs.SearchLaws.{apart-steps}
+use Rattle.decisions.proofs.PlaceLaws.{apart-steps}
 use borrow.Author.Needs.{needs}
 use Rattle.decisions.proofs.search.skip_apart.Statement.{statement}
 use Rattle.decisions.proofs.search.skip_apart.Tie as tie
