@@ -14,7 +14,8 @@ use Rattle.values.specs.Numbers.{allDigits, digits, number, signed}
 use Rattle.script.specs.declared.records.Items.{Items}
 use Rattle.verdicts.specs.Lookup.{joined, bracketed, braced}
 use Rattle.verdicts.specs.Held.{itemText, textsIn}
-use Rattle.joined.specs.Pieces.{listText, Words, words, behind, pieces, piecesOf, pieceCount, row}
+use Rattle.joined.specs.Lists.{listText}
+use Rattle.joined.specs.Pieces.{Words, words, behind, pieces, piecesOf, pieceCount, row}
 
 -- ---- how many
 

@@ -1,4 +1,4 @@
--- A list as it is shown, and the pieces that this is made of: those are looked at one by one, since the list stands nowhere in a row. Assumes nothing.
+-- What only the code needs: a list as it is shown stands nowhere in a row, so its pieces are looked at one by one. Assumes nothing.
 use Prim.Native.Nat.{ℕ, zero, suc, _+_, _*_}
 use mathlib.Core.Bool.{Bool, true, false}
 use mathlib.Core.List.{List, [], _∷_, _++_}
@@ -6,15 +6,7 @@ use lib.ListN.{drop}
 use Rattle.text.specs.Base.{part}
 use Rattle.text.specs.Parts.{startsWith, sameBytes}
 use Rattle.script.specs.declared.records.Items.{Items}
-use Rattle.verdicts.specs.Lookup.{bracketed, braced}
 use Rattle.verdicts.specs.Held.{textsIn}
-
--- features are shown in braces, any other list in brackets
-unfoldable pub listText : (braces : Bool) → List (List ℕ) → List ℕ
-listText true texts = braced texts
-listText false texts = bracketed texts
-
--- ---- pieces
 
 -- the words around the texts of a list, and between two of them
 pub record Words : Type 0 where

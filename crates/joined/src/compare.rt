@@ -5,7 +5,8 @@ ghost use Prim.Native.Nat.{_+_, _≤_, _<_};
 ghost use lib.ListN.{length, getD};
 ghost use Rattle.text.specs.Parts.{sameBytes};
 ghost use Rattle.verdicts.specs.Held.{textsIn};
-ghost use Rattle.joined.specs.Pieces.{listText, piecesOf, pieceCount, rowFrom, opens};
+ghost use Rattle.joined.specs.Lists.{listText};
+ghost use Rattle.joined.specs.Pieces.{piecesOf, pieceCount, rowFrom, opens};
 use script::records::Items;
 
 // Whether the list, from the byte at o of its piece at j on, is the pattern, or only begins with it.

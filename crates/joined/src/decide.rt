@@ -5,12 +5,12 @@ ghost use lib.ListN.{length};
 ghost use Rattle.verdicts.specs.Decisions.{decides};
 ghost use Rattle.verdicts.specs.Expected as expected;
 ghost use Rattle.verdicts.specs.Held.{matchingOf, textsIn};
-ghost use Rattle.joined.specs.Pieces.{listText};
+ghost use Rattle.joined.specs.Lists.{listText};
 use script::records::Items;
 use script::records::Matcher;
 use verdicts::Verdict;
 
-pub fn exact(text: &[u8], braces: bool, r: Items, bytes: &[u8], lists: &[[usize; 2]]) -> Verdict
+fn exact(text: &[u8], braces: bool, r: Items, bytes: &[u8], lists: &[[usize; 2]]) -> Verdict
     requires { ⌜ r .first + r .count ≤ length (now lists) ⌝ }
     requires { ⌜ r .count ≤ 0x8000 ⌝ }
     ensures { λ v. ⌜ v ≡ decides (expected.exact (now (text .entry))) (listText braces (textsIn (now (bytes .entry)) (now (lists .entry)) r)) ⌝ }
@@ -18,7 +18,7 @@ pub fn exact(text: &[u8], braces: bool, r: Items, bytes: &[u8], lists: &[[usize;
     decisions::passed_if(crate::compare::same(text, braces, r, bytes, lists))
 }
 
-pub fn regex(pattern: &[u8], braces: bool, r: Items, bytes: &[u8], lists: &[[usize; 2]]) -> Verdict
+fn regex(pattern: &[u8], braces: bool, r: Items, bytes: &[u8], lists: &[[usize; 2]]) -> Verdict
     requires { ⌜ r .first + r .count ≤ length (now lists) ⌝ }
     requires { ⌜ r .count ≤ 0x8000 ⌝ }
     ensures { λ v. ⌜ v ≡ decides (expected.regex (now (pattern .entry))) (listText braces (textsIn (now (bytes .entry)) (now (lists .entry)) r)) ⌝ }

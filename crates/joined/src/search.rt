@@ -5,7 +5,8 @@ ghost use lib.ListN.{length, drop};
 ghost use Rattle.text.specs.Base.{_or_};
 ghost use Rattle.verdicts.specs.Decisions as decisions;
 ghost use Rattle.verdicts.specs.Held.{textsIn};
-ghost use Rattle.joined.specs.Pieces.{listText, piecesOf, pieceCount, row};
+ghost use Rattle.joined.specs.Lists.{listText};
+ghost use Rattle.joined.specs.Pieces.{piecesOf, pieceCount, row};
 use script::records::Items;
 
 // Whether the pattern stands at some byte of the piece at j; it may go on in the pieces behind. Only places where its first byte may stand are tried.

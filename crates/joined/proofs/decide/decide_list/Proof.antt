@@ -9,7 +9,7 @@ use Rattle.script.specs.declared.records.Matcher.the-variants.{GreaterThan, Les
 use Rattle.verdicts.specs.Decisions.{ordered, decides}
 use Rattle.verdicts.specs.Held.{matchingOf}
 use Rattle.verdicts.specs.declared.Verdict.the-variants.{Failed}
-use Rattle.joined.specs.Pieces.{listText}
+use Rattle.joined.specs.Lists.{listText}
 use Rattle.joined.proofs.PieceLaws.{no-number}
 use borrow.Author.Needs.{needs}
 use Rattle.joined.proofs.decide.decide_list.Statement.{statement}
