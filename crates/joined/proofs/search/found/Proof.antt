@@ -1,6 +1,6 @@
 -- `joined::search::found` meets its contract. The loop's invariant: the pattern stands in the row from here on just where it stands in the whole row.
 -- Assumes nothing.
-use Prim.Native.Nat.{_-_, _≤_}
+use Prim.Native.Nat.{_-_}
 use mathlib.Core.Path.{_≡_, refl}
 use lib.ListN.{length, drop}
 use borrow.Author.Needs.{needs}
@@ -15,7 +15,6 @@ use Rattle.joined.proofs.search.found.Tie as tie
 abbrev Inv-loop : tie.InvT-loop
 Inv-loop bytes lists signs n r pattern end j₀ j =
     (end ≡ length (piecesOf bytes lists signs n r))
-    × (j ≤ end)
     × (contains pattern (row (drop j (piecesOf bytes lists signs n r))) ≡ contains pattern (row (piecesOf bytes lists signs n r)))
 
 abbrev μ-loop : tie.MeasureT-loop
@@ -28,7 +27,7 @@ piece-count-requires : tie.Need-piece-count-requires Inv-loop μ-loop
 piece-count-requires c κs = search needs
 
 loop-holds : tie.Need-loop-holds Inv-loop μ-loop
-loop-holds c = (search (needs, count-is), search needs, refl)
+loop-holds c = (search (needs, count-is), refl)
 
 found-in-requires : tie.Need-found-in-requires Inv-loop μ-loop
 found-in-requires c κs = search needs
