@@ -3,7 +3,6 @@ use Prim.Native.Nat.{ℕ}
 use mathlib.Core.Path.{_≡_}
 use mathlib.Core.List.{List, [], _∷_, _++_, map}
 use mathlib.Core.Option.{Option, none, some, Option·getD}
-use lib.ListN.{length}
 use Rattle.text.specs.Literal.{utf8}
 use Rattle.values.specs.Decimal.{decimal}
 use Rattle.verdicts.specs.Lookup.{bracketed, braced}

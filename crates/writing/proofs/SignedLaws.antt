@@ -20,7 +20,7 @@ use Rattle.verdicts.specs.Messages.{integer}
 use Rattle.writing.proofs.PutLaws.{Wrote, wrote-then, wrote-one}
 
 -- n, of an integer -(n+1)
-pub under : ℤ → ℕ
+unfoldable pub under : ℤ → ℕ
 under (pos n) = n
 under (negsuc n) = n
 
@@ -61,7 +61,7 @@ written-above (negsuc n) h = absurd (h .le)
 
 -- z as the machine holds it
 module _ (z : ℤ) (f : SFits w64 z) where
-  held : toZ w64 (ofZ w64 z) ≡ z
+  pub held : toZ w64 (ofZ w64 z) ≡ z
   held = toZ-ofZ w64 z f
 
   pub handed : (n : ℕ) → n ≡ natAbs (toZ w64 (ofZ w64 z)) → n ≡ natAbs z
@@ -69,7 +69,7 @@ module _ (z : ℤ) (f : SFits w64 z) where
 
   -- below 0
   module _ (h : ltZ (toZ w64 (ofZ w64 z)) (pos 0) ≡ true) where
-    low : z <ℤ pos 0
+    pub low : z <ℤ pos 0
     low = let e : ltZ z (pos 0) ≡ true = rw held at h in ltZ-yes (rw e tt)
 
     up : toZ w64 (ofZ w64 z) +ℤ pos 1 ≡ sucℤ z
@@ -87,10 +87,10 @@ module _ (z : ℤ) (f : SFits w64 z) where
     pub taken-off : SFits w64 (pos 0 -ℤ toZ w64 (ofZ w64 (toZ w64 (ofZ w64 z) +ℤ pos 1)))
     taken-off = rw down (under-fits z f)
 
-    n-is : toZ w64 (ofZ w64 (pos 0 -ℤ toZ w64 (ofZ w64 (toZ w64 (ofZ w64 z) +ℤ pos 1)))) ≡ pos (under z)
+    pub n-is : toZ w64 (ofZ w64 (pos 0 -ℤ toZ w64 (ofZ w64 (toZ w64 (ofZ w64 z) +ℤ pos 1)))) ≡ pos (under z)
     n-is = toZ-ofZ w64 (pos 0 -ℤ toZ w64 (ofZ w64 (toZ w64 (ofZ w64 z) +ℤ pos 1))) taken-off ∙ down
 
-    small : under z ≤ 0x7FFF_FFFF_FFFF_FFFF
+    pub small : under z ≤ 0x7FFF_FFFF_FFFF_FFFF
     small = omega (arith, under-fits z f .sfits)
 
     pub no-sign : T (nonNeg (toZ w64 (ofZ w64 (pos 0 -ℤ toZ w64 (ofZ w64 (toZ w64 (ofZ w64 z) +ℤ pos 1))))))
@@ -110,7 +110,7 @@ module _ (z : ℤ) (f : SFits w64 z) where
 
   -- from 0 on
   module _ (h : ltZ (toZ w64 (ofZ w64 z)) (pos 0) ≡ false) where
-    high : pos 0 ≤ℤ z
+    pub high : pos 0 ≤ℤ z
     high = let e : ltZ z (pos 0) ≡ false = rw held at h in ltZ-no (rw e tt)
 
     pub high-sign : T (nonNeg (toZ w64 (ofZ w64 z)))

@@ -8,8 +8,6 @@ use Rattle.tables.specs.Written.{writtenAt}
 use Rattle.writing.proofs.PutLaws.{word-laws}
 use Rattle.writing.proofs.words.put_word.Statement.{statement}
 use Rattle.writing.proofs.words.put_word.Tie as tie
-use Rattle.writing.proofs.words.put_word.Reads as reads
-use Rattle.writing.proofs.words.put_word.Lts as lts
 
 abbrev Inv-loop : tie.InvT-loop
 Inv-loop word out₀ at i₀ out i = (i ≤ length word) × (length out ≡ length out₀) × (out ≡ writtenAt at (take i word) out₀)
