@@ -44,6 +44,11 @@ impl Rng {
         z ^ (z >> 31)
     }
 
+    /// Any number.
+    pub fn any(&mut self) -> u64 {
+        self.next()
+    }
+
     /// A number below n.
     pub fn below(&mut self, n: usize) -> usize {
         (self.next() % n as u64) as usize

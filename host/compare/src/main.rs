@@ -10,6 +10,7 @@
 mod agreement;
 mod changes;
 mod coverage;
+mod decisions;
 mod decode;
 mod dump;
 mod folder;
@@ -41,8 +42,15 @@ use std::process::ExitCode;
 use report::Report;
 
 /// Each area makes its own random inputs from the seed, so that a change in one leaves the others as they were.
-const AREAS: [fn(u64, &mut Report); 6] =
-    [text::compare, numbers::compare, hex::compare, unquote::compare, measure::compare, read::compare];
+const AREAS: [fn(u64, &mut Report); 7] = [
+    text::compare,
+    numbers::compare,
+    hex::compare,
+    unquote::compare,
+    measure::compare,
+    read::compare,
+    decisions::compare,
+];
 
 const SEED: u64 = 20_240_229;
 
