@@ -1,13 +1,15 @@
 //! Times the functions of the proved library beside Rust's, in one run.
 //!
 //! First each function on several texts of about 30,000 bytes, then each on its own text at several lengths: an even
-//! row says that the time for a byte does not depend on the length. At last Measure and Read, on texts of their own.
+//! row says that the time for a byte does not depend on the length. Then Measure and Read, on texts of their own, and at
+//! last verdicts and messages.
 
 mod measure;
 mod read;
 mod reference;
 mod texts;
 mod timing;
+mod verdicts;
 
 use std::hint::black_box;
 
@@ -143,4 +145,6 @@ fn main() {
     measure::print();
     println!();
     read::print();
+    println!();
+    verdicts::print();
 }

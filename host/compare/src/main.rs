@@ -14,8 +14,11 @@ mod decisions;
 mod decode;
 mod dump;
 mod folder;
+mod forged;
 mod gen;
 mod hex;
+mod judged;
+mod laid;
 mod layout;
 mod lending;
 mod limits;
@@ -29,9 +32,11 @@ mod row;
 mod sample;
 mod sample_read;
 mod scripts;
+mod subjects;
 mod text;
 mod texts;
 mod unquote;
+mod verdicts;
 mod words;
 mod written;
 
@@ -42,7 +47,7 @@ use std::process::ExitCode;
 use report::Report;
 
 /// Each area makes its own random inputs from the seed, so that a change in one leaves the others as they were.
-const AREAS: [fn(u64, &mut Report); 7] = [
+const AREAS: [fn(u64, &mut Report); 8] = [
     text::compare,
     numbers::compare,
     hex::compare,
@@ -50,6 +55,7 @@ const AREAS: [fn(u64, &mut Report); 7] = [
     measure::compare,
     read::compare,
     decisions::compare,
+    verdicts::compare,
 ];
 
 const SEED: u64 = 20_240_229;

@@ -38,6 +38,44 @@ mod exports {
         pub fn nwscript_exact(text: *const u8, text_len: usize, value: *const u8, value_len: usize) -> u8;
         pub fn nwscript_pattern(pattern: *const u8, pattern_len: usize, value: *const u8, value_len: usize) -> u8;
         pub fn nwscript_ordering(kind: u8, n: i64, value: *const u8, value_len: usize) -> u8;
+        pub fn nwscript_entry_message(
+            text: *const u8,
+            text_len: usize,
+            expect: *const u64,
+            expect_len: usize,
+            n: i64,
+            response: *const u64,
+            response_len: usize,
+            bytes: *const u8,
+            bytes_len: usize,
+            lists: *const [usize; 2],
+            lists_len: usize,
+            scratch: *mut u8,
+            scratch_len: usize,
+            buffer: *mut u8,
+            buffer_len: usize,
+            verdict: *mut u8,
+            len: *mut usize,
+        ) -> u64;
+        pub fn nwscript_handshake_message(
+            text: *const u8,
+            text_len: usize,
+            expect: *const u64,
+            expect_len: usize,
+            n: i64,
+            info: *const u64,
+            info_len: usize,
+            bytes: *const u8,
+            bytes_len: usize,
+            lists: *const [usize; 2],
+            lists_len: usize,
+            scratch: *mut u8,
+            scratch_len: usize,
+            buffer: *mut u8,
+            buffer_len: usize,
+            verdict: *mut u8,
+            len: *mut usize,
+        ) -> u64;
     }
 }
 
@@ -205,4 +243,65 @@ pub fn pattern(pattern: &[u8], value: &[u8]) -> u8 {
 /// reads as `<=`.
 pub fn ordering(kind: u8, n: i64, value: &[u8]) -> u8 {
     unsafe { exports::nwscript_ordering(kind, n, value.as_ptr(), value.len()) }
+}
+
+/// What an expectation is judged against.
+#[derive(Debug, Clone, Copy, PartialEq, Eq)]
+pub enum Against {
+    Response,
+    Handshake,
+}
+
+/// An expectation and what it is judged against, as numbers: its row, the number of its matcher and the row of the
+/// response or of the handshake's information (`crates/rows/specs/Rows.antt` says which number is what). The places in
+/// the first row are places in the text, those in the other in the bytes; lists are ranges of a table of places.
+#[derive(Debug, Clone, Copy)]
+pub struct Asked<'a> {
+    pub text: &'a [u8],
+    pub expect: &'a [u64],
+    pub n: i64,
+    pub against: Against,
+    pub subject: &'a [u64],
+    pub bytes: &'a [u8],
+    pub lists: &'a [[usize; 2]],
+}
+
+/// What Message answers: the refusal's number or 0, the verdict's number and the message's length, both 0 on a refusal.
+#[derive(Debug, Clone, Copy, PartialEq, Eq)]
+pub struct Told {
+    pub refusal: u64,
+    pub verdict: u8,
+    pub len: usize,
+}
+
+/// The message of an expectation, at the front of the buffer; a present value stands at the front of the scratch.
+pub fn message(asked: &Asked, scratch: &mut [u8], buffer: &mut [u8]) -> Told {
+    let call = match asked.against {
+        Against::Response => exports::nwscript_entry_message,
+        Against::Handshake => exports::nwscript_handshake_message,
+    };
+    // Values that no answer has: one that is not written is seen.
+    let (mut verdict, mut len) = (u8::MAX, usize::MAX);
+    let refusal = unsafe {
+        call(
+            asked.text.as_ptr(),
+            asked.text.len(),
+            asked.expect.as_ptr(),
+            asked.expect.len(),
+            asked.n,
+            asked.subject.as_ptr(),
+            asked.subject.len(),
+            asked.bytes.as_ptr(),
+            asked.bytes.len(),
+            asked.lists.as_ptr(),
+            asked.lists.len(),
+            scratch.as_mut_ptr(),
+            scratch.len(),
+            buffer.as_mut_ptr(),
+            buffer.len(),
+            &mut verdict,
+            &mut len,
+        )
+    };
+    Told { refusal, verdict, len }
 }
