@@ -7,12 +7,11 @@ use mathlib.Core.Option.{Option}
 use native.Mathlib.Omega.{arith}
 use lib.ListN.{length, set, length-append}
 use Rattle.text.specs.declared.parts.Span.{Span}
-use Rattle.text.specs.declared.lines.Line.{Line}
 use Rattle.text.specs.Lines.{lineAt}
 use Rattle.text.proofs.LineLaws.{known, lines-none}
 use Rattle.script.specs.Pieces.{place}
 use Rattle.script.specs.Values.{plainRules}
-use Rattle.script.specs.Roles.{Marked, marked, stepOf, rolesFrom, lineSpan}
+use Rattle.script.specs.Roles.{Marked, marked, stepOf, rolesFrom}
 use Rattle.script.specs.Contents.{sayingOf, sayings, expectationOf, expectations, valueOr, lastOf, pairOf, pairs, isOpening, lead}
 use Rattle.script.specs.Inside.{In, SayingIn, RoleIn}
 use Rattle.script.specs.declared.records.Expect.{Expect}
@@ -44,31 +43,34 @@ forward-in text (Unknown a b) i = tt
 forward-in text NoPair i = tt
 forward-in text NoRaw i = tt
 
+-- a place of the text that is later than another
+pub record Later (text : List ℕ) (at n : ℕ) : Type 0 where
+  pub later : at < n
+  pub within : n ≤ length text
+
 module _ (text : List ℕ) (w : Where) (at number : ℕ) where
   -- at the end of the text there is no line
   pub roles-none : length text ≤ at → rolesAt text w at number ≡ []
   unfolding rolesAt rolesFrom
   roles-none h = rw (lines-none text at number h)
 
-  module _ (h : at < length text) (l : Line) (e : l ≡ lineAt text at number) (s : Step) (f : s ≡ stepOf plainRules text w l) where
+  -- s is what the line is, and n where the next one begins
+  module _ (h : at < length text) (s : Step) (n : ℕ) (f : s ≡ stepOf plainRules text w (lineAt text at number)) (g : n ≡ lineAt text at number .next) where
     -- the line at hand, and those below it
-    pub roles-more : rolesAt text w at number ≡ marked number (s .role) ∷ rolesAt text (s .next) (l .next) (number + 1)
+    pub roles-more : rolesAt text w at number ≡ marked number (s .role) ∷ rolesAt text (s .next) n (number + 1)
     unfolding rolesAt rolesFrom
     roles-more =
-        let k = known text at number l h e in
-        rw (k .more, ← f) (ap (λ (n : ℕ). marked n (s .role) ∷ rolesAt text (s .next) (l .next) (number + 1)) (k .called))
+        let k = known text at number (lineAt text at number) h refl in
+        rw (k .more, ← f, g) (ap (λ (m : ℕ). marked m (s .role) ∷ rolesAt text (s .next) (lineAt text at number .next) (number + 1)) (k .called))
 
-    pub line-in : In text (lineSpan l)
-    line-in = let k = known text at number l h e in record { forward = k .forward; inside = k .inside }
-
-    pub line-behind : (from : ℕ) → from ≤ at → from < l .next
-    line-behind from q = omega (arith, known text at number l h e .later)
-
-    pub line-number : number ≤ at + 1 → number ≤ l .next
-    line-number q = omega (arith, known text at number l h e .later)
+    -- the next line begins further on in the text
+    pub line-later : Later text at n
+    line-later = let k = known text at number (lineAt text at number) h refl in rw g (record { later = k .later; within = k .within })
 
     line-role : RoleIn text (s .role)
-    line-role = rw f (role-in text plainRules w l line-in)
+    line-role =
+        let k = known text at number (lineAt text at number) h refl in
+        rw f (role-in text plainRules w (lineAt text at number) (record { forward = k .forward; inside = k .inside }))
 
     pub line-forward : (x : Saying) → s .role ≡ Says x → Forward x
     unfolding RoleIn
@@ -268,4 +270,4 @@ module _ (text : List ℕ) (r : Below) (pairs expects : ℕ) (next : Next) (e : 
   pub says-in : (from : ℕ) → NextIn text from next → NextIn text from (r .next)
   says-in from q = rw e q
 
-pub ruleset turn-laws = (roles-more, line-in, line-forward, says-room, expects-room, led-items, led-expectations)
+pub ruleset turn-laws = (roles-more, line-forward, says-room, expects-room, led-items, led-expectations)

@@ -5,10 +5,12 @@ ghost use lib.ListN.{length};
 ghost use Rattle.script.specs.Contents as Contents;
 ghost use Rattle.script.specs.Contents.{lastOf, lead, sayings};
 ghost use Rattle.script.specs.declared.roles.Key.{Key};
+ghost use Rattle.kept.specs.Kept.{Memo};
 ghost use Rattle.records.specs.Said.{pieceAt};
 ghost use Rattle.tables.specs.Written.{writtenAt};
 ghost use Rattle.below.specs.declared.lines.Next.the-variants as Next;
 ghost use Rattle.below.specs.Below.{belowOf, rolesAt, ahead, aheadOf, NextIn, pairsItems};
+use kept::Kept;
 use script::records::Expectation;
 use script::roles::Opening;
 use script::roles::Role;
@@ -73,6 +75,7 @@ fn at_end(pairs: usize, expects: usize) -> Below
 // Reads the lines from a place on up to the next opening line: pairs are written from item i on, expectations from x on.
 pub fn read_lines(
     text: &[u8],
+    kept: &[Kept],
     from: usize,
     first: usize,
     stands: Where,
@@ -85,6 +88,7 @@ pub fn read_lines(
     x: usize,
 ) -> Below
     requires { ⌜ length (now text) ≤ 0x8000 ⌝ }
+    requires { ⌜ Memo (now text) (now kept) ⌝ }
     requires { ⌜ from ≤ length (now text) ⌝ }
     requires { ⌜ first ≤ from + 1 ⌝ }
     requires { ⌜ 33 ≤ length (now starts) ⌝ }
@@ -107,8 +111,8 @@ pub fn read_lines(
     let mut pairs: usize = 0;
     let mut expects: usize = 0;
     while at < text.len() {
-        let l = text::lines::line_at(text, at, number);
-        let step = roles::steps::step(text, w, l);
+        let turn = kept::look(text, kept, w, at, number);
+        let step = turn.step;
         let role = step.role;
         let next = step.next;
         match role {
@@ -120,12 +124,12 @@ pub fn read_lines(
                 expects += 1;
             }
             Role::Opens(p) => {
-                return at_opening(pairs, expects, number, p, l.next, next);
+                return at_opening(pairs, expects, number, p, turn.next, next);
             }
             Role::Bad(_) => {}
         }
         w = roles::steps::same_place(next);
-        at = l.next;
+        at = turn.next;
         number += 1;
     }
     at_end(pairs, expects)

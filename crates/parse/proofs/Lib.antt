@@ -2,3 +2,4 @@ pub mod BoundLaws
 pub mod MeasureLaws
 pub mod OpenLaws
 pub mod WalkLaws
+pub mod Made

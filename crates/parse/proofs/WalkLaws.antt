@@ -3,7 +3,7 @@ use Prim.Native.Nat.{ℕ, _+_, _*_, _≤_, _<_}
 use native.Mathlib.Omega.{arith}
 use mathlib.Core.Path.{_≡_, sym, ap, _∙_}
 use mathlib.Core.List.{List}
-use lib.ListN.{length}
+use lib.ListN.{length, set}
 use mir.Val.{Fits}
 use mir.Syntax.{w64}
 use Rattle.text.specs.Lines.{lineAt, lines}
@@ -22,6 +22,9 @@ use Rattle.script.specs.declared.roles.Opening.{Opening}
 use Rattle.script.specs.declared.roles.Step.{Step}
 use Rattle.script.specs.declared.roles.Role.the-variants.{Nothing, Says, Expects, Opens, Bad}
 use Rattle.script.proofs.RolesInside.{role-in}
+use Rattle.kept.specs.Kept.{keptOf, Memo}
+use Rattle.kept.specs.declared.Kept.{Kept}
+use Rattle.kept.proofs.KeptLaws.{keep-memo, found-step, found-next}
 use Rattle.parse.specs.declared.measure.What.the-variants.{ThePreamble}
 use Rattle.parse.specs.declared.measure.Open.{Open}
 use Rattle.parse.specs.declared.measure.Measured.the-variants.{Refused, Read}
@@ -99,6 +102,11 @@ module _ (text : List ℕ) (at number : ℕ) (l : Line) (h : at < length text) (
   pub args-in : (w : Where) (s : Step) → s ≡ stepOf plainRules text w l → (p : Opening) → s .role ≡ Opens p → In text (p .args)
   unfolding RoleIn
   args-in w s f p r = rw r at (line-role w s f)
+
+-- what is kept is right when the line at hand is kept too
+pub kept-on : (text : List ℕ) (kept : List Kept) (w : Where) (at number : ℕ) → Memo text kept → (h : at < length text) → (l : Line) → (e : l ≡ lineAt text at number) → (s : Step) → (f : s ≡ stepOf plainRules text w l)
+    → (kept′ : List Kept) → kept′ ≡ set kept number (keptOf at w (l .next) s) → Memo text kept′
+kept-on text kept w at number m h l e s f kept′ q = rw q (keep-memo text kept number at w (l .next) s (found-step text at number h l e w s f) (found-next text at number h l e) m)
 
 pub ruleset walk-laws = (walk-over, walk-bad, small-now, few-now, expects-fit, says-in, args-in, line-in)
 

@@ -3,6 +3,7 @@ ghost use mathlib.Core.Path.{_≡_};
 ghost use Prim.Native.Nat.{_≤_};
 ghost use lib.ListN.{length};
 ghost use Rattle.text.specs.Lines.{lines};
+ghost use Rattle.kept.specs.Kept.{Memo};
 ghost use Rattle.script.specs.Inside.{In, SayingIn};
 ghost use Rattle.script.specs.Operations.{formOf};
 ghost use Rattle.script.specs.Reading.{measured};
@@ -11,6 +12,7 @@ ghost use Rattle.script.specs.declared.roles.Where.the-variants as Stands;
 ghost use Rattle.parse.specs.Measure.{begun, preambleOpen, zeros, entryItems, entryStore, closedItems, closedStore, closeOn, entered, opened, sayOn, walkFrom};
 ghost use Rattle.parse.specs.Bounds.{Small, Few};
 ghost use Rattle.parse.specs.MeasureRead.{measuredOf};
+use kept::Kept;
 use script::records::Counts;
 use script::records::Refusal;
 use script::roles::Key;
@@ -232,10 +234,12 @@ fn open_entry(text: &[u8], p: Opening) -> Open
     begin(What::AnEntry(op), inline)
 }
 
-// One line after another; the first refused line is the answer.
-fn walk(text: &[u8]) -> Measured
+// One line after another; the first refused line is the answer. What each line is is kept.
+pub fn walk(text: &[u8], kept: &mut [Kept]) -> Measured
     requires { ⌜ length (now text) ≤ 0x8000 ⌝ }
+    requires { ⌜ Memo (now text) (now kept) ⌝ }
     ensures { λ r. ⌜ measuredOf r ≡ walkFrom (now (text .entry)) zeros preambleOpen Stands.InPreamble (lines (now (text .entry))) ⌝ }
+    ensures { λ _. ⌜ Memo (now (text .entry)) (now (kept .exit)) × (length (now (kept .exit)) ≡ length (now (kept .entry))) ⌝ }
 {
     let mut t = Counts {
         entries: 0,
@@ -251,6 +255,8 @@ fn walk(text: &[u8]) -> Measured
         let l = text::lines::line_at(text, at, number);
         let step = roles::steps::step(text, w, l);
         let role = step.role;
+        let next = step.next;
+        kept::keep(kept, number, at, w, l.next, step);
         match role {
             Role::Nothing => {}
             Role::Says(s) => o = say_on(text, o, s),
@@ -266,7 +272,6 @@ fn walk(text: &[u8]) -> Measured
                 });
             }
         }
-        let next = step.next;
         w = roles::steps::same_place(next);
         at = l.next;
         number += 1;
@@ -274,9 +279,11 @@ fn walk(text: &[u8]) -> Measured
     Measured::Read(close_on(t, o))
 }
 
-// 1: text too long; 2: not UTF-8; then the lines.
-pub fn measure(text: &[u8]) -> Measured
+// 1: text too long; 2: not UTF-8; then the lines, and what each is is kept.
+pub fn measure_keeping(text: &[u8], kept: &mut [Kept]) -> Measured
+    requires { ⌜ Memo (now text) (now kept) ⌝ }
     ensures { λ r. ⌜ measuredOf r ≡ measured (now (text .entry)) ⌝ }
+    ensures { λ _. ⌜ Memo (now (text .entry)) (now (kept .exit)) × (length (now (kept .exit)) ≡ length (now (kept .entry))) ⌝ }
 {
     if 0x8000 < text.len() {
         return Measured::Refused(Refusal { number: 1, line: 0 });
@@ -284,5 +291,12 @@ pub fn measure(text: &[u8]) -> Measured
     if !text::utf8::well_formed(text) {
         return Measured::Refused(Refusal { number: 2, line: 0 });
     }
-    walk(text)
+    walk(text, kept)
+}
+
+pub fn measure(text: &[u8]) -> Measured
+    ensures { λ r. ⌜ measuredOf r ≡ measured (now (text .entry)) ⌝ }
+{
+    let mut kept = kept::no_room();
+    measure_keeping(text, &mut kept)
 }

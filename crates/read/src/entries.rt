@@ -7,10 +7,12 @@ ghost use Rattle.script.specs.Operations.{formOf};
 ghost use Rattle.script.specs.Inside.{In};
 ghost use Rattle.script.specs.Layout.{laid};
 ghost use Rattle.tables.specs.Written.{itemOf, writtenAt};
+ghost use Rattle.kept.specs.Kept.{Memo};
 ghost use Rattle.below.specs.Below.{ahead, aheadOf, NextIn, rolesAt};
 ghost use Rattle.read.specs.Entries.{takesPairs, entryAt, laidEntry, entriesAhead};
 use below::lines::Ahead;
 use below::lines::Next;
+use kept::Kept;
 use records::calls::Sizes;
 use script::records::Entry;
 use script::records::Expectation;
@@ -50,6 +52,7 @@ fn advanced(z: Sizes, expects: usize, next: Next) -> Advance
 // Reads one entry, whose opening line is ahead, behind n entries, i items, x expectations and b bytes of the store.
 pub fn read_entry(
     text: &[u8],
+    kept: &[Kept],
     a: Ahead,
     entries: &mut [Entry],
     n: usize,
@@ -61,6 +64,7 @@ pub fn read_entry(
     b: usize,
 ) -> Advance
     requires { ⌜ length (now text) ≤ 0x8000 ⌝ }
+    requires { ⌜ Memo (now text) (now kept) ⌝ }
     requires { ⌜ a .at ≤ length (now text) ⌝ }
     requires { ⌜ a .line ≤ a .at ⌝ }
     requires { ⌜ In (now text) (a .opening .args) ⌝ }
@@ -89,6 +93,7 @@ pub fn read_entry(
     let mut ends = [0usize; 33];
     let led = below::lines::read_lines(
         text,
+        kept,
         a.at,
         line + 1,
         stands,
@@ -121,6 +126,7 @@ pub fn read_entry(
 // Reads the entries from the one that comes next on.
 pub fn read_entries(
     text: &[u8],
+    kept: &[Kept],
     first: Next,
     entries: &mut [Entry],
     items: &mut [[usize; 2]],
@@ -130,6 +136,7 @@ pub fn read_entries(
     store: &mut [u8],
 )
     requires { ⌜ length (now text) ≤ 0x8000 ⌝ }
+    requires { ⌜ Memo (now text) (now kept) ⌝ }
     requires { ⌜ NextIn (now text) 0 first ⌝ }
     requires { ⌜ length (entriesAhead (now text) first front early .entries) ≤ length (now entries) ⌝ }
     requires { ⌜ length (entriesAhead (now text) first front early .entries) ≤ 0x8000 ⌝ }
@@ -152,7 +159,19 @@ pub fn read_entries(
         let Next::Entry(a) = next else {
             return;
         };
-        let r = read_entry(text, a, entries, n, items, i, expectations, x, store, b);
+        let r = read_entry(
+            text,
+            kept,
+            a,
+            entries,
+            n,
+            items,
+            i,
+            expectations,
+            x,
+            store,
+            b,
+        );
         n += 1;
         i += r.items;
         x += r.expects;

@@ -5,9 +5,11 @@ ghost use Prim.Native.Nat.{_≤_};
 ghost use lib.ListN.{length};
 ghost use Rattle.script.specs.Reading as Reading;
 ghost use Rattle.script.specs.Reading.{readInto};
+ghost use Rattle.kept.specs.Kept.{Memo};
 ghost use Rattle.tables.specs.Written.{itemOf, writtenAt};
 ghost use Rattle.read.specs.Read.{answerOf, scriptOr, tablesOr, lentOf};
 ghost use Rattle.read.specs.ReadWalk.{shortage, fitOf, readingOf};
+use kept::Kept;
 use parse::measure::Measured;
 use script::records::Counts;
 use script::records::Entry;
@@ -90,6 +92,7 @@ fn lent_of(entries: usize, items: usize, expectations: usize, store: usize) -> C
 // Reads a text that is not refused into tables that are long enough.
 pub fn read_script(
     text: &[u8],
+    kept: &[Kept],
     counts: Counts,
     entries: &mut [Entry],
     items: &mut [[usize; 2]],
@@ -97,6 +100,7 @@ pub fn read_script(
     store: &mut [u8],
 ) -> Script
     requires { ⌜ length (now text) ≤ 0x8000 ⌝ }
+    requires { ⌜ Memo (now text) (now kept) ⌝ }
     requires { ⌜ counts ≡ readingOf (now text) .script .counts ⌝ }
     requires { ⌜ length (readingOf (now text) .tables .entries) ≤ length (now entries) ⌝ }
     requires { ⌜ length (readingOf (now text) .tables .entries) ≤ 0x8000 ⌝ }
@@ -115,6 +119,7 @@ pub fn read_script(
     let mut ends = [0usize; 33];
     let led = below::lines::read_lines(
         text,
+        kept,
         0,
         1,
         Where::InPreamble,
@@ -139,6 +144,7 @@ pub fn read_script(
     let front = f.features + f.server;
     crate::entries::read_entries(
         text,
+        kept,
         next,
         entries,
         items,
@@ -165,7 +171,8 @@ pub fn read(
     ensures { λ _. ⌜ now (expectations .exit) ≡ writtenAt 0 (tablesOr (readInto (lentOf (now (entries .entry)) (now (items .entry)) (now (expectations .entry)) (now (store .entry))) (now (text .entry))) .expectations) (now (expectations .entry)) ⌝ }
     ensures { λ _. ⌜ now (store .exit) ≡ writtenAt 0 (tablesOr (readInto (lentOf (now (entries .entry)) (now (items .entry)) (now (expectations .entry)) (now (store .entry))) (now (text .entry))) .store) (now (store .entry)) ⌝ }
 {
-    let measured = parse::measure::measure(text);
+    let mut kept = kept::blanks();
+    let measured = parse::measure::measure_keeping(text, &mut kept);
     match measured {
         Measured::Refused(r) => Answer::Refused(r),
         Measured::Read(needed) => {
@@ -174,6 +181,7 @@ pub fn read(
                 Fit::Short(r) => Answer::Refused(r),
                 Fit::Enough => Answer::Read(read_script(
                     text,
+                    &kept,
                     needed,
                     entries,
                     items,

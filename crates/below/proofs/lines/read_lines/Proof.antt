@@ -3,7 +3,7 @@ mod Tie
 use Prim.Native.Nat.{ℕ, _+_, _-_, _≤_}
 use mathlib.Core.Logic.{⊎-elim}
 use lib.ListN.{length, set}
-use Rattle.text.proofs.LineLaws.{line-steps}
+use native.Mathlib.Omega.{arith}
 use mathlib.Core.Path.{refl, sym, ap, _∙_}
 use mathlib.Core.List.{_∷_}
 use Rattle.script.specs.Roles.{marked}
@@ -11,13 +11,13 @@ use Rattle.script.specs.Contents as Contents
 use Rattle.script.specs.Contents.{lead, sayings}
 use Rattle.script.specs.declared.roles.Role.{Role}
 use Rattle.below.specs.Below.{rolesAt, aheadOf, NextIn, pairsItems}
-use Rattle.below.proofs.LinesLaws.{Led, led-first, led-at, line-in, line-forward, line-behind, line-number, line-args, says-room, says-fits, expects-room, expects-fits, roles-none, roles-more, turn-laws, opens-lead, opens-ahead, over-lead, over-ahead, done-pairs, done-count, done-items, done-expects, done-values, says-pairs, says-expects, says-ahead, says-in, led-same, led-nothing, led-bad, led-says, led-expects}
+use Rattle.below.proofs.LinesLaws.{Led, led-first, led-at, line-later, line-forward, line-args, says-room, says-fits, expects-room, expects-fits, roles-none, roles-more, turn-laws, opens-lead, opens-ahead, over-lead, over-ahead, done-pairs, done-count, done-items, done-expects, done-values, says-pairs, says-expects, says-ahead, says-in, led-same, led-nothing, led-bad, led-says, led-expects}
 use borrow.Author.Needs.{needs}
 use Rattle.below.proofs.lines.read_lines.Statement.{statement}
 use Rattle.below.proofs.lines.read_lines.Proof.Tie as tie
 
 abbrev Inv-loop : tie.InvT-loop
-Inv-loop text from first starts₀ ends₀ options items₀ i expectations₀ x w₀ at₀ number₀ pairs₀ expects₀ starts ends items expectations w at number pairs expects =
+Inv-loop text kept from first starts₀ ends₀ options items₀ i expectations₀ x w₀ at₀ number₀ pairs₀ expects₀ starts ends items expectations w at number pairs expects =
     (at ≤ length text)
     × (from ≤ at)
     × (length text ≤ 0x8000)
@@ -29,16 +29,13 @@ Inv-loop text from first starts₀ ends₀ options items₀ i expectations₀ x 
     × Led options i x starts₀ ends₀ items₀ expectations₀ (rolesAt text w₀ at₀ number₀) starts ends items expectations pairs expects (rolesAt text w at number)
 
 abbrev μ-loop : tie.MeasureT-loop
-μ-loop text from first starts₀ ends₀ options items₀ i expectations₀ x w₀ at₀ number₀ pairs₀ expects₀ starts ends items expectations w at number pairs expects = length text - at
+μ-loop text kept from first starts₀ ends₀ options items₀ i expectations₀ x w₀ at₀ number₀ pairs₀ expects₀ starts ends items expectations w at number pairs expects = length text - at
 
 loop-holds : tie.Need-loop-holds Inv-loop μ-loop
 loop-holds c = (search needs, search needs, search needs, search needs, search needs, search needs, search needs, search needs, led-first _ _ _ _ _ _ _ _ (search needs) (search needs))
 
-line-at-requires : tie.Need-line-at-requires Inv-loop μ-loop
-line-at-requires c κs = search needs
-
-step-requires : tie.Need-step-requires Inv-loop μ-loop
-step-requires c κs = search (needs, line-steps, line-in)
+look-requires : tie.Need-look-requires Inv-loop μ-loop
+look-requires c κs = search needs
 
 enum-told : tie.Need-enum-told Inv-loop μ-loop
 enum-told c = search needs
@@ -56,8 +53,8 @@ say-requires c κs =
     let P = A .before .before .before in
     let L = P .loop in
     let text = P .before .before .before .before .args .text .now in
-    let m = roles-more text (L .w) (L .at) (L .number) (search needs) (A .before .line-at .result) (search needs) (A .step .result) (search needs) in
-    (search (needs, line-forward), (search needs, (search needs, says-room _ _ _ _ _ _ _ _ (L .starts) (L .ends) (L .items) (L .expectations) (L .pairs) (L .expects) _ (L .inv .8) (L .number) (A .step .result .role) _ m _ (R .role .given .1))))
+    let m = roles-more text (L .w) (L .at) (L .number) (search needs) (A .before .look .result .step) (A .before .look .result .next) (search needs) (search needs) in
+    (line-forward text (L .w) (L .at) (L .number) (search needs) (A .before .look .result .step) (A .before .look .result .next) (search needs) (search needs) _ (R .role .given .1), (search needs, (search needs, says-room _ _ _ _ _ _ _ _ (L .starts) (L .ends) (L .items) (L .expectations) (L .pairs) (L .expects) _ (L .inv .8) (L .number) (A .before .look .result .step .role) _ m _ (R .role .given .1))))
 
 add-pairs : tie.Need-add-pairs Inv-loop μ-loop
 add-pairs c =
@@ -66,8 +63,8 @@ add-pairs c =
     let P = A .before .before .before in
     let L = P .loop in
     let text = P .before .before .before .before .args .text .now in
-    let m = roles-more text (L .w) (L .at) (L .number) (search needs) (A .before .line-at .result) (search needs) (A .step .result) (search needs) in
-    let q = says-fits _ _ _ _ _ _ _ _ (L .starts) (L .ends) (L .items) (L .expectations) (L .pairs) (L .expects) _ (L .inv .8) (L .number) (A .step .result .role) _ m _ (R .role .given .1) 0x8000 (L .inv .6) in
+    let m = roles-more text (L .w) (L .at) (L .number) (search needs) (A .before .look .result .step) (A .before .look .result .next) (search needs) (search needs) in
+    let q = says-fits _ _ _ _ _ _ _ _ (L .starts) (L .ends) (L .items) (L .expectations) (L .pairs) (L .expects) _ (L .inv .8) (L .number) (A .before .look .result .step .role) _ m _ (R .role .given .1) 0x8000 (L .inv .6) in
     search (needs, q, c .before .before .before .before .before .say .ensures .0)
 
 enum-known-role-2 : tie.Need-enum-known-role-2 Inv-loop μ-loop
@@ -83,8 +80,8 @@ add-put-expectation c =
     let P = A .before .before .before in
     let L = P .loop in
     let text = P .before .before .before .before .args .text .now in
-    let m = roles-more text (L .w) (L .at) (L .number) (search needs) (A .before .line-at .result) (search needs) (A .step .result) (search needs) in
-    let q = expects-fits _ _ _ _ _ _ _ _ (L .starts) (L .ends) (L .items) (L .expectations) (L .pairs) (L .expects) _ (L .inv .8) (L .number) (A .step .result .role) _ m _ (R .role2 .given .1) 0x8000 (L .inv .7) in
+    let m = roles-more text (L .w) (L .at) (L .number) (search needs) (A .before .look .result .step) (A .before .look .result .next) (search needs) (search needs) in
+    let q = expects-fits _ _ _ _ _ _ _ _ (L .starts) (L .ends) (L .items) (L .expectations) (L .pairs) (L .expects) _ (L .inv .8) (L .number) (A .before .look .result .step .role) _ m _ (R .role2 .given .1) 0x8000 (L .inv .7) in
     search (needs, q)
 
 put-expectation-requires : tie.Need-put-expectation-requires Inv-loop μ-loop
@@ -94,8 +91,8 @@ put-expectation-requires c κs =
     let P = A .before .before .before in
     let L = P .loop in
     let text = P .before .before .before .before .args .text .now in
-    let m = roles-more text (L .w) (L .at) (L .number) (search needs) (A .before .line-at .result) (search needs) (A .step .result) (search needs) in
-    expects-room _ _ _ _ _ _ _ _ (L .starts) (L .ends) (L .items) (L .expectations) (L .pairs) (L .expects) _ (L .inv .8) (L .number) (A .step .result .role) _ m _ (R .role2 .given .1)
+    let m = roles-more text (L .w) (L .at) (L .number) (search needs) (A .before .look .result .step) (A .before .look .result .next) (search needs) (search needs) in
+    expects-room _ _ _ _ _ _ _ _ (L .starts) (L .ends) (L .items) (L .expectations) (L .pairs) (L .expects) _ (L .inv .8) (L .number) (A .before .look .result .step .role) _ m _ (R .role2 .given .1)
 
 add-expects : tie.Need-add-expects Inv-loop μ-loop
 add-expects c =
@@ -104,8 +101,8 @@ add-expects c =
     let P = A .before .before .before in
     let L = P .loop in
     let text = P .before .before .before .before .args .text .now in
-    let m = roles-more text (L .w) (L .at) (L .number) (search needs) (A .before .line-at .result) (search needs) (A .step .result) (search needs) in
-    let q = expects-fits _ _ _ _ _ _ _ _ (L .starts) (L .ends) (L .items) (L .expectations) (L .pairs) (L .expects) _ (L .inv .8) (L .number) (A .step .result .role) _ m _ (R .role2 .given .1) 0x8000 (L .inv .7) in
+    let m = roles-more text (L .w) (L .at) (L .number) (search needs) (A .before .look .result .step) (A .before .look .result .next) (search needs) (search needs) in
+    let q = expects-fits _ _ _ _ _ _ _ _ (L .starts) (L .ends) (L .items) (L .expectations) (L .pairs) (L .expects) _ (L .inv .8) (L .number) (A .before .look .result .step .role) _ m _ (R .role2 .given .1) 0x8000 (L .inv .7) in
     search (needs, q)
 
 enum-known-role-3 : tie.Need-enum-known-role-3 Inv-loop μ-loop
@@ -134,8 +131,9 @@ returns c =
     let P = A .before .before .before in
     let L = P .loop in
     let text = P .before .before .before .before .args .text .now in
-    let m = roles-more text (L .w) (L .at) (L .number) (search needs) (A .before .line-at .result) (search needs) (A .step .result) (search needs) in
-    let m′ = m ∙ ap (λ (r : Role). marked (L .number) r ∷ rolesAt text (A .step .result .next) (A .before .line-at .result .next) (L .number + 1)) (R .role3 .given .1) in
+    let m = roles-more text (L .w) (L .at) (L .number) (search needs) (A .before .look .result .step) (A .before .look .result .next) (search needs) (search needs) in
+    let m′ = m ∙ ap (λ (r : Role). marked (L .number) r ∷ rolesAt text (A .before .look .result .step .next) (A .before .look .result .next) (L .number + 1)) (R .role3 .given .1) in
+    let k = line-later text (L .w) (L .at) (L .number) (search needs) (A .before .look .result .step) (A .before .look .result .next) (search needs) (search needs) in
     let o = opens-lead _ _ _ _ m′ in
     let D = L .inv .8 in (
       says-pairs text _ _ _ _ (c .at-opening .ensures) _ (done-pairs _ _ _ _ _ _ _ _ (L .starts) (L .ends) (L .items) (L .expectations) (L .pairs) (L .expects) _ D o),
@@ -144,7 +142,7 @@ returns c =
         (
           says-ahead text _ _ _ _ (c .at-opening .ensures) _ (sym (opens-ahead _ _ _ _ m′) ∙ D .onward),
           (
-            says-in text _ _ _ _ (c .at-opening .ensures) _ (search (needs, line-behind), search (needs, line-steps), search (needs, line-number), line-args text (L .w) (L .at) (L .number) (search needs) (A .before .line-at .result) (search needs) (A .step .result) (search needs) _ (R .role3 .given .1)),
+            says-in text _ _ _ _ (c .at-opening .ensures) _ (omega arith, omega arith, omega arith, line-args text (L .w) (L .at) (L .number) (search needs) (A .before .look .result .step) (A .before .look .result .next) (search needs) (search needs) _ (R .role3 .given .1)),
             (
               done-items _ _ _ _ _ _ _ _ (L .starts) (L .ends) (L .items) (L .expectations) (L .pairs) (L .expects) _ D o,
               (
@@ -167,7 +165,12 @@ add-number : tie.Need-add-number Inv-loop μ-loop
 add-number c = search needs
 
 loop-less : tie.Need-loop-less Inv-loop μ-loop
-loop-less c = search (needs, line-steps)
+loop-less c =
+    let A = c .before .before in
+    let L = A .before .before .before .loop in
+    let text = A .before .before .before .before .before .before .before .args .text .now in
+    let k = line-later text (L .w) (L .at) (L .number) (search needs) (A .before .look .result .step) (A .before .look .result .next) (search needs) (search needs) in
+    omega arith
 
 loop-again : tie.Need-loop-again Inv-loop μ-loop
 loop-again c =
@@ -176,11 +179,12 @@ loop-again c =
     let P = A .before .before .before in
     let L = P .loop in
     let text = P .before .before .before .before .args .text .now in
-    let m = roles-more text (L .w) (L .at) (L .number) (search needs) (A .before .line-at .result) (search needs) (A .step .result) (search needs) in (
-      search (needs, line-steps),
-      search (needs, line-steps),
+    let k = line-later text (L .w) (L .at) (L .number) (search needs) (A .before .look .result .step) (A .before .look .result .next) (search needs) (search needs) in
+    let m = roles-more text (L .w) (L .at) (L .number) (search needs) (A .before .look .result .step) (A .before .look .result .next) (search needs) (search needs) in (
+      omega arith,
+      omega arith,
       search needs,
-      search (needs, line-steps),
+      omega arith,
       search needs,
       search needs,
       search needs,
@@ -189,22 +193,22 @@ loop-again c =
           _ _ _ _ _ _ _ _ (C .match .starts) (C .match .ends) (C .match .items) (C .match .expectations) (C .match .pairs) (C .match .expects)
           _
           (⊎-elim
-          (λ w. led-same _ _ _ _ _ _ _ _ _ _ _ _ _ _ _ (led-nothing _ _ _ _ _ _ _ _ (L .starts) (L .ends) (L .items) (L .expectations) (L .pairs) (L .expects) _ (L .inv .8) (L .number) (A .step .result .role) _ m (search needs)) _ _ _ _ _ _ (w .2) (w .3) (w .4) (w .5) (w .6) (w .7))
+          (λ w. led-same _ _ _ _ _ _ _ _ _ _ _ _ _ _ _ (led-nothing _ _ _ _ _ _ _ _ (L .starts) (L .ends) (L .items) (L .expectations) (L .pairs) (L .expects) _ (L .inv .8) (L .number) (A .before .look .result .step .role) _ m (search needs)) _ _ _ _ _ _ (w .2) (w .3) (w .4) (w .5) (w .6) (w .7))
           (⊎-elim
           (λ w.
           led-same _ _ _ _ _ _ _ _ _ _ _ _ _ _ _
-          (led-says _ _ _ _ _ _ _ _ (L .starts) (L .ends) (L .items) (L .expectations) (L .pairs) (L .expects) _ (L .inv .8) (L .number) (A .step .result .role) _ m _ (w .1 .given .1) _ _ _ (w .6 .ensures .1 .0) (w .6 .ensures .1 .1 .0) (w .6 .ensures .1 .1 .1 .0) (w .6 .ensures .1 .1 .1 .1))
+          (led-says _ _ _ _ _ _ _ _ (L .starts) (L .ends) (L .items) (L .expectations) (L .pairs) (L .expects) _ (L .inv .8) (L .number) (A .before .look .result .step .role) _ m _ (w .1 .given .1) _ _ _ (w .6 .ensures .1 .0) (w .6 .ensures .1 .1 .0) (w .6 .ensures .1 .1 .1 .0) (w .6 .ensures .1 .1 .1 .1))
           _ _ _ _ _ _
           (w .12) (w .13) (w .14) (w .15) (w .16 ∙ ap (λ (n : ℕ). L .pairs + n) (w .6 .ensures .0)) (w .17))
           (⊎-elim
           (λ w.
           led-same _ _ _ _ _ _ _ _ _ _ _ _ _ _ _
-          (led-expects _ _ _ _ _ _ _ _ (L .starts) (L .ends) (L .items) (L .expectations) (L .pairs) (L .expects) _ (L .inv .8) (L .number) (A .step .result .role) _ m _ (w .1 .given .1) _ (w .5 .ensures ∙ ap (set (L .expectations) _) (w .3 .ensures)))
+          (led-expects _ _ _ _ _ _ _ _ (L .starts) (L .ends) (L .items) (L .expectations) (L .pairs) (L .expects) _ (L .inv .8) (L .number) (A .before .look .result .step .role) _ m _ (w .1 .given .1) _ (w .5 .ensures ∙ ap (set (L .expectations) _) (w .3 .ensures)))
           _ _ _ _ _ _
           (w .7) (w .8) (w .9) (w .10) (w .11) (w .12))
-          (λ w. led-same _ _ _ _ _ _ _ _ _ _ _ _ _ _ _ (led-bad _ _ _ _ _ _ _ _ (L .starts) (L .ends) (L .items) (L .expectations) (L .pairs) (L .expects) _ (L .inv .8) (L .number) (A .step .result .role) _ m _ (w .1 .given .1)) _ _ _ _ _ _ (w .2) (w .3) (w .4) (w .5) (w .6) (w .7))))
+          (λ w. led-same _ _ _ _ _ _ _ _ _ _ _ _ _ _ _ (led-bad _ _ _ _ _ _ _ _ (L .starts) (L .ends) (L .items) (L .expectations) (L .pairs) (L .expects) _ (L .inv .8) (L .number) (A .before .look .result .step .role) _ m _ (w .1 .given .1)) _ _ _ _ _ _ (w .2) (w .3) (w .4) (w .5) (w .6) (w .7))))
           (C .match .came))
-          text (A .step .result .next) _ _ _ refl (c .same-place .ensures),
+          text (A .before .look .result .step .next) _ _ _ refl (c .same-place .ensures),
     )
 
 at-end-requires : tie.Need-at-end-requires Inv-loop μ-loop
@@ -257,8 +261,7 @@ read-lines-spec =
     Inv-loop
     μ-loop
     loop-holds
-    line-at-requires
-    step-requires
+    look-requires
     enum-told
     enum-known-role
     add-say

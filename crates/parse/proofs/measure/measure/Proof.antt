@@ -1,53 +1,22 @@
 -- `parse::measure::measure` meets its contract. Assumes nothing.
-use Prim.Native.Nat.{ℕ, _≤_, _<_}
-use mathlib.Core.Path.{_≡_, sym, _∙_}
-use mathlib.Core.Bool.{Bool, true, false}
-use mathlib.Core.List.{List}
-use lib.ListN.{length}
-use borrow.Author.Tests.{lt-ltb, le-ltb, not-true, not-false}
-use Rattle.text.specs.Lines.{lines}
-use Rattle.text.specs.Utf8.{wellFormed}
-use Rattle.script.specs.Reading.{refusal, measured}
-use Rattle.script.specs.declared.roles.Where.the-variants.{InPreamble}
-use Rattle.parse.specs.declared.measure.Measured.{Measured}
-use Rattle.parse.specs.declared.measure.Measured.the-variants.{Refused}
-use Rattle.parse.specs.Measure.{zeros, preambleOpen, walkFrom, measuredBy}
-use Rattle.parse.specs.MeasureRead.{measuredOf}
-use Rattle.parse.proofs.MeasureLaws.{measured-is}
+mod Tie
 use borrow.Author.Needs.{needs}
 use Rattle.parse.proofs.measure.measure.Statement.{statement}
-use Rattle.parse.proofs.measure.measure.Tie as tie
+use Rattle.parse.proofs.measure.measure.Proof.Tie as tie
 
-module _ (text : List ℕ) where
-  long : 0x8000 < length text → measuredOf (Refused (refusal 1 0)) ≡ measured text
-  unfolding measuredBy measuredOf
-  long h = rw (lt-ltb 0x8000 (length text) h) at (measured-is text)
+no-room-requires : tie.Need-no-room-requires
+no-room-requires c κs = search needs
 
-  module _ (h : length text ≤ 0x8000) (b : Bool) (e : b ≡ wellFormed text) where
-    ill : b ≡ false → measuredOf (Refused (refusal 2 0)) ≡ measured text
-    unfolding measuredBy measuredOf
-    ill f = rw (le-ltb 0x8000 (length text) h, sym e ∙ f) at (measured-is text)
+slice-aggregate-measure-keeping : tie.Need-slice-aggregate-measure-keeping
+slice-aggregate-measure-keeping c = search needs
 
-    walked : b ≡ true → (r : Measured) → measuredOf r ≡ walkFrom text zeros preambleOpen InPreamble (lines text) → measuredOf r ≡ measured text
-    unfolding measuredBy
-    walked t r q = q ∙ (rw (le-ltb 0x8000 (length text) h, sym e ∙ t) at (measured-is text))
-
-ruleset answers = (long, ill, walked, not-true, not-false)
+measure-keeping-requires : tie.Need-measure-keeping-requires
+measure-keeping-requires c κs = search (needs, c .before .no-room .ensures)
 
 returns : tie.Need-returns
-returns c = search (needs, answers)
-
-well-formed-requires : tie.Need-well-formed-requires
-well-formed-requires c κs = search needs
-
-returns-2 : tie.Need-returns-2
-returns-2 c = search (needs, answers)
-
-walk-requires : tie.Need-walk-requires
-walk-requires c κs = search needs
-
-returns-3 : tie.Need-returns-3
-returns-3 c = search (needs, answers)
+returns c = search needs
 
 pub measure-spec : {M : Type 1} → statement M
-measure-spec = tie.close (tie.spec returns well-formed-requires returns-2 walk-requires returns-3)
+measure-spec =
+    tie.close
+    (tie.spec no-room-requires slice-aggregate-measure-keeping measure-keeping-requires returns)

@@ -1,0 +1,26 @@
+-- The kinds of the parameters and of the result of `keep`. Made by tools/walk.py, from what Rattle makes for a twin in which the elements are arrays.
+-- Assumes nothing.
+use Rattle.kept.proofs.Made.KeptElem
+use Rattle.script.proofs.roles.Step
+use Rattle.script.proofs.roles.Step.Laws
+use Rattle.script.proofs.roles.Where
+use Rattle.script.proofs.roles.Where.Laws as Laws'
+use borrow.Fn.Kinds
+use borrow.Kind.MutSlice
+use borrow.Kind.Value as KValue
+use borrow.Rule.Local as RLocal
+use borrow.Table.Rows
+use denote.Enum.Declared
+use denote.Enum.Laws as Laws''
+use denote.Exit
+use denote.Struct.Declared as Declared'
+use denote.Struct.Laws as Laws'3
+use mathlib.Core.List as List
+use mathlib.Core.Path as Path'
+use mir.Syntax as Syntax
+
+abbrev pub ps : List.List (Kinds.PK 1)
+ps = List._∷_ (MutSlice.pMutS KeptElem.R 0 tt) (List._∷_ (Kinds.pNum Syntax.w64) (List._∷_ (Kinds.pNum Syntax.w64) (List._∷_ (KValue.pVal record { ty = Declared.row Where.the-type; one = Path'.refl; val = Laws''.val Where.the-type Laws'.the-laws; tells = Laws''.tells Where.the-type Laws'.the-laws; still = Laws''.still Where.the-type Laws'.the-copy Exit.yes; row = Rows.whole (Declared.row Where.the-type); rd = λ x. x; mk = λ x. x } λ M 𝓤 H A W. record { copies = Laws''.copy Where.the-type Laws'.the-copy 𝓤 H A W; lawful = Laws''.lawful Where.the-type Laws'.the-laws 𝓤 H A W tt; makes = Laws''.makes Where.the-type Laws'.the-plain 𝓤 H A; in-mem = RLocal.mem-whole 𝓤 H A W (Declared.row Where.the-type); of-mem = RLocal.whole-mem 𝓤 H A W (Declared.row Where.the-type) }) (List._∷_ (Kinds.pNum Syntax.w64) (List._∷_ (KValue.pVal record { ty = Declared'.row Step.the-type; one = Path'.refl; val = Laws'3.val Step.the-type Laws.the-laws; tells = Laws'3.tells Step.the-type Laws.the-laws; still = Laws'3.still Step.the-type Laws.the-copy Exit.yes; row = Rows.whole (Declared'.row Step.the-type); rd = λ x. x; mk = λ x. x } λ M 𝓤 H A W. record { copies = Laws'3.copy Step.the-type Laws.the-copy 𝓤 H A W; lawful = Laws'3.lawful Step.the-type Laws.the-laws 𝓤 H A W; makes = Laws'3.makes Step.the-type Laws.the-plain 𝓤 H A; in-mem = RLocal.mem-whole 𝓤 H A W (Declared'.row Step.the-type); of-mem = RLocal.whole-mem 𝓤 H A W (Declared'.row Step.the-type) }) List.[])))))
+
+abbrev pub r : Kinds.RK 1
+r = Kinds.rUnit
