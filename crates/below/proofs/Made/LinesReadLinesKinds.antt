@@ -24,7 +24,7 @@ use mathlib.Core.Path as Path'
 use mir.Syntax as Syntax
 
 abbrev pub ps : List.List (Kinds.PK 6)
-ps = List._∷_ (ShrSlice.pShrS (TReferent.rtF (TReferent.fInt Syntax.w8)) 0 tt) (List._∷_ (ShrSlice.pShrS KeptElem.R 1 tt) (List._∷_ (Kinds.pNum Syntax.w64) (List._∷_ (Kinds.pNum Syntax.w64) (List._∷_ (KValue.pVal record { ty = Declared.row Where.the-type; one = Path'.refl; val = Laws''.val Where.the-type Laws'.the-laws; tells = Laws''.tells Where.the-type Laws'.the-laws; still = Laws''.still Where.the-type Laws'.the-copy Exit.yes; row = Rows.whole (Declared.row Where.the-type); rd = λ x. x; mk = λ x. x; } λ M 𝓤 H A W. record { copies = Laws''.copy Where.the-type Laws'.the-copy 𝓤 H A W; lawful = Laws''.lawful Where.the-type Laws'.the-laws 𝓤 H A W tt; makes = Laws''.makes Where.the-type Laws'.the-plain 𝓤 H A; in-mem = RLocal.mem-whole 𝓤 H A W (Declared.row Where.the-type); of-mem = RLocal.whole-mem 𝓤 H A W (Declared.row Where.the-type); }) (List._∷_ (MutSlice.pMutS (TReferent.rtF (TReferent.fInt Syntax.w64)) 2 tt) (List._∷_ (MutSlice.pMutS (TReferent.rtF (TReferent.fInt Syntax.w64)) 3 tt) (List._∷_ Kinds.pBool (List._∷_ (MutSlice.pMutS (DArray.Array (TReferent.rtF (TReferent.fInt Syntax.w64)) 2) 4 tt) (List._∷_ (Kinds.pNum Syntax.w64) (List._∷_ (MutSlice.pMutS ExpectationElem.R 5 tt) (List._∷_ (Kinds.pNum Syntax.w64) List.[])))))))))))
+ps = List._∷_ (ShrSlice.pShrS (TReferent.rtF (TReferent.fInt Syntax.w8)) 0 tt) (List._∷_ (ShrSlice.pShrS KeptElem.R 1 tt) (List._∷_ (Kinds.pNum Syntax.w64) (List._∷_ (Kinds.pNum Syntax.w64) (List._∷_ (KValue.pVal record { ty = Declared.row Where.the-type; one = Path'.refl; val = Laws''.val Where.the-type Laws'.the-laws; tells = Laws''.tells Where.the-type Laws'.the-laws; still = Laws''.still Where.the-type Laws'.the-copy Exit.yes; row = Rows.whole (Declared.row Where.the-type); rd = λ x. x; mk = λ x. x } λ M 𝓤 H A W. record { copies = Laws''.copy Where.the-type Laws'.the-copy 𝓤 H A W; lawful = Laws''.lawful Where.the-type Laws'.the-laws 𝓤 H A W tt; makes = Laws''.makes Where.the-type Laws'.the-plain 𝓤 H A; in-mem = RLocal.mem-whole 𝓤 H A W (Declared.row Where.the-type); of-mem = RLocal.whole-mem 𝓤 H A W (Declared.row Where.the-type) }) (List._∷_ (MutSlice.pMutS (TReferent.rtF (TReferent.fInt Syntax.w64)) 2 tt) (List._∷_ (MutSlice.pMutS (TReferent.rtF (TReferent.fInt Syntax.w64)) 3 tt) (List._∷_ Kinds.pBool (List._∷_ (MutSlice.pMutS (DArray.Array (TReferent.rtF (TReferent.fInt Syntax.w64)) 2) 4 tt) (List._∷_ (Kinds.pNum Syntax.w64) (List._∷_ (MutSlice.pMutS ExpectationElem.R 5 tt) (List._∷_ (Kinds.pNum Syntax.w64) List.[])))))))))))
 
 abbrev pub r : Kinds.RK 6
-r = KValue.rVal record { ty = Declared'.row Below.the-type; one = Path'.refl; val = Laws'3.val Below.the-type Laws.the-laws; tells = Laws'3.tells Below.the-type Laws.the-laws; still = Laws'3.still Below.the-type Laws.the-copy Exit.yes; row = Rows.whole (Declared'.row Below.the-type); rd = λ x. x; mk = λ x. x; } λ M 𝓤 H A W. record { copies = Laws'3.copy Below.the-type Laws.the-copy 𝓤 H A W; lawful = Laws'3.lawful Below.the-type Laws.the-laws 𝓤 H A W; makes = Laws'3.makes Below.the-type Laws.the-plain 𝓤 H A; in-mem = RLocal.mem-whole 𝓤 H A W (Declared'.row Below.the-type); of-mem = RLocal.whole-mem 𝓤 H A W (Declared'.row Below.the-type); }
+r = KValue.rVal record { ty = Declared'.row Below.the-type; one = Path'.refl; val = Laws'3.val Below.the-type Laws.the-laws; tells = Laws'3.tells Below.the-type Laws.the-laws; still = Laws'3.still Below.the-type Laws.the-copy Exit.yes; row = Rows.whole (Declared'.row Below.the-type); rd = λ x. x; mk = λ x. x } λ M 𝓤 H A W. record { copies = Laws'3.copy Below.the-type Laws.the-copy 𝓤 H A W; lawful = Laws'3.lawful Below.the-type Laws.the-laws 𝓤 H A W; makes = Laws'3.makes Below.the-type Laws.the-plain 𝓤 H A; in-mem = RLocal.mem-whole 𝓤 H A W (Declared'.row Below.the-type); of-mem = RLocal.whole-mem 𝓤 H A W (Declared'.row Below.the-type) }

@@ -118,40 +118,40 @@ abbrev τ9 : Syntax.Ty
 τ9 = Syntax.tyStruct (List._∷_ 98 (List._∷_ 101 (List._∷_ 108 (List._∷_ 111 (List._∷_ 119 (List._∷_ 58 (List._∷_ 58 (List._∷_ 108 (List._∷_ 105 (List._∷_ 110 (List._∷_ 101 (List._∷_ 115 (List._∷_ 58 (List._∷_ 58 (List._∷_ 66 (List._∷_ 101 (List._∷_ 108 (List._∷_ 111 (List._∷_ 119 List.[]))))))))))))))))))) (Syntax.tcons (Syntax.tyInt Syntax.w64) (Syntax.tcons (Syntax.tyInt Syntax.w64) (Syntax.tcons (Syntax.tyEnum (List._∷_ 98 (List._∷_ 101 (List._∷_ 108 (List._∷_ 111 (List._∷_ 119 (List._∷_ 58 (List._∷_ 58 (List._∷_ 108 (List._∷_ 105 (List._∷_ 110 (List._∷_ 101 (List._∷_ 115 (List._∷_ 58 (List._∷_ 58 (List._∷_ 78 (List._∷_ 101 (List._∷_ 120 (List._∷_ 116 List.[])))))))))))))))))) (Syntax.ttcons Syntax.tnil (Syntax.ttcons (Syntax.tcons (Syntax.tyStruct (List._∷_ 98 (List._∷_ 101 (List._∷_ 108 (List._∷_ 111 (List._∷_ 119 (List._∷_ 58 (List._∷_ 58 (List._∷_ 108 (List._∷_ 105 (List._∷_ 110 (List._∷_ 101 (List._∷_ 115 (List._∷_ 58 (List._∷_ 58 (List._∷_ 65 (List._∷_ 104 (List._∷_ 101 (List._∷_ 97 (List._∷_ 100 List.[]))))))))))))))))))) (Syntax.tcons (Syntax.tyInt Syntax.w64) (Syntax.tcons (Syntax.tyStruct (List._∷_ 115 (List._∷_ 99 (List._∷_ 114 (List._∷_ 105 (List._∷_ 112 (List._∷_ 116 (List._∷_ 58 (List._∷_ 58 (List._∷_ 114 (List._∷_ 111 (List._∷_ 108 (List._∷_ 101 (List._∷_ 115 (List._∷_ 58 (List._∷_ 58 (List._∷_ 79 (List._∷_ 112 (List._∷_ 101 (List._∷_ 110 (List._∷_ 105 (List._∷_ 110 (List._∷_ 103 List.[])))))))))))))))))))))) (Syntax.tcons (Syntax.tyEnum (List._∷_ 115 (List._∷_ 99 (List._∷_ 114 (List._∷_ 105 (List._∷_ 112 (List._∷_ 116 (List._∷_ 58 (List._∷_ 58 (List._∷_ 114 (List._∷_ 101 (List._∷_ 99 (List._∷_ 111 (List._∷_ 114 (List._∷_ 100 (List._∷_ 115 (List._∷_ 58 (List._∷_ 58 (List._∷_ 83 (List._∷_ 116 (List._∷_ 97 (List._∷_ 109 (List._∷_ 112 List.[])))))))))))))))))))))) (Syntax.ttcons Syntax.tnil (Syntax.ttcons (Syntax.tcons (Syntax.tyStruct (List._∷_ 115 (List._∷_ 99 (List._∷_ 114 (List._∷_ 105 (List._∷_ 112 (List._∷_ 116 (List._∷_ 58 (List._∷_ 58 (List._∷_ 114 (List._∷_ 101 (List._∷_ 99 (List._∷_ 111 (List._∷_ 114 (List._∷_ 100 (List._∷_ 115 (List._∷_ 58 (List._∷_ 58 (List._∷_ 84 (List._∷_ 105 (List._∷_ 109 (List._∷_ 101 List.[]))))))))))))))))))))) (Syntax.tcons Syntax.tyBool (Syntax.tcons (Syntax.tyInt Syntax.w64) (Syntax.tcons (Syntax.tyInt Syntax.w64) Syntax.tnil)))) Syntax.tnil) Syntax.ttnil))) (Syntax.tcons (Syntax.tyEnum (List._∷_ 119 (List._∷_ 105 (List._∷_ 114 (List._∷_ 101 (List._∷_ 58 (List._∷_ 58 (List._∷_ 111 (List._∷_ 112 (List._∷_ 115 (List._∷_ 58 (List._∷_ 58 (List._∷_ 79 (List._∷_ 112 List.[]))))))))))))) (Syntax.ttcons Syntax.tnil (Syntax.ttcons Syntax.tnil (Syntax.ttcons Syntax.tnil (Syntax.ttcons Syntax.tnil (Syntax.ttcons Syntax.tnil (Syntax.ttcons Syntax.tnil (Syntax.ttcons Syntax.tnil (Syntax.ttcons Syntax.tnil (Syntax.ttcons Syntax.tnil (Syntax.ttcons Syntax.tnil (Syntax.ttcons Syntax.tnil (Syntax.ttcons Syntax.tnil (Syntax.ttcons Syntax.tnil (Syntax.ttcons Syntax.tnil (Syntax.ttcons Syntax.tnil (Syntax.ttcons Syntax.tnil (Syntax.ttcons Syntax.tnil (Syntax.ttcons Syntax.tnil (Syntax.ttcons Syntax.tnil (Syntax.ttcons Syntax.tnil (Syntax.ttcons Syntax.tnil (Syntax.ttcons Syntax.tnil (Syntax.ttcons Syntax.tnil (Syntax.ttcons Syntax.tnil (Syntax.ttcons Syntax.tnil (Syntax.ttcons Syntax.tnil (Syntax.ttcons Syntax.tnil (Syntax.ttcons Syntax.tnil (Syntax.ttcons Syntax.tnil (Syntax.ttcons Syntax.tnil (Syntax.ttcons Syntax.tnil (Syntax.ttcons Syntax.tnil (Syntax.ttcons Syntax.tnil (Syntax.ttcons Syntax.tnil (Syntax.ttcons Syntax.tnil (Syntax.ttcons Syntax.tnil (Syntax.ttcons Syntax.tnil Syntax.ttnil)))))))))))))))))))))))))))))))))))))) (Syntax.tcons (Syntax.tyStruct (List._∷_ 116 (List._∷_ 101 (List._∷_ 120 (List._∷_ 116 (List._∷_ 58 (List._∷_ 58 (List._∷_ 112 (List._∷_ 97 (List._∷_ 114 (List._∷_ 116 (List._∷_ 115 (List._∷_ 58 (List._∷_ 58 (List._∷_ 83 (List._∷_ 112 (List._∷_ 97 (List._∷_ 110 List.[]))))))))))))))))) (Syntax.tcons (Syntax.tyInt Syntax.w64) (Syntax.tcons (Syntax.tyInt Syntax.w64) Syntax.tnil))) Syntax.tnil)))) (Syntax.tcons (Syntax.tyInt Syntax.w64) (Syntax.tcons (Syntax.tyEnum (List._∷_ 115 (List._∷_ 99 (List._∷_ 114 (List._∷_ 105 (List._∷_ 112 (List._∷_ 116 (List._∷_ 58 (List._∷_ 58 (List._∷_ 114 (List._∷_ 111 (List._∷_ 108 (List._∷_ 101 (List._∷_ 115 (List._∷_ 58 (List._∷_ 58 (List._∷_ 87 (List._∷_ 104 (List._∷_ 101 (List._∷_ 114 (List._∷_ 101 List.[])))))))))))))))))))) (Syntax.ttcons Syntax.tnil (Syntax.ttcons Syntax.tnil (Syntax.ttcons (Syntax.tcons (Syntax.tyEnum (List._∷_ 115 (List._∷_ 99 (List._∷_ 114 (List._∷_ 105 (List._∷_ 112 (List._∷_ 116 (List._∷_ 58 (List._∷_ 58 (List._∷_ 114 (List._∷_ 111 (List._∷_ 108 (List._∷_ 101 (List._∷_ 115 (List._∷_ 58 (List._∷_ 58 (List._∷_ 84 (List._∷_ 97 (List._∷_ 107 (List._∷_ 101 (List._∷_ 115 List.[])))))))))))))))))))) (Syntax.ttcons Syntax.tnil (Syntax.ttcons Syntax.tnil (Syntax.ttcons Syntax.tnil (Syntax.ttcons Syntax.tnil (Syntax.ttcons Syntax.tnil (Syntax.ttcons Syntax.tnil (Syntax.ttcons Syntax.tnil (Syntax.ttcons Syntax.tnil (Syntax.ttcons Syntax.tnil Syntax.ttnil)))))))))) (Syntax.tcons Syntax.tyBool Syntax.tnil)) (Syntax.ttcons Syntax.tnil Syntax.ttnil))))) Syntax.tnil))))) Syntax.tnil) Syntax.ttnil))) Syntax.tnil)))
 
 abbrev kind0 : KValue.Valued
-kind0 = record { ty = Declared.row Where.the-type; one = Path'.refl; val = Laws'8.val Where.the-type Laws'7.the-laws; tells = Laws'8.tells Where.the-type Laws'7.the-laws; still = Laws'8.still Where.the-type Laws'7.the-copy Exit.yes; row = Rows'.whole (Declared.row Where.the-type); rd = λ x. x; mk = λ x. x; }
+kind0 = record { ty = Declared.row Where.the-type; one = Path'.refl; val = Laws'8.val Where.the-type Laws'7.the-laws; tells = Laws'8.tells Where.the-type Laws'7.the-laws; still = Laws'8.still Where.the-type Laws'7.the-copy Exit.yes; row = Rows'.whole (Declared.row Where.the-type); rd = λ x. x; mk = λ x. x }
 
 abbrev kind0-laws : (M : Type 1) (𝓤 : URA.URA M) (H : Wp.Heap 𝓤) (A : Atoms.Atoms 𝓤) → Kit.Given 𝓤 H A → KValue.ValuedLaws 𝓤 H A kind0
-kind0-laws = λ M 𝓤 H A W. record { copies = Laws'8.copy Where.the-type Laws'7.the-copy 𝓤 H A W; lawful = Laws'8.lawful Where.the-type Laws'7.the-laws 𝓤 H A W tt; makes = Laws'8.makes Where.the-type Laws'7.the-plain 𝓤 H A; in-mem = RLocal.mem-whole 𝓤 H A W (Declared.row Where.the-type); of-mem = RLocal.whole-mem 𝓤 H A W (Declared.row Where.the-type); }
+kind0-laws = λ M 𝓤 H A W. record { copies = Laws'8.copy Where.the-type Laws'7.the-copy 𝓤 H A W; lawful = Laws'8.lawful Where.the-type Laws'7.the-laws 𝓤 H A W tt; makes = Laws'8.makes Where.the-type Laws'7.the-plain 𝓤 H A; in-mem = RLocal.mem-whole 𝓤 H A W (Declared.row Where.the-type); of-mem = RLocal.whole-mem 𝓤 H A W (Declared.row Where.the-type) }
 
 abbrev kind1 : KValue.Valued
-kind1 = record { ty = Declared'.row Below.the-type; one = Path'.refl; val = Laws'10.val Below.the-type Laws.the-laws; tells = Laws'10.tells Below.the-type Laws.the-laws; still = Laws'10.still Below.the-type Laws.the-copy Exit.yes; row = Rows'.whole (Declared'.row Below.the-type); rd = λ x. x; mk = λ x. x; }
+kind1 = record { ty = Declared'.row Below.the-type; one = Path'.refl; val = Laws'10.val Below.the-type Laws.the-laws; tells = Laws'10.tells Below.the-type Laws.the-laws; still = Laws'10.still Below.the-type Laws.the-copy Exit.yes; row = Rows'.whole (Declared'.row Below.the-type); rd = λ x. x; mk = λ x. x }
 
 abbrev kind1-laws : (M : Type 1) (𝓤 : URA.URA M) (H : Wp.Heap 𝓤) (A : Atoms.Atoms 𝓤) → Kit.Given 𝓤 H A → KValue.ValuedLaws 𝓤 H A kind1
-kind1-laws = λ M 𝓤 H A W. record { copies = Laws'10.copy Below.the-type Laws.the-copy 𝓤 H A W; lawful = Laws'10.lawful Below.the-type Laws.the-laws 𝓤 H A W; makes = Laws'10.makes Below.the-type Laws.the-plain 𝓤 H A; in-mem = RLocal.mem-whole 𝓤 H A W (Declared'.row Below.the-type); of-mem = RLocal.whole-mem 𝓤 H A W (Declared'.row Below.the-type); }
+kind1-laws = λ M 𝓤 H A W. record { copies = Laws'10.copy Below.the-type Laws.the-copy 𝓤 H A W; lawful = Laws'10.lawful Below.the-type Laws.the-laws 𝓤 H A W; makes = Laws'10.makes Below.the-type Laws.the-plain 𝓤 H A; in-mem = RLocal.mem-whole 𝓤 H A W (Declared'.row Below.the-type); of-mem = RLocal.whole-mem 𝓤 H A W (Declared'.row Below.the-type) }
 
 abbrev kind2 : KValue.Valued
-kind2 = record { ty = Declared'.row Turn.the-type; one = Path'.refl; val = Laws'10.val Turn.the-type Laws'.the-laws; tells = Laws'10.tells Turn.the-type Laws'.the-laws; still = Laws'10.still Turn.the-type Laws'.the-copy Exit.yes; row = Rows'.whole (Declared'.row Turn.the-type); rd = λ x. x; mk = λ x. x; }
+kind2 = record { ty = Declared'.row Turn.the-type; one = Path'.refl; val = Laws'10.val Turn.the-type Laws'.the-laws; tells = Laws'10.tells Turn.the-type Laws'.the-laws; still = Laws'10.still Turn.the-type Laws'.the-copy Exit.yes; row = Rows'.whole (Declared'.row Turn.the-type); rd = λ x. x; mk = λ x. x }
 
 abbrev kind2-laws : (M : Type 1) (𝓤 : URA.URA M) (H : Wp.Heap 𝓤) (A : Atoms.Atoms 𝓤) → Kit.Given 𝓤 H A → KValue.ValuedLaws 𝓤 H A kind2
-kind2-laws = λ M 𝓤 H A W. record { copies = Laws'10.copy Turn.the-type Laws'.the-copy 𝓤 H A W; lawful = Laws'10.lawful Turn.the-type Laws'.the-laws 𝓤 H A W; makes = Laws'10.makes Turn.the-type Laws'.the-plain 𝓤 H A; in-mem = RLocal.mem-whole 𝓤 H A W (Declared'.row Turn.the-type); of-mem = RLocal.whole-mem 𝓤 H A W (Declared'.row Turn.the-type); }
+kind2-laws = λ M 𝓤 H A W. record { copies = Laws'10.copy Turn.the-type Laws'.the-copy 𝓤 H A W; lawful = Laws'10.lawful Turn.the-type Laws'.the-laws 𝓤 H A W; makes = Laws'10.makes Turn.the-type Laws'.the-plain 𝓤 H A; in-mem = RLocal.mem-whole 𝓤 H A W (Declared'.row Turn.the-type); of-mem = RLocal.whole-mem 𝓤 H A W (Declared'.row Turn.the-type) }
 
 abbrev kind3 : KValue.Valued
-kind3 = record { ty = Declared.row Saying.the-type; one = Path'.refl; val = Laws'8.val Saying.the-type Laws'5.the-laws; tells = Laws'8.tells Saying.the-type Laws'5.the-laws; still = Laws'8.still Saying.the-type Laws'5.the-copy Exit.yes; row = Rows'.whole (Declared.row Saying.the-type); rd = λ x. x; mk = λ x. x; }
+kind3 = record { ty = Declared.row Saying.the-type; one = Path'.refl; val = Laws'8.val Saying.the-type Laws'5.the-laws; tells = Laws'8.tells Saying.the-type Laws'5.the-laws; still = Laws'8.still Saying.the-type Laws'5.the-copy Exit.yes; row = Rows'.whole (Declared.row Saying.the-type); rd = λ x. x; mk = λ x. x }
 
 abbrev kind3-laws : (M : Type 1) (𝓤 : URA.URA M) (H : Wp.Heap 𝓤) (A : Atoms.Atoms 𝓤) → Kit.Given 𝓤 H A → KValue.ValuedLaws 𝓤 H A kind3
-kind3-laws = λ M 𝓤 H A W. record { copies = Laws'8.copy Saying.the-type Laws'5.the-copy 𝓤 H A W; lawful = Laws'8.lawful Saying.the-type Laws'5.the-laws 𝓤 H A W tt; makes = Laws'8.makes Saying.the-type Laws'5.the-plain 𝓤 H A; in-mem = RLocal.mem-whole 𝓤 H A W (Declared.row Saying.the-type); of-mem = RLocal.whole-mem 𝓤 H A W (Declared.row Saying.the-type); }
+kind3-laws = λ M 𝓤 H A W. record { copies = Laws'8.copy Saying.the-type Laws'5.the-copy 𝓤 H A W; lawful = Laws'8.lawful Saying.the-type Laws'5.the-laws 𝓤 H A W tt; makes = Laws'8.makes Saying.the-type Laws'5.the-plain 𝓤 H A; in-mem = RLocal.mem-whole 𝓤 H A W (Declared.row Saying.the-type); of-mem = RLocal.whole-mem 𝓤 H A W (Declared.row Saying.the-type) }
 
 abbrev kind4 : KValue.Valued
-kind4 = record { ty = Declared.row Expect.the-type; one = Path'.refl; val = Laws'8.val Expect.the-type Laws''.the-laws; tells = Laws'8.tells Expect.the-type Laws''.the-laws; still = Laws'8.still Expect.the-type Laws''.the-copy Exit.yes; row = Rows'.whole (Declared.row Expect.the-type); rd = λ x. x; mk = λ x. x; }
+kind4 = record { ty = Declared.row Expect.the-type; one = Path'.refl; val = Laws'8.val Expect.the-type Laws''.the-laws; tells = Laws'8.tells Expect.the-type Laws''.the-laws; still = Laws'8.still Expect.the-type Laws''.the-copy Exit.yes; row = Rows'.whole (Declared.row Expect.the-type); rd = λ x. x; mk = λ x. x }
 
 abbrev kind4-laws : (M : Type 1) (𝓤 : URA.URA M) (H : Wp.Heap 𝓤) (A : Atoms.Atoms 𝓤) → Kit.Given 𝓤 H A → KValue.ValuedLaws 𝓤 H A kind4
-kind4-laws = λ M 𝓤 H A W. record { copies = Laws'8.copy Expect.the-type Laws''.the-copy 𝓤 H A W; lawful = Laws'8.lawful Expect.the-type Laws''.the-laws 𝓤 H A W tt; makes = Laws'8.makes Expect.the-type Laws''.the-plain 𝓤 H A; in-mem = RLocal.mem-whole 𝓤 H A W (Declared.row Expect.the-type); of-mem = RLocal.whole-mem 𝓤 H A W (Declared.row Expect.the-type); }
+kind4-laws = λ M 𝓤 H A W. record { copies = Laws'8.copy Expect.the-type Laws''.the-copy 𝓤 H A W; lawful = Laws'8.lawful Expect.the-type Laws''.the-laws 𝓤 H A W tt; makes = Laws'8.makes Expect.the-type Laws''.the-plain 𝓤 H A; in-mem = RLocal.mem-whole 𝓤 H A W (Declared.row Expect.the-type); of-mem = RLocal.whole-mem 𝓤 H A W (Declared.row Expect.the-type) }
 
 abbrev kind5 : KValue.Valued
-kind5 = record { ty = Declared'.row Opening.the-type; one = Path'.refl; val = Laws'10.val Opening.the-type Laws'3.the-laws; tells = Laws'10.tells Opening.the-type Laws'3.the-laws; still = Laws'10.still Opening.the-type Laws'3.the-copy Exit.yes; row = Rows'.whole (Declared'.row Opening.the-type); rd = λ x. x; mk = λ x. x; }
+kind5 = record { ty = Declared'.row Opening.the-type; one = Path'.refl; val = Laws'10.val Opening.the-type Laws'3.the-laws; tells = Laws'10.tells Opening.the-type Laws'3.the-laws; still = Laws'10.still Opening.the-type Laws'3.the-copy Exit.yes; row = Rows'.whole (Declared'.row Opening.the-type); rd = λ x. x; mk = λ x. x }
 
 abbrev kind5-laws : (M : Type 1) (𝓤 : URA.URA M) (H : Wp.Heap 𝓤) (A : Atoms.Atoms 𝓤) → Kit.Given 𝓤 H A → KValue.ValuedLaws 𝓤 H A kind5
-kind5-laws = λ M 𝓤 H A W. record { copies = Laws'10.copy Opening.the-type Laws'3.the-copy 𝓤 H A W; lawful = Laws'10.lawful Opening.the-type Laws'3.the-laws 𝓤 H A W; makes = Laws'10.makes Opening.the-type Laws'3.the-plain 𝓤 H A; in-mem = RLocal.mem-whole 𝓤 H A W (Declared'.row Opening.the-type); of-mem = RLocal.whole-mem 𝓤 H A W (Declared'.row Opening.the-type); }
+kind5-laws = λ M 𝓤 H A W. record { copies = Laws'10.copy Opening.the-type Laws'3.the-copy 𝓤 H A W; lawful = Laws'10.lawful Opening.the-type Laws'3.the-laws 𝓤 H A W; makes = Laws'10.makes Opening.the-type Laws'3.the-plain 𝓤 H A; in-mem = RLocal.mem-whole 𝓤 H A W (Declared'.row Opening.the-type); of-mem = RLocal.whole-mem 𝓤 H A W (Declared'.row Opening.the-type) }
 
 abbrev pub ps : List.List (Kinds.PK 6)
 ps = List._∷_ (ShrSlice.pShrS (TReferent.rtF (TReferent.fInt Syntax.w8)) 0 tt) (List._∷_ (ShrSlice.pShrS KeptElem.R 1 tt) (List._∷_ (Num.pNum Syntax.w64) (List._∷_ (Num.pNum Syntax.w64) (List._∷_ (KValue.pVal kind0 kind0-laws) (List._∷_ (MutSlice.pMutS (TReferent.rtF (TReferent.fInt Syntax.w64)) 2 tt) (List._∷_ (MutSlice.pMutS (TReferent.rtF (TReferent.fInt Syntax.w64)) 3 tt) (List._∷_ Bool.pBool (List._∷_ (MutSlice.pMutS (DArray.Array (TReferent.rtF (TReferent.fInt Syntax.w64)) 2) 4 tt) (List._∷_ (Num.pNum Syntax.w64) (List._∷_ (MutSlice.pMutS ExpectationElem.R 5 tt) (List._∷_ (Num.pNum Syntax.w64) List.[])))))))))))
@@ -1049,13 +1049,13 @@ module _ (claims· : Claims) where
   s14 = λ bs. RScalar.n-room T17 27 Syntax.tyBool
 
   abbrev s15 : (bs : List.List Nat.ℕ) → Typed.Both T14 T19
-  s15 = λ bs. Call.callB ps·0 r·0 (claims· .0) (claims· .1) T14 (record { pos = 1; ty = Syntax.tyRef (Syntax.named 0) Syntax.imm (Syntax.tyInt Syntax.w8); ref = λ x. x; }, (record { pos = 2; ty = Syntax.tyRef (Syntax.named 1) Syntax.imm KeptElem.behind; ref = λ x. x; }, (record { pos = 13; st = List.[]; d = 0; at = λ x. x }, (Num.vAt 14 λ x. x, (Num.vAt 15 λ x. x, tt))))) 18 (List._∷_ 0 (List._∷_ 1 List.[])) τ1
+  s15 = λ bs. Call.callB ps·0 r·0 (claims· .0) (claims· .1) T14 (record { pos = 1; ty = Syntax.tyRef (Syntax.named 0) Syntax.imm (Syntax.tyInt Syntax.w8); ref = λ x. x }, (record { pos = 2; ty = Syntax.tyRef (Syntax.named 1) Syntax.imm KeptElem.behind; ref = λ x. x }, (record { pos = 13; st = List.[]; d = 0; at = λ x. x }, (Num.vAt 14 λ x. x, (Num.vAt 15 λ x. x, tt))))) 18 (List._∷_ 0 (List._∷_ 1 List.[])) τ1
 
   abbrev s16 : (bs : List.List Nat.ℕ) → Typed.Mo T19 → Typed.Mo T20
   s16 = λ bs. RScalar.n-room T19 13 τ0
 
   abbrev s17 : (bs : List.List Nat.ℕ) → Typed.Both T20 T21
-  s17 = λ bs. WayStmt.k-way-copy-out T20 (Row.out 18 (T20 .locals)) (λ u. Row.drop 18 (T20 .locals) u) 19 (Rows'.whole (Declared'.row Step.the-type)) (λ u. At.getAt (Turn.the-type .parts) 0 (Turn.struct .as-values (u .1 .1 .1 .1 .1 .1 .1 .1 .1 .1 .1 .1 .1 .1 .1 .1 .1 .1 .0))) (λ T′. record { locals = Row.setRow 18 (18, Rows'.whole (Declared'.row Turn.the-type)) T′; slots = List.[]; }) (λ u T′ m′. Row.set 18 (18, Rows'.whole (Declared'.row Turn.the-type)) (u .1 .1 .1 .1 .1 .1 .1 .1 .1 .1 .1 .1 .1 .1 .1 .1 .1 .1 .0) T′ m′) (λ u. Unit) λ u. Unit
+  s17 = λ bs. WayStmt.k-way-copy-out T20 (Row.out 18 (T20 .locals)) (λ u. Row.drop 18 (T20 .locals) u) 19 (Rows'.whole (Declared'.row Step.the-type)) (λ u. At.getAt (Turn.the-type .parts) 0 (Turn.struct .as-values (u .1 .1 .1 .1 .1 .1 .1 .1 .1 .1 .1 .1 .1 .1 .1 .1 .1 .1 .0))) (λ T′. record { locals = Row.setRow 18 (18, Rows'.whole (Declared'.row Turn.the-type)) T′; slots = List.[] }) (λ u T′ m′. Row.set 18 (18, Rows'.whole (Declared'.row Turn.the-type)) (u .1 .1 .1 .1 .1 .1 .1 .1 .1 .1 .1 .1 .1 .1 .1 .1 .1 .1 .0) T′ m′) (λ u. Unit) λ u. Unit
 
   abbrev s18 : (bs : List.List Nat.ℕ) → Typed.Mo T21 → Typed.Mo T22
   s18 = λ bs. Make.n-make (Declared.row Role.the-type) T21 20 λ m. Step.struct .as-values (m .1 .1 .1 .1 .1 .1 .1 .1 .1 .1 .1 .1 .1 .1 .1 .1 .1 .1 .1 .0) .0
@@ -1112,7 +1112,7 @@ module _ (claims· : Claims) where
   s38 = λ bs. RScalar.k-op2 T42 (Syntax.add Syntax.unsigned) (RScalar.oAt 10 (Syntax.tyInt Syntax.w64) (Row.valS (Row.sInt Syntax.w64))) (RScalar.oAt 16 (Syntax.tyInt Syntax.w64) (Row.valS (Row.sInt Syntax.w64))) 35 (Rows'.sc-here (Row.sInt Syntax.w64)) (Row.sInt Syntax.w64 .of)
 
   abbrev s39 : (bs : List.List Nat.ℕ) → Typed.Both T43 T44
-  s39 = λ bs. Call.callB ps·1 r·1 (claims· .2) (claims· .3) T43 (record { pos = 22; st = List.[]; d = 0; at = λ x. x }, (record { pos = 30; ty = Syntax.tyRef Syntax.erased Syntax.mut (Syntax.tyInt Syntax.w64); ref = λ x. x; }, (record { pos = 32; ty = Syntax.tyRef Syntax.erased Syntax.mut (Syntax.tyInt Syntax.w64); ref = λ x. x; }, (Bool.bAt 8 λ x. x, (record { pos = 34; ty = Syntax.tyRef Syntax.erased Syntax.mut (Syntax.tyArray (Syntax.tyInt Syntax.w64) 2); ref = λ x. x; }, (Num.vAt 35 λ x. x, tt)))))) 28 (List._∷_ 6 (List._∷_ 7 (List._∷_ 8 List.[]))) (Syntax.tyInt Syntax.w64)
+  s39 = λ bs. Call.callB ps·1 r·1 (claims· .2) (claims· .3) T43 (record { pos = 22; st = List.[]; d = 0; at = λ x. x }, (record { pos = 30; ty = Syntax.tyRef Syntax.erased Syntax.mut (Syntax.tyInt Syntax.w64); ref = λ x. x }, (record { pos = 32; ty = Syntax.tyRef Syntax.erased Syntax.mut (Syntax.tyInt Syntax.w64); ref = λ x. x }, (Bool.bAt 8 λ x. x, (record { pos = 34; ty = Syntax.tyRef Syntax.erased Syntax.mut (Syntax.tyArray (Syntax.tyInt Syntax.w64) 2); ref = λ x. x }, (Num.vAt 35 λ x. x, tt)))))) 28 (List._∷_ 6 (List._∷_ 7 (List._∷_ 8 List.[]))) (Syntax.tyInt Syntax.w64)
 
   abbrev s40 : (bs : List.List Nat.ℕ) → Typed.Mo T44 → Typed.Mo T45
   s40 = λ bs. RScalar.n-room T44 22 τ4
@@ -1172,7 +1172,7 @@ module _ (claims· : Claims) where
   s65 = λ bs. RScalar.k-op2 T69 (Syntax.add Syntax.unsigned) (RScalar.oAt 12 (Syntax.tyInt Syntax.w64) (Row.valS (Row.sInt Syntax.w64))) (RScalar.oAt 17 (Syntax.tyInt Syntax.w64) (Row.valS (Row.sInt Syntax.w64))) 39 (Rows'.sc-here (Row.sInt Syntax.w64)) (Row.sInt Syntax.w64 .of)
 
   abbrev s66 : (bs : List.List Nat.ℕ) → Typed.Both T70 T71
-  s66 = λ bs. Call.callB ps·3 r·3 (claims· .6) (claims· .7) T70 (record { pos = 38; ty = Syntax.tyRef Syntax.erased Syntax.mut ExpectationElem.behind; ref = λ x. x; }, (Num.vAt 39 λ x. x, (record { pos = 24; st = List.[]; d = 0; at = λ x. x }, tt))) 36 (List._∷_ 9 List.[]) Syntax.tyUnit
+  s66 = λ bs. Call.callB ps·3 r·3 (claims· .6) (claims· .7) T70 (record { pos = 38; ty = Syntax.tyRef Syntax.erased Syntax.mut ExpectationElem.behind; ref = λ x. x }, (Num.vAt 39 λ x. x, (record { pos = 24; st = List.[]; d = 0; at = λ x. x }, tt))) 36 (List._∷_ 9 List.[]) Syntax.tyUnit
 
   abbrev s67 : (bs : List.List Nat.ℕ) → Typed.Mo T71 → Typed.Mo T72
   s67 = λ bs. RScalar.n-room T71 24 ExpectationElem.ty
@@ -1295,7 +1295,7 @@ module _ (claims· : Claims) where
   s108 = λ bs. RScalar.n-room T112 12 (Syntax.tyInt Syntax.w64)
 
   abbrev put0 : List.List (TReferent.rtF (TReferent.fInt Syntax.w64) .Denot) × List.List (TReferent.rtF (TReferent.fInt Syntax.w64) .Denot) × List.List (DArray.Array (TReferent.rtF (TReferent.fInt Syntax.w64)) 2 .Denot) × List.List (ExpectationElem.R .Denot) × Rows'.whole (Declared.row Where.the-type) .Mod × Rows'.sc-here (Row.sInt Syntax.w64) .Mod × Rows'.sc-here (Row.sInt Syntax.w64) .Mod × Rows'.sc-here (Row.sInt Syntax.w64) .Mod × Rows'.sc-here (Row.sInt Syntax.w64) .Mod → Typed.Mo T10 → Typed.Mo T10
-  put0 = λ vs u. Row.set 17 (17, Rows'.sc-here (Row.sInt Syntax.w64)) (vs .8) (T10 .locals) (Row.set 16 (16, Rows'.sc-here (Row.sInt Syntax.w64)) (vs .7) (T10 .locals) (Row.set 15 (15, Rows'.sc-here (Row.sInt Syntax.w64)) (vs .6) (T10 .locals) (Row.set 14 (14, Rows'.sc-here (Row.sInt Syntax.w64)) (vs .5) (T10 .locals) (Row.set 13 (13, Rows'.whole (Declared.row Where.the-type)) (vs .4) (T10 .locals) (Row.set 11 (11, Mut.mslice ExpectationElem.R (Syntax.tyRef (Syntax.named 5) Syntax.mut ExpectationElem.behind) 5) record { ptr = Row.get 11 (T10 .locals) u .ptr; name = Row.get 11 (T10 .locals) u .name; now = vs .3; } (T10 .locals) (Row.set 9 (9, Mut.mslice (DArray.Array (TReferent.rtF (TReferent.fInt Syntax.w64)) 2) (Syntax.tyRef (Syntax.named 4) Syntax.mut (Syntax.tyArray (Syntax.tyInt Syntax.w64) 2)) 4) record { ptr = Row.get 9 (T10 .locals) u .ptr; name = Row.get 9 (T10 .locals) u .name; now = vs .2; } (T10 .locals) (Row.set 7 (7, Mut.mslice (TReferent.rtF (TReferent.fInt Syntax.w64)) (Syntax.tyRef (Syntax.named 3) Syntax.mut (Syntax.tyInt Syntax.w64)) 3) record { ptr = Row.get 7 (T10 .locals) u .ptr; name = Row.get 7 (T10 .locals) u .name; now = vs .1; } (T10 .locals) (Row.set 6 (6, Mut.mslice (TReferent.rtF (TReferent.fInt Syntax.w64)) (Syntax.tyRef (Syntax.named 2) Syntax.mut (Syntax.tyInt Syntax.w64)) 2) record { ptr = Row.get 6 (T10 .locals) u .ptr; name = Row.get 6 (T10 .locals) u .name; now = vs .0; } (T10 .locals) u))))))))
+  put0 = λ vs u. Row.set 17 (17, Rows'.sc-here (Row.sInt Syntax.w64)) (vs .8) (T10 .locals) (Row.set 16 (16, Rows'.sc-here (Row.sInt Syntax.w64)) (vs .7) (T10 .locals) (Row.set 15 (15, Rows'.sc-here (Row.sInt Syntax.w64)) (vs .6) (T10 .locals) (Row.set 14 (14, Rows'.sc-here (Row.sInt Syntax.w64)) (vs .5) (T10 .locals) (Row.set 13 (13, Rows'.whole (Declared.row Where.the-type)) (vs .4) (T10 .locals) (Row.set 11 (11, Mut.mslice ExpectationElem.R (Syntax.tyRef (Syntax.named 5) Syntax.mut ExpectationElem.behind) 5) record { ptr = Row.get 11 (T10 .locals) u .ptr; name = Row.get 11 (T10 .locals) u .name; now = vs .3 } (T10 .locals) (Row.set 9 (9, Mut.mslice (DArray.Array (TReferent.rtF (TReferent.fInt Syntax.w64)) 2) (Syntax.tyRef (Syntax.named 4) Syntax.mut (Syntax.tyArray (Syntax.tyInt Syntax.w64) 2)) 4) record { ptr = Row.get 9 (T10 .locals) u .ptr; name = Row.get 9 (T10 .locals) u .name; now = vs .2 } (T10 .locals) (Row.set 7 (7, Mut.mslice (TReferent.rtF (TReferent.fInt Syntax.w64)) (Syntax.tyRef (Syntax.named 3) Syntax.mut (Syntax.tyInt Syntax.w64)) 3) record { ptr = Row.get 7 (T10 .locals) u .ptr; name = Row.get 7 (T10 .locals) u .name; now = vs .1 } (T10 .locals) (Row.set 6 (6, Mut.mslice (TReferent.rtF (TReferent.fInt Syntax.w64)) (Syntax.tyRef (Syntax.named 2) Syntax.mut (Syntax.tyInt Syntax.w64)) 2) record { ptr = Row.get 6 (T10 .locals) u .ptr; name = Row.get 6 (T10 .locals) u .name; now = vs .0 } (T10 .locals) u))))))))
 
   module _ (Pre· : (κs : Lifetimes.Lfts 6) → Kinds.Dens κs ps → Type 0) (Post· : (κs : Lifetimes.Lfts 6) → (a : Kinds.Dens κs ps) → Kinds.Plain 6 ps r κs) where
     module _ (M : Type 1) where
@@ -1693,346 +1693,346 @@ module _ (claims· : Claims) where
         g47 = List._∷_ (0, Rows'.any-gone τ9) (List._∷_ (1, Rows'.sslice (TReferent.rtF (TReferent.fInt Syntax.w8)) (Syntax.tyRef (Syntax.named 0) Syntax.imm (Syntax.tyInt Syntax.w8)) 0) (List._∷_ (2, Rows'.sslice KeptElem.R (Syntax.tyRef (Syntax.named 1) Syntax.imm KeptElem.behind) 1) (List._∷_ (3, Rows'.sc-here (Row.sInt Syntax.w64)) (List._∷_ (4, Rows'.sc-here (Row.sInt Syntax.w64)) (List._∷_ (5, Rows'.any-gone τ0) (List._∷_ (6, Mut.mslice (TReferent.rtF (TReferent.fInt Syntax.w64)) (Syntax.tyRef (Syntax.named 2) Syntax.mut (Syntax.tyInt Syntax.w64)) 2) (List._∷_ (7, Mut.mslice (TReferent.rtF (TReferent.fInt Syntax.w64)) (Syntax.tyRef (Syntax.named 3) Syntax.mut (Syntax.tyInt Syntax.w64)) 3) (List._∷_ (8, Rows'.sc-here Row.sBool) (List._∷_ (9, Mut.mslice (DArray.Array (TReferent.rtF (TReferent.fInt Syntax.w64)) 2) (Syntax.tyRef (Syntax.named 4) Syntax.mut (Syntax.tyArray (Syntax.tyInt Syntax.w64) 2)) 4) (List._∷_ (10, Rows'.sc-here (Row.sInt Syntax.w64)) (List._∷_ (11, Relend.mslice-owed ExpectationElem.R (Syntax.tyRef (Syntax.named 5) Syntax.mut ExpectationElem.behind) 5 9 (Row.lease (κs .1 .1 .1 .1 .1 .0) (qs .1 .1 .1 .1 .1 .0))) (List._∷_ (12, Rows'.sc-here (Row.sInt Syntax.w64)) (List._∷_ (13, Rows'.any-gone τ0) (List._∷_ (14, Rows'.any-gone (Syntax.tyInt Syntax.w64)) (List._∷_ (15, Rows'.sc-here (Row.sInt Syntax.w64)) List.[])))))))))))))))
 
         abbrev G0 : Row.Cx
-        G0 = record { locals = List._++_ t0 (List._++_ t1 t2); slots = List._∷_ (Row.lease (κs .0) (qs .0)) (List._∷_ (Row.lease (κs .1 .0) (qs .1 .0)) (List._∷_ (Row.lease (κs .1 .1 .0) (qs .1 .1 .0)) (List._∷_ (Row.lease (κs .1 .1 .1 .0) (qs .1 .1 .1 .0)) (List._∷_ (Row.lease (κs .1 .1 .1 .1 .0) (qs .1 .1 .1 .1 .0)) (List._∷_ (Row.lease (κs .1 .1 .1 .1 .1 .0) (qs .1 .1 .1 .1 .1 .0)) (List._∷_ Row.off (List._∷_ Row.off (List._∷_ Row.off (List._∷_ Row.off List.[]))))))))); }
+        G0 = record { locals = List._++_ t0 (List._++_ t1 t2); slots = List._∷_ (Row.lease (κs .0) (qs .0)) (List._∷_ (Row.lease (κs .1 .0) (qs .1 .0)) (List._∷_ (Row.lease (κs .1 .1 .0) (qs .1 .1 .0)) (List._∷_ (Row.lease (κs .1 .1 .1 .0) (qs .1 .1 .1 .0)) (List._∷_ (Row.lease (κs .1 .1 .1 .1 .0) (qs .1 .1 .1 .1 .0)) (List._∷_ (Row.lease (κs .1 .1 .1 .1 .1 .0) (qs .1 .1 .1 .1 .1 .0)) (List._∷_ Row.off (List._∷_ Row.off (List._∷_ Row.off (List._∷_ Row.off List.[]))))))))) }
 
         abbrev G1 : Row.Cx
-        G1 = record { locals = List._++_ t3 (List._++_ t1 t2); slots = List._∷_ (Row.lease (κs .0) (qs .0)) (List._∷_ (Row.lease (κs .1 .0) (qs .1 .0)) (List._∷_ (Row.lease (κs .1 .1 .0) (qs .1 .1 .0)) (List._∷_ (Row.lease (κs .1 .1 .1 .0) (qs .1 .1 .1 .0)) (List._∷_ (Row.lease (κs .1 .1 .1 .1 .0) (qs .1 .1 .1 .1 .0)) (List._∷_ (Row.lease (κs .1 .1 .1 .1 .1 .0) (qs .1 .1 .1 .1 .1 .0)) (List._∷_ Row.off (List._∷_ Row.off (List._∷_ Row.off (List._∷_ Row.off List.[]))))))))); }
+        G1 = record { locals = List._++_ t3 (List._++_ t1 t2); slots = List._∷_ (Row.lease (κs .0) (qs .0)) (List._∷_ (Row.lease (κs .1 .0) (qs .1 .0)) (List._∷_ (Row.lease (κs .1 .1 .0) (qs .1 .1 .0)) (List._∷_ (Row.lease (κs .1 .1 .1 .0) (qs .1 .1 .1 .0)) (List._∷_ (Row.lease (κs .1 .1 .1 .1 .0) (qs .1 .1 .1 .1 .0)) (List._∷_ (Row.lease (κs .1 .1 .1 .1 .1 .0) (qs .1 .1 .1 .1 .1 .0)) (List._∷_ Row.off (List._∷_ Row.off (List._∷_ Row.off (List._∷_ Row.off List.[]))))))))) }
 
         abbrev G2 : Row.Cx
-        G2 = record { locals = List._++_ t0 (List._++_ t1 t2); slots = List._∷_ (Row.lease (κs .0) (qs .0)) (List._∷_ (Row.lease (κs .1 .0) (qs .1 .0)) (List._∷_ (Row.lease (κs .1 .1 .0) (qs .1 .1 .0)) (List._∷_ (Row.lease (κs .1 .1 .1 .0) (qs .1 .1 .1 .0)) (List._∷_ (Row.lease (κs .1 .1 .1 .1 .0) (qs .1 .1 .1 .1 .0)) (List._∷_ (Row.lease (κs .1 .1 .1 .1 .1 .0) (qs .1 .1 .1 .1 .1 .0)) (List._∷_ Row.off (List._∷_ Row.off (List._∷_ Row.off (List._∷_ Row.off List.[]))))))))); }
+        G2 = record { locals = List._++_ t0 (List._++_ t1 t2); slots = List._∷_ (Row.lease (κs .0) (qs .0)) (List._∷_ (Row.lease (κs .1 .0) (qs .1 .0)) (List._∷_ (Row.lease (κs .1 .1 .0) (qs .1 .1 .0)) (List._∷_ (Row.lease (κs .1 .1 .1 .0) (qs .1 .1 .1 .0)) (List._∷_ (Row.lease (κs .1 .1 .1 .1 .0) (qs .1 .1 .1 .1 .0)) (List._∷_ (Row.lease (κs .1 .1 .1 .1 .1 .0) (qs .1 .1 .1 .1 .1 .0)) (List._∷_ Row.off (List._∷_ Row.off (List._∷_ Row.off (List._∷_ Row.off List.[]))))))))) }
 
         abbrev G3 : Row.Cx
-        G3 = record { locals = List._++_ t0 (List._++_ t1 t2); slots = List._∷_ (Row.lease (κs .0) (qs .0)) (List._∷_ (Row.lease (κs .1 .0) (qs .1 .0)) (List._∷_ (Row.lease (κs .1 .1 .0) (qs .1 .1 .0)) (List._∷_ (Row.lease (κs .1 .1 .1 .0) (qs .1 .1 .1 .0)) (List._∷_ (Row.lease (κs .1 .1 .1 .1 .0) (qs .1 .1 .1 .1 .0)) (List._∷_ (Row.lease (κs .1 .1 .1 .1 .1 .0) (qs .1 .1 .1 .1 .1 .0)) (List._∷_ Row.off (List._∷_ Row.off (List._∷_ Row.off (List._∷_ Row.off List.[]))))))))); }
+        G3 = record { locals = List._++_ t0 (List._++_ t1 t2); slots = List._∷_ (Row.lease (κs .0) (qs .0)) (List._∷_ (Row.lease (κs .1 .0) (qs .1 .0)) (List._∷_ (Row.lease (κs .1 .1 .0) (qs .1 .1 .0)) (List._∷_ (Row.lease (κs .1 .1 .1 .0) (qs .1 .1 .1 .0)) (List._∷_ (Row.lease (κs .1 .1 .1 .1 .0) (qs .1 .1 .1 .1 .0)) (List._∷_ (Row.lease (κs .1 .1 .1 .1 .1 .0) (qs .1 .1 .1 .1 .1 .0)) (List._∷_ Row.off (List._∷_ Row.off (List._∷_ Row.off (List._∷_ Row.off List.[]))))))))) }
 
         abbrev G4 : Row.Cx
-        G4 = record { locals = List._++_ t0 (List._++_ t1 t2); slots = List._∷_ (Row.lease (κs .0) (qs .0)) (List._∷_ (Row.lease (κs .1 .0) (qs .1 .0)) (List._∷_ (Row.lease (κs .1 .1 .0) (qs .1 .1 .0)) (List._∷_ (Row.lease (κs .1 .1 .1 .0) (qs .1 .1 .1 .0)) (List._∷_ (Row.lease (κs .1 .1 .1 .1 .0) (qs .1 .1 .1 .1 .0)) (List._∷_ (Row.lease (κs .1 .1 .1 .1 .1 .0) (qs .1 .1 .1 .1 .1 .0)) (List._∷_ Row.off (List._∷_ Row.off (List._∷_ Row.off (List._∷_ Row.off List.[]))))))))); }
+        G4 = record { locals = List._++_ t0 (List._++_ t1 t2); slots = List._∷_ (Row.lease (κs .0) (qs .0)) (List._∷_ (Row.lease (κs .1 .0) (qs .1 .0)) (List._∷_ (Row.lease (κs .1 .1 .0) (qs .1 .1 .0)) (List._∷_ (Row.lease (κs .1 .1 .1 .0) (qs .1 .1 .1 .0)) (List._∷_ (Row.lease (κs .1 .1 .1 .1 .0) (qs .1 .1 .1 .1 .0)) (List._∷_ (Row.lease (κs .1 .1 .1 .1 .1 .0) (qs .1 .1 .1 .1 .1 .0)) (List._∷_ Row.off (List._∷_ Row.off (List._∷_ Row.off (List._∷_ Row.off List.[]))))))))) }
 
         abbrev G5 : Row.Cx
-        G5 = record { locals = List._++_ t4 (List._++_ t1 t2); slots = List._∷_ (Row.lease (κs .0) (qs .0)) (List._∷_ (Row.lease (κs .1 .0) (qs .1 .0)) (List._∷_ (Row.lease (κs .1 .1 .0) (qs .1 .1 .0)) (List._∷_ (Row.lease (κs .1 .1 .1 .0) (qs .1 .1 .1 .0)) (List._∷_ (Row.lease (κs .1 .1 .1 .1 .0) (qs .1 .1 .1 .1 .0)) (List._∷_ (Row.lease (κs .1 .1 .1 .1 .1 .0) (qs .1 .1 .1 .1 .1 .0)) (List._∷_ Row.off (List._∷_ Row.off (List._∷_ Row.off (List._∷_ Row.off List.[]))))))))); }
+        G5 = record { locals = List._++_ t4 (List._++_ t1 t2); slots = List._∷_ (Row.lease (κs .0) (qs .0)) (List._∷_ (Row.lease (κs .1 .0) (qs .1 .0)) (List._∷_ (Row.lease (κs .1 .1 .0) (qs .1 .1 .0)) (List._∷_ (Row.lease (κs .1 .1 .1 .0) (qs .1 .1 .1 .0)) (List._∷_ (Row.lease (κs .1 .1 .1 .1 .0) (qs .1 .1 .1 .1 .0)) (List._∷_ (Row.lease (κs .1 .1 .1 .1 .1 .0) (qs .1 .1 .1 .1 .1 .0)) (List._∷_ Row.off (List._∷_ Row.off (List._∷_ Row.off (List._∷_ Row.off List.[]))))))))) }
 
         abbrev G6 : Row.Cx
-        G6 = record { locals = List._++_ t5 (List._++_ t1 t2); slots = List._∷_ (Row.lease (κs .0) (qs .0)) (List._∷_ (Row.lease (κs .1 .0) (qs .1 .0)) (List._∷_ (Row.lease (κs .1 .1 .0) (qs .1 .1 .0)) (List._∷_ (Row.lease (κs .1 .1 .1 .0) (qs .1 .1 .1 .0)) (List._∷_ (Row.lease (κs .1 .1 .1 .1 .0) (qs .1 .1 .1 .1 .0)) (List._∷_ (Row.lease (κs .1 .1 .1 .1 .1 .0) (qs .1 .1 .1 .1 .1 .0)) (List._∷_ Row.off (List._∷_ Row.off (List._∷_ Row.off (List._∷_ Row.off List.[]))))))))); }
+        G6 = record { locals = List._++_ t5 (List._++_ t1 t2); slots = List._∷_ (Row.lease (κs .0) (qs .0)) (List._∷_ (Row.lease (κs .1 .0) (qs .1 .0)) (List._∷_ (Row.lease (κs .1 .1 .0) (qs .1 .1 .0)) (List._∷_ (Row.lease (κs .1 .1 .1 .0) (qs .1 .1 .1 .0)) (List._∷_ (Row.lease (κs .1 .1 .1 .1 .0) (qs .1 .1 .1 .1 .0)) (List._∷_ (Row.lease (κs .1 .1 .1 .1 .1 .0) (qs .1 .1 .1 .1 .1 .0)) (List._∷_ Row.off (List._∷_ Row.off (List._∷_ Row.off (List._∷_ Row.off List.[]))))))))) }
 
         abbrev G7 : Row.Cx
-        G7 = record { locals = List._++_ t6 (List._++_ t1 t2); slots = List._∷_ (Row.lease (κs .0) (qs .0)) (List._∷_ (Row.lease (κs .1 .0) (qs .1 .0)) (List._∷_ (Row.lease (κs .1 .1 .0) (qs .1 .1 .0)) (List._∷_ (Row.lease (κs .1 .1 .1 .0) (qs .1 .1 .1 .0)) (List._∷_ (Row.lease (κs .1 .1 .1 .1 .0) (qs .1 .1 .1 .1 .0)) (List._∷_ (Row.lease (κs .1 .1 .1 .1 .1 .0) (qs .1 .1 .1 .1 .1 .0)) (List._∷_ Row.off (List._∷_ Row.off (List._∷_ Row.off (List._∷_ Row.off List.[]))))))))); }
+        G7 = record { locals = List._++_ t6 (List._++_ t1 t2); slots = List._∷_ (Row.lease (κs .0) (qs .0)) (List._∷_ (Row.lease (κs .1 .0) (qs .1 .0)) (List._∷_ (Row.lease (κs .1 .1 .0) (qs .1 .1 .0)) (List._∷_ (Row.lease (κs .1 .1 .1 .0) (qs .1 .1 .1 .0)) (List._∷_ (Row.lease (κs .1 .1 .1 .1 .0) (qs .1 .1 .1 .1 .0)) (List._∷_ (Row.lease (κs .1 .1 .1 .1 .1 .0) (qs .1 .1 .1 .1 .1 .0)) (List._∷_ Row.off (List._∷_ Row.off (List._∷_ Row.off (List._∷_ Row.off List.[]))))))))) }
 
         abbrev G8 : Row.Cx
-        G8 = record { locals = List._++_ t7 (List._++_ t1 t2); slots = List._∷_ (Row.lease (κs .0) (qs .0)) (List._∷_ (Row.lease (κs .1 .0) (qs .1 .0)) (List._∷_ (Row.lease (κs .1 .1 .0) (qs .1 .1 .0)) (List._∷_ (Row.lease (κs .1 .1 .1 .0) (qs .1 .1 .1 .0)) (List._∷_ (Row.lease (κs .1 .1 .1 .1 .0) (qs .1 .1 .1 .1 .0)) (List._∷_ (Row.lease (κs .1 .1 .1 .1 .1 .0) (qs .1 .1 .1 .1 .1 .0)) (List._∷_ Row.off (List._∷_ Row.off (List._∷_ Row.off (List._∷_ Row.off List.[]))))))))); }
+        G8 = record { locals = List._++_ t7 (List._++_ t1 t2); slots = List._∷_ (Row.lease (κs .0) (qs .0)) (List._∷_ (Row.lease (κs .1 .0) (qs .1 .0)) (List._∷_ (Row.lease (κs .1 .1 .0) (qs .1 .1 .0)) (List._∷_ (Row.lease (κs .1 .1 .1 .0) (qs .1 .1 .1 .0)) (List._∷_ (Row.lease (κs .1 .1 .1 .1 .0) (qs .1 .1 .1 .1 .0)) (List._∷_ (Row.lease (κs .1 .1 .1 .1 .1 .0) (qs .1 .1 .1 .1 .1 .0)) (List._∷_ Row.off (List._∷_ Row.off (List._∷_ Row.off (List._∷_ Row.off List.[]))))))))) }
 
         abbrev G9 : Row.Cx
-        G9 = record { locals = List._++_ t7 (List._++_ t8 t2); slots = List._∷_ (Row.lease (κs .0) (qs .0)) (List._∷_ (Row.lease (κs .1 .0) (qs .1 .0)) (List._∷_ (Row.lease (κs .1 .1 .0) (qs .1 .1 .0)) (List._∷_ (Row.lease (κs .1 .1 .1 .0) (qs .1 .1 .1 .0)) (List._∷_ (Row.lease (κs .1 .1 .1 .1 .0) (qs .1 .1 .1 .1 .0)) (List._∷_ (Row.lease (κs .1 .1 .1 .1 .1 .0) (qs .1 .1 .1 .1 .1 .0)) (List._∷_ Row.off (List._∷_ Row.off (List._∷_ Row.off (List._∷_ Row.off List.[]))))))))); }
+        G9 = record { locals = List._++_ t7 (List._++_ t8 t2); slots = List._∷_ (Row.lease (κs .0) (qs .0)) (List._∷_ (Row.lease (κs .1 .0) (qs .1 .0)) (List._∷_ (Row.lease (κs .1 .1 .0) (qs .1 .1 .0)) (List._∷_ (Row.lease (κs .1 .1 .1 .0) (qs .1 .1 .1 .0)) (List._∷_ (Row.lease (κs .1 .1 .1 .1 .0) (qs .1 .1 .1 .1 .0)) (List._∷_ (Row.lease (κs .1 .1 .1 .1 .1 .0) (qs .1 .1 .1 .1 .1 .0)) (List._∷_ Row.off (List._∷_ Row.off (List._∷_ Row.off (List._∷_ Row.off List.[]))))))))) }
 
         abbrev G10 : Row.Cx
-        G10 = record { locals = List._++_ t7 (List._++_ t9 t2); slots = List._∷_ (Row.lease (κs .0) (qs .0)) (List._∷_ (Row.lease (κs .1 .0) (qs .1 .0)) (List._∷_ (Row.lease (κs .1 .1 .0) (qs .1 .1 .0)) (List._∷_ (Row.lease (κs .1 .1 .1 .0) (qs .1 .1 .1 .0)) (List._∷_ (Row.lease (κs .1 .1 .1 .1 .0) (qs .1 .1 .1 .1 .0)) (List._∷_ (Row.lease (κs .1 .1 .1 .1 .1 .0) (qs .1 .1 .1 .1 .1 .0)) (List._∷_ Row.off (List._∷_ Row.off (List._∷_ Row.off (List._∷_ Row.off List.[]))))))))); }
+        G10 = record { locals = List._++_ t7 (List._++_ t9 t2); slots = List._∷_ (Row.lease (κs .0) (qs .0)) (List._∷_ (Row.lease (κs .1 .0) (qs .1 .0)) (List._∷_ (Row.lease (κs .1 .1 .0) (qs .1 .1 .0)) (List._∷_ (Row.lease (κs .1 .1 .1 .0) (qs .1 .1 .1 .0)) (List._∷_ (Row.lease (κs .1 .1 .1 .1 .0) (qs .1 .1 .1 .1 .0)) (List._∷_ (Row.lease (κs .1 .1 .1 .1 .1 .0) (qs .1 .1 .1 .1 .1 .0)) (List._∷_ Row.off (List._∷_ Row.off (List._∷_ Row.off (List._∷_ Row.off List.[]))))))))) }
 
         abbrev G11 : Row.Cx
-        G11 = record { locals = List._++_ t10 (List._++_ t9 t2); slots = List._∷_ (Row.lease (κs .0) (qs .0)) (List._∷_ (Row.lease (κs .1 .0) (qs .1 .0)) (List._∷_ (Row.lease (κs .1 .1 .0) (qs .1 .1 .0)) (List._∷_ (Row.lease (κs .1 .1 .1 .0) (qs .1 .1 .1 .0)) (List._∷_ (Row.lease (κs .1 .1 .1 .1 .0) (qs .1 .1 .1 .1 .0)) (List._∷_ (Row.lease (κs .1 .1 .1 .1 .1 .0) (qs .1 .1 .1 .1 .1 .0)) (List._∷_ Row.off (List._∷_ Row.off (List._∷_ Row.off (List._∷_ Row.off List.[]))))))))); }
+        G11 = record { locals = List._++_ t10 (List._++_ t9 t2); slots = List._∷_ (Row.lease (κs .0) (qs .0)) (List._∷_ (Row.lease (κs .1 .0) (qs .1 .0)) (List._∷_ (Row.lease (κs .1 .1 .0) (qs .1 .1 .0)) (List._∷_ (Row.lease (κs .1 .1 .1 .0) (qs .1 .1 .1 .0)) (List._∷_ (Row.lease (κs .1 .1 .1 .1 .0) (qs .1 .1 .1 .1 .0)) (List._∷_ (Row.lease (κs .1 .1 .1 .1 .1 .0) (qs .1 .1 .1 .1 .1 .0)) (List._∷_ Row.off (List._∷_ Row.off (List._∷_ Row.off (List._∷_ Row.off List.[]))))))))) }
 
         abbrev G12 : Row.Cx
-        G12 = record { locals = List._++_ t7 (List._++_ t11 t2); slots = List._∷_ (Row.lease (κs .0) (qs .0)) (List._∷_ (Row.lease (κs .1 .0) (qs .1 .0)) (List._∷_ (Row.lease (κs .1 .1 .0) (qs .1 .1 .0)) (List._∷_ (Row.lease (κs .1 .1 .1 .0) (qs .1 .1 .1 .0)) (List._∷_ (Row.lease (κs .1 .1 .1 .1 .0) (qs .1 .1 .1 .1 .0)) (List._∷_ (Row.lease (κs .1 .1 .1 .1 .1 .0) (qs .1 .1 .1 .1 .1 .0)) (List._∷_ Row.off (List._∷_ Row.off (List._∷_ Row.off (List._∷_ Row.off List.[]))))))))); }
+        G12 = record { locals = List._++_ t7 (List._++_ t11 t2); slots = List._∷_ (Row.lease (κs .0) (qs .0)) (List._∷_ (Row.lease (κs .1 .0) (qs .1 .0)) (List._∷_ (Row.lease (κs .1 .1 .0) (qs .1 .1 .0)) (List._∷_ (Row.lease (κs .1 .1 .1 .0) (qs .1 .1 .1 .0)) (List._∷_ (Row.lease (κs .1 .1 .1 .1 .0) (qs .1 .1 .1 .1 .0)) (List._∷_ (Row.lease (κs .1 .1 .1 .1 .1 .0) (qs .1 .1 .1 .1 .1 .0)) (List._∷_ Row.off (List._∷_ Row.off (List._∷_ Row.off (List._∷_ Row.off List.[]))))))))) }
 
         abbrev G13 : Row.Cx
-        G13 = record { locals = List._++_ t7 (List._++_ t12 t2); slots = List._∷_ (Row.lease (κs .0) (qs .0)) (List._∷_ (Row.lease (κs .1 .0) (qs .1 .0)) (List._∷_ (Row.lease (κs .1 .1 .0) (qs .1 .1 .0)) (List._∷_ (Row.lease (κs .1 .1 .1 .0) (qs .1 .1 .1 .0)) (List._∷_ (Row.lease (κs .1 .1 .1 .1 .0) (qs .1 .1 .1 .1 .0)) (List._∷_ (Row.lease (κs .1 .1 .1 .1 .1 .0) (qs .1 .1 .1 .1 .1 .0)) (List._∷_ Row.off (List._∷_ Row.off (List._∷_ Row.off (List._∷_ Row.off List.[]))))))))); }
+        G13 = record { locals = List._++_ t7 (List._++_ t12 t2); slots = List._∷_ (Row.lease (κs .0) (qs .0)) (List._∷_ (Row.lease (κs .1 .0) (qs .1 .0)) (List._∷_ (Row.lease (κs .1 .1 .0) (qs .1 .1 .0)) (List._∷_ (Row.lease (κs .1 .1 .1 .0) (qs .1 .1 .1 .0)) (List._∷_ (Row.lease (κs .1 .1 .1 .1 .0) (qs .1 .1 .1 .1 .0)) (List._∷_ (Row.lease (κs .1 .1 .1 .1 .1 .0) (qs .1 .1 .1 .1 .1 .0)) (List._∷_ Row.off (List._∷_ Row.off (List._∷_ Row.off (List._∷_ Row.off List.[]))))))))) }
 
         abbrev G14 : Row.Cx
-        G14 = record { locals = List._++_ t7 (List._++_ t9 t2); slots = List._∷_ (Row.lease (κs .0) (qs .0)) (List._∷_ (Row.lease (κs .1 .0) (qs .1 .0)) (List._∷_ (Row.lease (κs .1 .1 .0) (qs .1 .1 .0)) (List._∷_ (Row.lease (κs .1 .1 .1 .0) (qs .1 .1 .1 .0)) (List._∷_ (Row.lease (κs .1 .1 .1 .1 .0) (qs .1 .1 .1 .1 .0)) (List._∷_ (Row.lease (κs .1 .1 .1 .1 .1 .0) (qs .1 .1 .1 .1 .1 .0)) (List._∷_ Row.off (List._∷_ Row.off (List._∷_ Row.off (List._∷_ Row.off List.[]))))))))); }
+        G14 = record { locals = List._++_ t7 (List._++_ t9 t2); slots = List._∷_ (Row.lease (κs .0) (qs .0)) (List._∷_ (Row.lease (κs .1 .0) (qs .1 .0)) (List._∷_ (Row.lease (κs .1 .1 .0) (qs .1 .1 .0)) (List._∷_ (Row.lease (κs .1 .1 .1 .0) (qs .1 .1 .1 .0)) (List._∷_ (Row.lease (κs .1 .1 .1 .1 .0) (qs .1 .1 .1 .1 .0)) (List._∷_ (Row.lease (κs .1 .1 .1 .1 .1 .0) (qs .1 .1 .1 .1 .1 .0)) (List._∷_ Row.off (List._∷_ Row.off (List._∷_ Row.off (List._∷_ Row.off List.[]))))))))) }
 
         abbrev G15 : Row.Cx
-        G15 = record { locals = List._++_ t7 (List._++_ t13 t2); slots = List._∷_ (Row.lease (κs .0) (qs .0)) (List._∷_ (Row.lease (κs .1 .0) (qs .1 .0)) (List._∷_ (Row.lease (κs .1 .1 .0) (qs .1 .1 .0)) (List._∷_ (Row.lease (κs .1 .1 .1 .0) (qs .1 .1 .1 .0)) (List._∷_ (Row.lease (κs .1 .1 .1 .1 .0) (qs .1 .1 .1 .1 .0)) (List._∷_ (Row.lease (κs .1 .1 .1 .1 .1 .0) (qs .1 .1 .1 .1 .1 .0)) (List._∷_ Row.off (List._∷_ Row.off (List._∷_ Row.off (List._∷_ Row.off List.[]))))))))); }
+        G15 = record { locals = List._++_ t7 (List._++_ t13 t2); slots = List._∷_ (Row.lease (κs .0) (qs .0)) (List._∷_ (Row.lease (κs .1 .0) (qs .1 .0)) (List._∷_ (Row.lease (κs .1 .1 .0) (qs .1 .1 .0)) (List._∷_ (Row.lease (κs .1 .1 .1 .0) (qs .1 .1 .1 .0)) (List._∷_ (Row.lease (κs .1 .1 .1 .1 .0) (qs .1 .1 .1 .1 .0)) (List._∷_ (Row.lease (κs .1 .1 .1 .1 .1 .0) (qs .1 .1 .1 .1 .1 .0)) (List._∷_ Row.off (List._∷_ Row.off (List._∷_ Row.off (List._∷_ Row.off List.[]))))))))) }
 
         abbrev G16 : Row.Cx
-        G16 = record { locals = List._++_ t7 (List._++_ t9 t2); slots = List._∷_ (Row.lease (κs .0) (qs .0)) (List._∷_ (Row.lease (κs .1 .0) (qs .1 .0)) (List._∷_ (Row.lease (κs .1 .1 .0) (qs .1 .1 .0)) (List._∷_ (Row.lease (κs .1 .1 .1 .0) (qs .1 .1 .1 .0)) (List._∷_ (Row.lease (κs .1 .1 .1 .1 .0) (qs .1 .1 .1 .1 .0)) (List._∷_ (Row.lease (κs .1 .1 .1 .1 .1 .0) (qs .1 .1 .1 .1 .1 .0)) (List._∷_ Row.off (List._∷_ Row.off (List._∷_ Row.off (List._∷_ Row.off List.[]))))))))); }
+        G16 = record { locals = List._++_ t7 (List._++_ t9 t2); slots = List._∷_ (Row.lease (κs .0) (qs .0)) (List._∷_ (Row.lease (κs .1 .0) (qs .1 .0)) (List._∷_ (Row.lease (κs .1 .1 .0) (qs .1 .1 .0)) (List._∷_ (Row.lease (κs .1 .1 .1 .0) (qs .1 .1 .1 .0)) (List._∷_ (Row.lease (κs .1 .1 .1 .1 .0) (qs .1 .1 .1 .1 .0)) (List._∷_ (Row.lease (κs .1 .1 .1 .1 .1 .0) (qs .1 .1 .1 .1 .1 .0)) (List._∷_ Row.off (List._∷_ Row.off (List._∷_ Row.off (List._∷_ Row.off List.[]))))))))) }
 
         abbrev G17 : Row.Cx
-        G17 = record { locals = List._++_ t10 (List._++_ t13 t2); slots = List._∷_ (Row.lease (κs .0) (qs .0)) (List._∷_ (Row.lease (κs .1 .0) (qs .1 .0)) (List._∷_ (Row.lease (κs .1 .1 .0) (qs .1 .1 .0)) (List._∷_ (Row.lease (κs .1 .1 .1 .0) (qs .1 .1 .1 .0)) (List._∷_ (Row.lease (κs .1 .1 .1 .1 .0) (qs .1 .1 .1 .1 .0)) (List._∷_ (Row.lease (κs .1 .1 .1 .1 .1 .0) (qs .1 .1 .1 .1 .1 .0)) (List._∷_ Row.off (List._∷_ Row.off (List._∷_ Row.off (List._∷_ Row.off List.[]))))))))); }
+        G17 = record { locals = List._++_ t10 (List._++_ t13 t2); slots = List._∷_ (Row.lease (κs .0) (qs .0)) (List._∷_ (Row.lease (κs .1 .0) (qs .1 .0)) (List._∷_ (Row.lease (κs .1 .1 .0) (qs .1 .1 .0)) (List._∷_ (Row.lease (κs .1 .1 .1 .0) (qs .1 .1 .1 .0)) (List._∷_ (Row.lease (κs .1 .1 .1 .1 .0) (qs .1 .1 .1 .1 .0)) (List._∷_ (Row.lease (κs .1 .1 .1 .1 .1 .0) (qs .1 .1 .1 .1 .1 .0)) (List._∷_ Row.off (List._∷_ Row.off (List._∷_ Row.off (List._∷_ Row.off List.[]))))))))) }
 
         abbrev G18 : Row.Cx
-        G18 = record { locals = List._++_ t10 (List._++_ t9 t2); slots = List._∷_ (Row.lease (κs .0) (qs .0)) (List._∷_ (Row.lease (κs .1 .0) (qs .1 .0)) (List._∷_ (Row.lease (κs .1 .1 .0) (qs .1 .1 .0)) (List._∷_ (Row.lease (κs .1 .1 .1 .0) (qs .1 .1 .1 .0)) (List._∷_ (Row.lease (κs .1 .1 .1 .1 .0) (qs .1 .1 .1 .1 .0)) (List._∷_ (Row.lease (κs .1 .1 .1 .1 .1 .0) (qs .1 .1 .1 .1 .1 .0)) (List._∷_ Row.off (List._∷_ Row.off (List._∷_ Row.off (List._∷_ Row.off List.[]))))))))); }
+        G18 = record { locals = List._++_ t10 (List._++_ t9 t2); slots = List._∷_ (Row.lease (κs .0) (qs .0)) (List._∷_ (Row.lease (κs .1 .0) (qs .1 .0)) (List._∷_ (Row.lease (κs .1 .1 .0) (qs .1 .1 .0)) (List._∷_ (Row.lease (κs .1 .1 .1 .0) (qs .1 .1 .1 .0)) (List._∷_ (Row.lease (κs .1 .1 .1 .1 .0) (qs .1 .1 .1 .1 .0)) (List._∷_ (Row.lease (κs .1 .1 .1 .1 .1 .0) (qs .1 .1 .1 .1 .1 .0)) (List._∷_ Row.off (List._∷_ Row.off (List._∷_ Row.off (List._∷_ Row.off List.[]))))))))) }
 
         abbrev G19 : Row.Cx
-        G19 = record { locals = List._++_ t7 (List._++_ t14 t2); slots = List._∷_ (Row.lease (κs .0) (qs .0)) (List._∷_ (Row.lease (κs .1 .0) (qs .1 .0)) (List._∷_ (Row.lease (κs .1 .1 .0) (qs .1 .1 .0)) (List._∷_ (Row.lease (κs .1 .1 .1 .0) (qs .1 .1 .1 .0)) (List._∷_ (Row.lease (κs .1 .1 .1 .1 .0) (qs .1 .1 .1 .1 .0)) (List._∷_ (Row.lease (κs .1 .1 .1 .1 .1 .0) (qs .1 .1 .1 .1 .1 .0)) (List._∷_ Row.off (List._∷_ Row.off (List._∷_ Row.off (List._∷_ Row.off List.[]))))))))); }
+        G19 = record { locals = List._++_ t7 (List._++_ t14 t2); slots = List._∷_ (Row.lease (κs .0) (qs .0)) (List._∷_ (Row.lease (κs .1 .0) (qs .1 .0)) (List._∷_ (Row.lease (κs .1 .1 .0) (qs .1 .1 .0)) (List._∷_ (Row.lease (κs .1 .1 .1 .0) (qs .1 .1 .1 .0)) (List._∷_ (Row.lease (κs .1 .1 .1 .1 .0) (qs .1 .1 .1 .1 .0)) (List._∷_ (Row.lease (κs .1 .1 .1 .1 .1 .0) (qs .1 .1 .1 .1 .1 .0)) (List._∷_ Row.off (List._∷_ Row.off (List._∷_ Row.off (List._∷_ Row.off List.[]))))))))) }
 
         abbrev G20 : Row.Cx
-        G20 = record { locals = List._++_ t10 (List._++_ t14 t2); slots = List._∷_ (Row.lease (κs .0) (qs .0)) (List._∷_ (Row.lease (κs .1 .0) (qs .1 .0)) (List._∷_ (Row.lease (κs .1 .1 .0) (qs .1 .1 .0)) (List._∷_ (Row.lease (κs .1 .1 .1 .0) (qs .1 .1 .1 .0)) (List._∷_ (Row.lease (κs .1 .1 .1 .1 .0) (qs .1 .1 .1 .1 .0)) (List._∷_ (Row.lease (κs .1 .1 .1 .1 .1 .0) (qs .1 .1 .1 .1 .1 .0)) (List._∷_ Row.off (List._∷_ Row.off (List._∷_ Row.off (List._∷_ Row.off List.[]))))))))); }
+        G20 = record { locals = List._++_ t10 (List._++_ t14 t2); slots = List._∷_ (Row.lease (κs .0) (qs .0)) (List._∷_ (Row.lease (κs .1 .0) (qs .1 .0)) (List._∷_ (Row.lease (κs .1 .1 .0) (qs .1 .1 .0)) (List._∷_ (Row.lease (κs .1 .1 .1 .0) (qs .1 .1 .1 .0)) (List._∷_ (Row.lease (κs .1 .1 .1 .1 .0) (qs .1 .1 .1 .1 .0)) (List._∷_ (Row.lease (κs .1 .1 .1 .1 .1 .0) (qs .1 .1 .1 .1 .1 .0)) (List._∷_ Row.off (List._∷_ Row.off (List._∷_ Row.off (List._∷_ Row.off List.[]))))))))) }
 
         abbrev G21 : Row.Cx
-        G21 = record { locals = List._++_ t10 (List._++_ t15 t2); slots = List._∷_ (Row.lease (κs .0) (qs .0)) (List._∷_ (Row.lease (κs .1 .0) (qs .1 .0)) (List._∷_ (Row.lease (κs .1 .1 .0) (qs .1 .1 .0)) (List._∷_ (Row.lease (κs .1 .1 .1 .0) (qs .1 .1 .1 .0)) (List._∷_ (Row.lease (κs .1 .1 .1 .1 .0) (qs .1 .1 .1 .1 .0)) (List._∷_ (Row.lease (κs .1 .1 .1 .1 .1 .0) (qs .1 .1 .1 .1 .1 .0)) (List._∷_ Row.off (List._∷_ Row.off (List._∷_ Row.off (List._∷_ Row.off List.[]))))))))); }
+        G21 = record { locals = List._++_ t10 (List._++_ t15 t2); slots = List._∷_ (Row.lease (κs .0) (qs .0)) (List._∷_ (Row.lease (κs .1 .0) (qs .1 .0)) (List._∷_ (Row.lease (κs .1 .1 .0) (qs .1 .1 .0)) (List._∷_ (Row.lease (κs .1 .1 .1 .0) (qs .1 .1 .1 .0)) (List._∷_ (Row.lease (κs .1 .1 .1 .1 .0) (qs .1 .1 .1 .1 .0)) (List._∷_ (Row.lease (κs .1 .1 .1 .1 .1 .0) (qs .1 .1 .1 .1 .1 .0)) (List._∷_ Row.off (List._∷_ Row.off (List._∷_ Row.off (List._∷_ Row.off List.[]))))))))) }
 
         abbrev G22 : Row.Cx
-        G22 = record { locals = List._++_ t10 (List._++_ t16 t2); slots = List._∷_ (Row.lease (κs .0) (qs .0)) (List._∷_ (Row.lease (κs .1 .0) (qs .1 .0)) (List._∷_ (Row.lease (κs .1 .1 .0) (qs .1 .1 .0)) (List._∷_ (Row.lease (κs .1 .1 .1 .0) (qs .1 .1 .1 .0)) (List._∷_ (Row.lease (κs .1 .1 .1 .1 .0) (qs .1 .1 .1 .1 .0)) (List._∷_ (Row.lease (κs .1 .1 .1 .1 .1 .0) (qs .1 .1 .1 .1 .1 .0)) (List._∷_ Row.off (List._∷_ Row.off (List._∷_ Row.off (List._∷_ Row.off List.[]))))))))); }
+        G22 = record { locals = List._++_ t10 (List._++_ t16 t2); slots = List._∷_ (Row.lease (κs .0) (qs .0)) (List._∷_ (Row.lease (κs .1 .0) (qs .1 .0)) (List._∷_ (Row.lease (κs .1 .1 .0) (qs .1 .1 .0)) (List._∷_ (Row.lease (κs .1 .1 .1 .0) (qs .1 .1 .1 .0)) (List._∷_ (Row.lease (κs .1 .1 .1 .1 .0) (qs .1 .1 .1 .1 .0)) (List._∷_ (Row.lease (κs .1 .1 .1 .1 .1 .0) (qs .1 .1 .1 .1 .1 .0)) (List._∷_ Row.off (List._∷_ Row.off (List._∷_ Row.off (List._∷_ Row.off List.[]))))))))) }
 
         abbrev G23 : Row.Cx
-        G23 = record { locals = List._++_ t10 (List._++_ t17 t2); slots = List._∷_ (Row.lease (κs .0) (qs .0)) (List._∷_ (Row.lease (κs .1 .0) (qs .1 .0)) (List._∷_ (Row.lease (κs .1 .1 .0) (qs .1 .1 .0)) (List._∷_ (Row.lease (κs .1 .1 .1 .0) (qs .1 .1 .1 .0)) (List._∷_ (Row.lease (κs .1 .1 .1 .1 .0) (qs .1 .1 .1 .1 .0)) (List._∷_ (Row.lease (κs .1 .1 .1 .1 .1 .0) (qs .1 .1 .1 .1 .1 .0)) (List._∷_ Row.off (List._∷_ Row.off (List._∷_ Row.off (List._∷_ Row.off List.[]))))))))); }
+        G23 = record { locals = List._++_ t10 (List._++_ t17 t2); slots = List._∷_ (Row.lease (κs .0) (qs .0)) (List._∷_ (Row.lease (κs .1 .0) (qs .1 .0)) (List._∷_ (Row.lease (κs .1 .1 .0) (qs .1 .1 .0)) (List._∷_ (Row.lease (κs .1 .1 .1 .0) (qs .1 .1 .1 .0)) (List._∷_ (Row.lease (κs .1 .1 .1 .1 .0) (qs .1 .1 .1 .1 .0)) (List._∷_ (Row.lease (κs .1 .1 .1 .1 .1 .0) (qs .1 .1 .1 .1 .1 .0)) (List._∷_ Row.off (List._∷_ Row.off (List._∷_ Row.off (List._∷_ Row.off List.[]))))))))) }
 
         abbrev G24 : Row.Cx
-        G24 = record { locals = List._++_ t18 (List._++_ t19 t2); slots = List._∷_ (Row.lease (κs .0) (qs .0)) (List._∷_ (Row.lease (κs .1 .0) (qs .1 .0)) (List._∷_ (Row.lease (κs .1 .1 .0) (qs .1 .1 .0)) (List._∷_ (Row.lease (κs .1 .1 .1 .0) (qs .1 .1 .1 .0)) (List._∷_ (Row.lease (κs .1 .1 .1 .1 .0) (qs .1 .1 .1 .1 .0)) (List._∷_ (Row.lease (κs .1 .1 .1 .1 .1 .0) (qs .1 .1 .1 .1 .1 .0)) (List._∷_ Row.off (List._∷_ Row.off (List._∷_ Row.off (List._∷_ Row.off List.[]))))))))); }
+        G24 = record { locals = List._++_ t18 (List._++_ t19 t2); slots = List._∷_ (Row.lease (κs .0) (qs .0)) (List._∷_ (Row.lease (κs .1 .0) (qs .1 .0)) (List._∷_ (Row.lease (κs .1 .1 .0) (qs .1 .1 .0)) (List._∷_ (Row.lease (κs .1 .1 .1 .0) (qs .1 .1 .1 .0)) (List._∷_ (Row.lease (κs .1 .1 .1 .1 .0) (qs .1 .1 .1 .1 .0)) (List._∷_ (Row.lease (κs .1 .1 .1 .1 .1 .0) (qs .1 .1 .1 .1 .1 .0)) (List._∷_ Row.off (List._∷_ Row.off (List._∷_ Row.off (List._∷_ Row.off List.[]))))))))) }
 
         abbrev G25 : Row.Cx
-        G25 = record { locals = List._++_ t10 (List._++_ t20 t2); slots = List._∷_ (Row.lease (κs .0) (qs .0)) (List._∷_ (Row.lease (κs .1 .0) (qs .1 .0)) (List._∷_ (Row.lease (κs .1 .1 .0) (qs .1 .1 .0)) (List._∷_ (Row.lease (κs .1 .1 .1 .0) (qs .1 .1 .1 .0)) (List._∷_ (Row.lease (κs .1 .1 .1 .1 .0) (qs .1 .1 .1 .1 .0)) (List._∷_ (Row.lease (κs .1 .1 .1 .1 .1 .0) (qs .1 .1 .1 .1 .1 .0)) (List._∷_ Row.off (List._∷_ Row.off (List._∷_ Row.off (List._∷_ Row.off List.[]))))))))); }
+        G25 = record { locals = List._++_ t10 (List._++_ t20 t2); slots = List._∷_ (Row.lease (κs .0) (qs .0)) (List._∷_ (Row.lease (κs .1 .0) (qs .1 .0)) (List._∷_ (Row.lease (κs .1 .1 .0) (qs .1 .1 .0)) (List._∷_ (Row.lease (κs .1 .1 .1 .0) (qs .1 .1 .1 .0)) (List._∷_ (Row.lease (κs .1 .1 .1 .1 .0) (qs .1 .1 .1 .1 .0)) (List._∷_ (Row.lease (κs .1 .1 .1 .1 .1 .0) (qs .1 .1 .1 .1 .1 .0)) (List._∷_ Row.off (List._∷_ Row.off (List._∷_ Row.off (List._∷_ Row.off List.[]))))))))) }
 
         abbrev G26 : Row.Cx
-        G26 = record { locals = List._++_ t10 (List._++_ t20 t2); slots = List._∷_ (Row.lease (κs .0) (qs .0)) (List._∷_ (Row.lease (κs .1 .0) (qs .1 .0)) (List._∷_ (Row.lease (κs .1 .1 .0) (qs .1 .1 .0)) (List._∷_ (Row.lease (κs .1 .1 .1 .0) (qs .1 .1 .1 .0)) (List._∷_ (Row.lease (κs .1 .1 .1 .1 .0) (qs .1 .1 .1 .1 .0)) (List._∷_ (Row.lease (κs .1 .1 .1 .1 .1 .0) (qs .1 .1 .1 .1 .1 .0)) (List._∷_ Row.off (List._∷_ Row.off (List._∷_ Row.off (List._∷_ Row.off List.[]))))))))); }
+        G26 = record { locals = List._++_ t10 (List._++_ t20 t2); slots = List._∷_ (Row.lease (κs .0) (qs .0)) (List._∷_ (Row.lease (κs .1 .0) (qs .1 .0)) (List._∷_ (Row.lease (κs .1 .1 .0) (qs .1 .1 .0)) (List._∷_ (Row.lease (κs .1 .1 .1 .0) (qs .1 .1 .1 .0)) (List._∷_ (Row.lease (κs .1 .1 .1 .1 .0) (qs .1 .1 .1 .1 .0)) (List._∷_ (Row.lease (κs .1 .1 .1 .1 .1 .0) (qs .1 .1 .1 .1 .1 .0)) (List._∷_ Row.off (List._∷_ Row.off (List._∷_ Row.off (List._∷_ Row.off List.[]))))))))) }
 
         abbrev G27 : Row.Cx
-        G27 = record { locals = List._++_ t18 (List._++_ t20 t2); slots = List._∷_ (Row.lease (κs .0) (qs .0)) (List._∷_ (Row.lease (κs .1 .0) (qs .1 .0)) (List._∷_ (Row.lease (κs .1 .1 .0) (qs .1 .1 .0)) (List._∷_ (Row.lease (κs .1 .1 .1 .0) (qs .1 .1 .1 .0)) (List._∷_ (Row.lease (κs .1 .1 .1 .1 .0) (qs .1 .1 .1 .1 .0)) (List._∷_ (Row.lease (κs .1 .1 .1 .1 .1 .0) (qs .1 .1 .1 .1 .1 .0)) (List._∷_ Row.off (List._∷_ Row.off (List._∷_ Row.off (List._∷_ Row.off List.[]))))))))); }
+        G27 = record { locals = List._++_ t18 (List._++_ t20 t2); slots = List._∷_ (Row.lease (κs .0) (qs .0)) (List._∷_ (Row.lease (κs .1 .0) (qs .1 .0)) (List._∷_ (Row.lease (κs .1 .1 .0) (qs .1 .1 .0)) (List._∷_ (Row.lease (κs .1 .1 .1 .0) (qs .1 .1 .1 .0)) (List._∷_ (Row.lease (κs .1 .1 .1 .1 .0) (qs .1 .1 .1 .1 .0)) (List._∷_ (Row.lease (κs .1 .1 .1 .1 .1 .0) (qs .1 .1 .1 .1 .1 .0)) (List._∷_ Row.off (List._∷_ Row.off (List._∷_ Row.off (List._∷_ Row.off List.[]))))))))) }
 
         abbrev G28 : Row.Cx
-        G28 = record { locals = List._++_ t18 (List._++_ t19 t2); slots = List._∷_ (Row.lease (κs .0) (qs .0)) (List._∷_ (Row.lease (κs .1 .0) (qs .1 .0)) (List._∷_ (Row.lease (κs .1 .1 .0) (qs .1 .1 .0)) (List._∷_ (Row.lease (κs .1 .1 .1 .0) (qs .1 .1 .1 .0)) (List._∷_ (Row.lease (κs .1 .1 .1 .1 .0) (qs .1 .1 .1 .1 .0)) (List._∷_ (Row.lease (κs .1 .1 .1 .1 .1 .0) (qs .1 .1 .1 .1 .1 .0)) (List._∷_ Row.off (List._∷_ Row.off (List._∷_ Row.off (List._∷_ Row.off List.[]))))))))); }
+        G28 = record { locals = List._++_ t18 (List._++_ t19 t2); slots = List._∷_ (Row.lease (κs .0) (qs .0)) (List._∷_ (Row.lease (κs .1 .0) (qs .1 .0)) (List._∷_ (Row.lease (κs .1 .1 .0) (qs .1 .1 .0)) (List._∷_ (Row.lease (κs .1 .1 .1 .0) (qs .1 .1 .1 .0)) (List._∷_ (Row.lease (κs .1 .1 .1 .1 .0) (qs .1 .1 .1 .1 .0)) (List._∷_ (Row.lease (κs .1 .1 .1 .1 .1 .0) (qs .1 .1 .1 .1 .1 .0)) (List._∷_ Row.off (List._∷_ Row.off (List._∷_ Row.off (List._∷_ Row.off List.[]))))))))) }
 
         abbrev G29 : Row.Cx
-        G29 = record { locals = List._++_ t10 (List._++_ t21 t2); slots = List._∷_ (Row.lease (κs .0) (qs .0)) (List._∷_ (Row.lease (κs .1 .0) (qs .1 .0)) (List._∷_ (Row.lease (κs .1 .1 .0) (qs .1 .1 .0)) (List._∷_ (Row.lease (κs .1 .1 .1 .0) (qs .1 .1 .1 .0)) (List._∷_ (Row.lease (κs .1 .1 .1 .1 .0) (qs .1 .1 .1 .1 .0)) (List._∷_ (Row.lease (κs .1 .1 .1 .1 .1 .0) (qs .1 .1 .1 .1 .1 .0)) (List._∷_ Row.off (List._∷_ Row.off (List._∷_ Row.off (List._∷_ Row.off List.[]))))))))); }
+        G29 = record { locals = List._++_ t10 (List._++_ t21 t2); slots = List._∷_ (Row.lease (κs .0) (qs .0)) (List._∷_ (Row.lease (κs .1 .0) (qs .1 .0)) (List._∷_ (Row.lease (κs .1 .1 .0) (qs .1 .1 .0)) (List._∷_ (Row.lease (κs .1 .1 .1 .0) (qs .1 .1 .1 .0)) (List._∷_ (Row.lease (κs .1 .1 .1 .1 .0) (qs .1 .1 .1 .1 .0)) (List._∷_ (Row.lease (κs .1 .1 .1 .1 .1 .0) (qs .1 .1 .1 .1 .1 .0)) (List._∷_ Row.off (List._∷_ Row.off (List._∷_ Row.off (List._∷_ Row.off List.[]))))))))) }
 
         abbrev G30 : Row.Cx
-        G30 = record { locals = List._++_ t10 (List._++_ t21 t2); slots = List._∷_ (Row.lease (κs .0) (qs .0)) (List._∷_ (Row.lease (κs .1 .0) (qs .1 .0)) (List._∷_ (Row.lease (κs .1 .1 .0) (qs .1 .1 .0)) (List._∷_ (Row.lease (κs .1 .1 .1 .0) (qs .1 .1 .1 .0)) (List._∷_ (Row.lease (κs .1 .1 .1 .1 .0) (qs .1 .1 .1 .1 .0)) (List._∷_ (Row.lease (κs .1 .1 .1 .1 .1 .0) (qs .1 .1 .1 .1 .1 .0)) (List._∷_ Row.off (List._∷_ Row.off (List._∷_ Row.off (List._∷_ Row.off List.[]))))))))); }
+        G30 = record { locals = List._++_ t10 (List._++_ t21 t2); slots = List._∷_ (Row.lease (κs .0) (qs .0)) (List._∷_ (Row.lease (κs .1 .0) (qs .1 .0)) (List._∷_ (Row.lease (κs .1 .1 .0) (qs .1 .1 .0)) (List._∷_ (Row.lease (κs .1 .1 .1 .0) (qs .1 .1 .1 .0)) (List._∷_ (Row.lease (κs .1 .1 .1 .1 .0) (qs .1 .1 .1 .1 .0)) (List._∷_ (Row.lease (κs .1 .1 .1 .1 .1 .0) (qs .1 .1 .1 .1 .1 .0)) (List._∷_ Row.off (List._∷_ Row.off (List._∷_ Row.off (List._∷_ Row.off List.[]))))))))) }
 
         abbrev G31 : Row.Cx
-        G31 = record { locals = List._++_ t18 (List._++_ t21 t2); slots = List._∷_ (Row.lease (κs .0) (qs .0)) (List._∷_ (Row.lease (κs .1 .0) (qs .1 .0)) (List._∷_ (Row.lease (κs .1 .1 .0) (qs .1 .1 .0)) (List._∷_ (Row.lease (κs .1 .1 .1 .0) (qs .1 .1 .1 .0)) (List._∷_ (Row.lease (κs .1 .1 .1 .1 .0) (qs .1 .1 .1 .1 .0)) (List._∷_ (Row.lease (κs .1 .1 .1 .1 .1 .0) (qs .1 .1 .1 .1 .1 .0)) (List._∷_ Row.off (List._∷_ Row.off (List._∷_ Row.off (List._∷_ Row.off List.[]))))))))); }
+        G31 = record { locals = List._++_ t18 (List._++_ t21 t2); slots = List._∷_ (Row.lease (κs .0) (qs .0)) (List._∷_ (Row.lease (κs .1 .0) (qs .1 .0)) (List._∷_ (Row.lease (κs .1 .1 .0) (qs .1 .1 .0)) (List._∷_ (Row.lease (κs .1 .1 .1 .0) (qs .1 .1 .1 .0)) (List._∷_ (Row.lease (κs .1 .1 .1 .1 .0) (qs .1 .1 .1 .1 .0)) (List._∷_ (Row.lease (κs .1 .1 .1 .1 .1 .0) (qs .1 .1 .1 .1 .1 .0)) (List._∷_ Row.off (List._∷_ Row.off (List._∷_ Row.off (List._∷_ Row.off List.[]))))))))) }
 
         abbrev G32 : Row.Cx
-        G32 = record { locals = List._++_ t18 (List._++_ t22 t2); slots = List._∷_ (Row.lease (κs .0) (qs .0)) (List._∷_ (Row.lease (κs .1 .0) (qs .1 .0)) (List._∷_ (Row.lease (κs .1 .1 .0) (qs .1 .1 .0)) (List._∷_ (Row.lease (κs .1 .1 .1 .0) (qs .1 .1 .1 .0)) (List._∷_ (Row.lease (κs .1 .1 .1 .1 .0) (qs .1 .1 .1 .1 .0)) (List._∷_ (Row.lease (κs .1 .1 .1 .1 .1 .0) (qs .1 .1 .1 .1 .1 .0)) (List._∷_ Row.off (List._∷_ Row.off (List._∷_ Row.off (List._∷_ Row.off List.[]))))))))); }
+        G32 = record { locals = List._++_ t18 (List._++_ t22 t2); slots = List._∷_ (Row.lease (κs .0) (qs .0)) (List._∷_ (Row.lease (κs .1 .0) (qs .1 .0)) (List._∷_ (Row.lease (κs .1 .1 .0) (qs .1 .1 .0)) (List._∷_ (Row.lease (κs .1 .1 .1 .0) (qs .1 .1 .1 .0)) (List._∷_ (Row.lease (κs .1 .1 .1 .1 .0) (qs .1 .1 .1 .1 .0)) (List._∷_ (Row.lease (κs .1 .1 .1 .1 .1 .0) (qs .1 .1 .1 .1 .1 .0)) (List._∷_ Row.off (List._∷_ Row.off (List._∷_ Row.off (List._∷_ Row.off List.[]))))))))) }
 
         abbrev G33 : Row.Cx
-        G33 = record { locals = List._++_ t18 (List._++_ t23 t2); slots = List._∷_ (Row.lease (κs .0) (qs .0)) (List._∷_ (Row.lease (κs .1 .0) (qs .1 .0)) (List._∷_ (Row.lease (κs .1 .1 .0) (qs .1 .1 .0)) (List._∷_ (Row.lease (κs .1 .1 .1 .0) (qs .1 .1 .1 .0)) (List._∷_ (Row.lease (κs .1 .1 .1 .1 .0) (qs .1 .1 .1 .1 .0)) (List._∷_ (Row.lease (κs .1 .1 .1 .1 .1 .0) (qs .1 .1 .1 .1 .1 .0)) (List._∷_ Row.off (List._∷_ Row.off (List._∷_ Row.off (List._∷_ Row.off List.[]))))))))); }
+        G33 = record { locals = List._++_ t18 (List._++_ t23 t2); slots = List._∷_ (Row.lease (κs .0) (qs .0)) (List._∷_ (Row.lease (κs .1 .0) (qs .1 .0)) (List._∷_ (Row.lease (κs .1 .1 .0) (qs .1 .1 .0)) (List._∷_ (Row.lease (κs .1 .1 .1 .0) (qs .1 .1 .1 .0)) (List._∷_ (Row.lease (κs .1 .1 .1 .1 .0) (qs .1 .1 .1 .1 .0)) (List._∷_ (Row.lease (κs .1 .1 .1 .1 .1 .0) (qs .1 .1 .1 .1 .1 .0)) (List._∷_ Row.off (List._∷_ Row.off (List._∷_ Row.off (List._∷_ Row.off List.[]))))))))) }
 
         abbrev G34 : Row.Cx
-        G34 = record { locals = List._++_ t18 (List._++_ t23 t2); slots = List._∷_ (Row.lease (κs .0) (qs .0)) (List._∷_ (Row.lease (κs .1 .0) (qs .1 .0)) (List._∷_ (Row.lease (κs .1 .1 .0) (qs .1 .1 .0)) (List._∷_ (Row.lease (κs .1 .1 .1 .0) (qs .1 .1 .1 .0)) (List._∷_ (Row.lease (κs .1 .1 .1 .1 .0) (qs .1 .1 .1 .1 .0)) (List._∷_ (Row.lease (κs .1 .1 .1 .1 .1 .0) (qs .1 .1 .1 .1 .1 .0)) (List._∷_ Row.alive (List._∷_ Row.off (List._∷_ Row.off (List._∷_ Row.off List.[]))))))))); }
+        G34 = record { locals = List._++_ t18 (List._++_ t23 t2); slots = List._∷_ (Row.lease (κs .0) (qs .0)) (List._∷_ (Row.lease (κs .1 .0) (qs .1 .0)) (List._∷_ (Row.lease (κs .1 .1 .0) (qs .1 .1 .0)) (List._∷_ (Row.lease (κs .1 .1 .1 .0) (qs .1 .1 .1 .0)) (List._∷_ (Row.lease (κs .1 .1 .1 .1 .0) (qs .1 .1 .1 .1 .0)) (List._∷_ (Row.lease (κs .1 .1 .1 .1 .1 .0) (qs .1 .1 .1 .1 .1 .0)) (List._∷_ Row.alive (List._∷_ Row.off (List._∷_ Row.off (List._∷_ Row.off List.[]))))))))) }
 
         abbrev G35 : Row.Cx
-        G35 = record { locals = List._++_ g24 (List._++_ t25 t2); slots = List._∷_ (Row.lease (κs .0) (qs .0)) (List._∷_ (Row.lease (κs .1 .0) (qs .1 .0)) (List._∷_ Row.off (List._∷_ (Row.lease (κs .1 .1 .1 .0) (qs .1 .1 .1 .0)) (List._∷_ (Row.lease (κs .1 .1 .1 .1 .0) (qs .1 .1 .1 .1 .0)) (List._∷_ (Row.lease (κs .1 .1 .1 .1 .1 .0) (qs .1 .1 .1 .1 .1 .0)) (List._∷_ Row.alive (List._∷_ Row.off (List._∷_ Row.off (List._∷_ Row.off List.[]))))))))); }
+        G35 = record { locals = List._++_ g24 (List._++_ t25 t2); slots = List._∷_ (Row.lease (κs .0) (qs .0)) (List._∷_ (Row.lease (κs .1 .0) (qs .1 .0)) (List._∷_ Row.off (List._∷_ (Row.lease (κs .1 .1 .1 .0) (qs .1 .1 .1 .0)) (List._∷_ (Row.lease (κs .1 .1 .1 .1 .0) (qs .1 .1 .1 .1 .0)) (List._∷_ (Row.lease (κs .1 .1 .1 .1 .1 .0) (qs .1 .1 .1 .1 .1 .0)) (List._∷_ Row.alive (List._∷_ Row.off (List._∷_ Row.off (List._∷_ Row.off List.[]))))))))) }
 
         abbrev G36 : Row.Cx
-        G36 = record { locals = List._++_ g24 (List._++_ t26 t2); slots = List._∷_ (Row.lease (κs .0) (qs .0)) (List._∷_ (Row.lease (κs .1 .0) (qs .1 .0)) (List._∷_ Row.off (List._∷_ (Row.lease (κs .1 .1 .1 .0) (qs .1 .1 .1 .0)) (List._∷_ (Row.lease (κs .1 .1 .1 .1 .0) (qs .1 .1 .1 .1 .0)) (List._∷_ (Row.lease (κs .1 .1 .1 .1 .1 .0) (qs .1 .1 .1 .1 .1 .0)) (List._∷_ Row.alive (List._∷_ Row.off (List._∷_ Row.off (List._∷_ Row.off List.[]))))))))); }
+        G36 = record { locals = List._++_ g24 (List._++_ t26 t2); slots = List._∷_ (Row.lease (κs .0) (qs .0)) (List._∷_ (Row.lease (κs .1 .0) (qs .1 .0)) (List._∷_ Row.off (List._∷_ (Row.lease (κs .1 .1 .1 .0) (qs .1 .1 .1 .0)) (List._∷_ (Row.lease (κs .1 .1 .1 .1 .0) (qs .1 .1 .1 .1 .0)) (List._∷_ (Row.lease (κs .1 .1 .1 .1 .1 .0) (qs .1 .1 .1 .1 .1 .0)) (List._∷_ Row.alive (List._∷_ Row.off (List._∷_ Row.off (List._∷_ Row.off List.[]))))))))) }
 
         abbrev G37 : Row.Cx
-        G37 = record { locals = List._++_ g24 (List._++_ t26 t2); slots = List._∷_ (Row.lease (κs .0) (qs .0)) (List._∷_ (Row.lease (κs .1 .0) (qs .1 .0)) (List._∷_ Row.off (List._∷_ (Row.lease (κs .1 .1 .1 .0) (qs .1 .1 .1 .0)) (List._∷_ (Row.lease (κs .1 .1 .1 .1 .0) (qs .1 .1 .1 .1 .0)) (List._∷_ (Row.lease (κs .1 .1 .1 .1 .1 .0) (qs .1 .1 .1 .1 .1 .0)) (List._∷_ Row.alive (List._∷_ Row.alive (List._∷_ Row.off (List._∷_ Row.off List.[]))))))))); }
+        G37 = record { locals = List._++_ g24 (List._++_ t26 t2); slots = List._∷_ (Row.lease (κs .0) (qs .0)) (List._∷_ (Row.lease (κs .1 .0) (qs .1 .0)) (List._∷_ Row.off (List._∷_ (Row.lease (κs .1 .1 .1 .0) (qs .1 .1 .1 .0)) (List._∷_ (Row.lease (κs .1 .1 .1 .1 .0) (qs .1 .1 .1 .1 .0)) (List._∷_ (Row.lease (κs .1 .1 .1 .1 .1 .0) (qs .1 .1 .1 .1 .1 .0)) (List._∷_ Row.alive (List._∷_ Row.alive (List._∷_ Row.off (List._∷_ Row.off List.[]))))))))) }
 
         abbrev G38 : Row.Cx
-        G38 = record { locals = List._++_ g27 (List._++_ t28 t2); slots = List._∷_ (Row.lease (κs .0) (qs .0)) (List._∷_ (Row.lease (κs .1 .0) (qs .1 .0)) (List._∷_ Row.off (List._∷_ Row.off (List._∷_ (Row.lease (κs .1 .1 .1 .1 .0) (qs .1 .1 .1 .1 .0)) (List._∷_ (Row.lease (κs .1 .1 .1 .1 .1 .0) (qs .1 .1 .1 .1 .1 .0)) (List._∷_ Row.alive (List._∷_ Row.alive (List._∷_ Row.off (List._∷_ Row.off List.[]))))))))); }
+        G38 = record { locals = List._++_ g27 (List._++_ t28 t2); slots = List._∷_ (Row.lease (κs .0) (qs .0)) (List._∷_ (Row.lease (κs .1 .0) (qs .1 .0)) (List._∷_ Row.off (List._∷_ Row.off (List._∷_ (Row.lease (κs .1 .1 .1 .1 .0) (qs .1 .1 .1 .1 .0)) (List._∷_ (Row.lease (κs .1 .1 .1 .1 .1 .0) (qs .1 .1 .1 .1 .1 .0)) (List._∷_ Row.alive (List._∷_ Row.alive (List._∷_ Row.off (List._∷_ Row.off List.[]))))))))) }
 
         abbrev G39 : Row.Cx
-        G39 = record { locals = List._++_ g27 (List._++_ t26 t29); slots = List._∷_ (Row.lease (κs .0) (qs .0)) (List._∷_ (Row.lease (κs .1 .0) (qs .1 .0)) (List._∷_ Row.off (List._∷_ Row.off (List._∷_ (Row.lease (κs .1 .1 .1 .1 .0) (qs .1 .1 .1 .1 .0)) (List._∷_ (Row.lease (κs .1 .1 .1 .1 .1 .0) (qs .1 .1 .1 .1 .1 .0)) (List._∷_ Row.alive (List._∷_ Row.alive (List._∷_ Row.off (List._∷_ Row.off List.[]))))))))); }
+        G39 = record { locals = List._++_ g27 (List._++_ t26 t29); slots = List._∷_ (Row.lease (κs .0) (qs .0)) (List._∷_ (Row.lease (κs .1 .0) (qs .1 .0)) (List._∷_ Row.off (List._∷_ Row.off (List._∷_ (Row.lease (κs .1 .1 .1 .1 .0) (qs .1 .1 .1 .1 .0)) (List._∷_ (Row.lease (κs .1 .1 .1 .1 .1 .0) (qs .1 .1 .1 .1 .1 .0)) (List._∷_ Row.alive (List._∷_ Row.alive (List._∷_ Row.off (List._∷_ Row.off List.[]))))))))) }
 
         abbrev G40 : Row.Cx
-        G40 = record { locals = List._++_ g27 (List._++_ t26 t29); slots = List._∷_ (Row.lease (κs .0) (qs .0)) (List._∷_ (Row.lease (κs .1 .0) (qs .1 .0)) (List._∷_ Row.off (List._∷_ Row.off (List._∷_ (Row.lease (κs .1 .1 .1 .1 .0) (qs .1 .1 .1 .1 .0)) (List._∷_ (Row.lease (κs .1 .1 .1 .1 .1 .0) (qs .1 .1 .1 .1 .1 .0)) (List._∷_ Row.alive (List._∷_ Row.alive (List._∷_ Row.alive (List._∷_ Row.off List.[]))))))))); }
+        G40 = record { locals = List._++_ g27 (List._++_ t26 t29); slots = List._∷_ (Row.lease (κs .0) (qs .0)) (List._∷_ (Row.lease (κs .1 .0) (qs .1 .0)) (List._∷_ Row.off (List._∷_ Row.off (List._∷_ (Row.lease (κs .1 .1 .1 .1 .0) (qs .1 .1 .1 .1 .0)) (List._∷_ (Row.lease (κs .1 .1 .1 .1 .1 .0) (qs .1 .1 .1 .1 .1 .0)) (List._∷_ Row.alive (List._∷_ Row.alive (List._∷_ Row.alive (List._∷_ Row.off List.[]))))))))) }
 
         abbrev G41 : Row.Cx
-        G41 = record { locals = List._++_ g30 (List._++_ t26 t31); slots = List._∷_ (Row.lease (κs .0) (qs .0)) (List._∷_ (Row.lease (κs .1 .0) (qs .1 .0)) (List._∷_ Row.off (List._∷_ Row.off (List._∷_ Row.off (List._∷_ (Row.lease (κs .1 .1 .1 .1 .1 .0) (qs .1 .1 .1 .1 .1 .0)) (List._∷_ Row.alive (List._∷_ Row.alive (List._∷_ Row.alive (List._∷_ Row.off List.[]))))))))); }
+        G41 = record { locals = List._++_ g30 (List._++_ t26 t31); slots = List._∷_ (Row.lease (κs .0) (qs .0)) (List._∷_ (Row.lease (κs .1 .0) (qs .1 .0)) (List._∷_ Row.off (List._∷_ Row.off (List._∷_ Row.off (List._∷_ (Row.lease (κs .1 .1 .1 .1 .1 .0) (qs .1 .1 .1 .1 .1 .0)) (List._∷_ Row.alive (List._∷_ Row.alive (List._∷_ Row.alive (List._∷_ Row.off List.[]))))))))) }
 
         abbrev G42 : Row.Cx
-        G42 = record { locals = List._++_ g30 (List._++_ t26 t32); slots = List._∷_ (Row.lease (κs .0) (qs .0)) (List._∷_ (Row.lease (κs .1 .0) (qs .1 .0)) (List._∷_ Row.off (List._∷_ Row.off (List._∷_ Row.off (List._∷_ (Row.lease (κs .1 .1 .1 .1 .1 .0) (qs .1 .1 .1 .1 .1 .0)) (List._∷_ Row.alive (List._∷_ Row.alive (List._∷_ Row.alive (List._∷_ Row.off List.[]))))))))); }
+        G42 = record { locals = List._++_ g30 (List._++_ t26 t32); slots = List._∷_ (Row.lease (κs .0) (qs .0)) (List._∷_ (Row.lease (κs .1 .0) (qs .1 .0)) (List._∷_ Row.off (List._∷_ Row.off (List._∷_ Row.off (List._∷_ (Row.lease (κs .1 .1 .1 .1 .1 .0) (qs .1 .1 .1 .1 .1 .0)) (List._∷_ Row.alive (List._∷_ Row.alive (List._∷_ Row.alive (List._∷_ Row.off List.[]))))))))) }
 
         abbrev G43 : Row.Cx
-        G43 = record { locals = List._++_ g30 (List._++_ t26 t33); slots = List._∷_ (Row.lease (κs .0) (qs .0)) (List._∷_ (Row.lease (κs .1 .0) (qs .1 .0)) (List._∷_ Row.off (List._∷_ Row.off (List._∷_ Row.off (List._∷_ (Row.lease (κs .1 .1 .1 .1 .1 .0) (qs .1 .1 .1 .1 .1 .0)) (List._∷_ Row.alive (List._∷_ Row.alive (List._∷_ Row.alive (List._∷_ Row.off List.[]))))))))); }
+        G43 = record { locals = List._++_ g30 (List._++_ t26 t33); slots = List._∷_ (Row.lease (κs .0) (qs .0)) (List._∷_ (Row.lease (κs .1 .0) (qs .1 .0)) (List._∷_ Row.off (List._∷_ Row.off (List._∷_ Row.off (List._∷_ (Row.lease (κs .1 .1 .1 .1 .1 .0) (qs .1 .1 .1 .1 .1 .0)) (List._∷_ Row.alive (List._∷_ Row.alive (List._∷_ Row.alive (List._∷_ Row.off List.[]))))))))) }
 
         abbrev G44 : Row.Cx
-        G44 = record { locals = List._++_ g30 (List._++_ t34 t35); slots = List._∷_ (Row.lease (κs .0) (qs .0)) (List._∷_ (Row.lease (κs .1 .0) (qs .1 .0)) (List._∷_ Row.off (List._∷_ Row.off (List._∷_ Row.off (List._∷_ (Row.lease (κs .1 .1 .1 .1 .1 .0) (qs .1 .1 .1 .1 .1 .0)) (List._∷_ Row.alive (List._∷_ Row.alive (List._∷_ Row.alive (List._∷_ Row.off List.[]))))))))); }
+        G44 = record { locals = List._++_ g30 (List._++_ t34 t35); slots = List._∷_ (Row.lease (κs .0) (qs .0)) (List._∷_ (Row.lease (κs .1 .0) (qs .1 .0)) (List._∷_ Row.off (List._∷_ Row.off (List._∷_ Row.off (List._∷_ (Row.lease (κs .1 .1 .1 .1 .1 .0) (qs .1 .1 .1 .1 .1 .0)) (List._∷_ Row.alive (List._∷_ Row.alive (List._∷_ Row.alive (List._∷_ Row.off List.[]))))))))) }
 
         abbrev G45 : Row.Cx
-        G45 = record { locals = List._++_ g30 (List._++_ t36 t35); slots = List._∷_ (Row.lease (κs .0) (qs .0)) (List._∷_ (Row.lease (κs .1 .0) (qs .1 .0)) (List._∷_ Row.off (List._∷_ Row.off (List._∷_ Row.off (List._∷_ (Row.lease (κs .1 .1 .1 .1 .1 .0) (qs .1 .1 .1 .1 .1 .0)) (List._∷_ Row.alive (List._∷_ Row.alive (List._∷_ Row.alive (List._∷_ Row.off List.[]))))))))); }
+        G45 = record { locals = List._++_ g30 (List._++_ t36 t35); slots = List._∷_ (Row.lease (κs .0) (qs .0)) (List._∷_ (Row.lease (κs .1 .0) (qs .1 .0)) (List._∷_ Row.off (List._∷_ Row.off (List._∷_ Row.off (List._∷_ (Row.lease (κs .1 .1 .1 .1 .1 .0) (qs .1 .1 .1 .1 .1 .0)) (List._∷_ Row.alive (List._∷_ Row.alive (List._∷_ Row.alive (List._∷_ Row.off List.[]))))))))) }
 
         abbrev G46 : Row.Cx
-        G46 = record { locals = List._++_ g30 (List._++_ t36 t37); slots = List._∷_ (Row.lease (κs .0) (qs .0)) (List._∷_ (Row.lease (κs .1 .0) (qs .1 .0)) (List._∷_ Row.off (List._∷_ Row.off (List._∷_ Row.off (List._∷_ (Row.lease (κs .1 .1 .1 .1 .1 .0) (qs .1 .1 .1 .1 .1 .0)) (List._∷_ Row.alive (List._∷_ Row.alive (List._∷_ Row.alive (List._∷_ Row.off List.[]))))))))); }
+        G46 = record { locals = List._++_ g30 (List._++_ t36 t37); slots = List._∷_ (Row.lease (κs .0) (qs .0)) (List._∷_ (Row.lease (κs .1 .0) (qs .1 .0)) (List._∷_ Row.off (List._∷_ Row.off (List._∷_ Row.off (List._∷_ (Row.lease (κs .1 .1 .1 .1 .1 .0) (qs .1 .1 .1 .1 .1 .0)) (List._∷_ Row.alive (List._∷_ Row.alive (List._∷_ Row.alive (List._∷_ Row.off List.[]))))))))) }
 
         abbrev G47 : Row.Cx
-        G47 = record { locals = List._++_ g30 (List._++_ t36 t37); slots = List._∷_ (Row.lease (κs .0) (qs .0)) (List._∷_ (Row.lease (κs .1 .0) (qs .1 .0)) (List._∷_ Row.off (List._∷_ Row.off (List._∷_ Row.off (List._∷_ (Row.lease (κs .1 .1 .1 .1 .1 .0) (qs .1 .1 .1 .1 .1 .0)) (List._∷_ Row.dead (List._∷_ Row.alive (List._∷_ Row.alive (List._∷_ Row.off List.[]))))))))); }
+        G47 = record { locals = List._++_ g30 (List._++_ t36 t37); slots = List._∷_ (Row.lease (κs .0) (qs .0)) (List._∷_ (Row.lease (κs .1 .0) (qs .1 .0)) (List._∷_ Row.off (List._∷_ Row.off (List._∷_ Row.off (List._∷_ (Row.lease (κs .1 .1 .1 .1 .1 .0) (qs .1 .1 .1 .1 .1 .0)) (List._∷_ Row.dead (List._∷_ Row.alive (List._∷_ Row.alive (List._∷_ Row.off List.[]))))))))) }
 
         abbrev G48 : Row.Cx
-        G48 = record { locals = List._++_ g38 (List._++_ t39 t37); slots = List._∷_ (Row.lease (κs .0) (qs .0)) (List._∷_ (Row.lease (κs .1 .0) (qs .1 .0)) (List._∷_ (Row.lease (κs .1 .1 .0) (qs .1 .1 .0)) (List._∷_ Row.off (List._∷_ Row.off (List._∷_ (Row.lease (κs .1 .1 .1 .1 .1 .0) (qs .1 .1 .1 .1 .1 .0)) (List._∷_ Row.dead (List._∷_ Row.alive (List._∷_ Row.alive (List._∷_ Row.off List.[]))))))))); }
+        G48 = record { locals = List._++_ g38 (List._++_ t39 t37); slots = List._∷_ (Row.lease (κs .0) (qs .0)) (List._∷_ (Row.lease (κs .1 .0) (qs .1 .0)) (List._∷_ (Row.lease (κs .1 .1 .0) (qs .1 .1 .0)) (List._∷_ Row.off (List._∷_ Row.off (List._∷_ (Row.lease (κs .1 .1 .1 .1 .1 .0) (qs .1 .1 .1 .1 .1 .0)) (List._∷_ Row.dead (List._∷_ Row.alive (List._∷_ Row.alive (List._∷_ Row.off List.[]))))))))) }
 
         abbrev G49 : Row.Cx
-        G49 = record { locals = List._++_ g38 (List._++_ t39 t37); slots = List._∷_ (Row.lease (κs .0) (qs .0)) (List._∷_ (Row.lease (κs .1 .0) (qs .1 .0)) (List._∷_ (Row.lease (κs .1 .1 .0) (qs .1 .1 .0)) (List._∷_ Row.off (List._∷_ Row.off (List._∷_ (Row.lease (κs .1 .1 .1 .1 .1 .0) (qs .1 .1 .1 .1 .1 .0)) (List._∷_ Row.dead (List._∷_ Row.alive (List._∷_ Row.alive (List._∷_ Row.off List.[]))))))))); }
+        G49 = record { locals = List._++_ g38 (List._++_ t39 t37); slots = List._∷_ (Row.lease (κs .0) (qs .0)) (List._∷_ (Row.lease (κs .1 .0) (qs .1 .0)) (List._∷_ (Row.lease (κs .1 .1 .0) (qs .1 .1 .0)) (List._∷_ Row.off (List._∷_ Row.off (List._∷_ (Row.lease (κs .1 .1 .1 .1 .1 .0) (qs .1 .1 .1 .1 .1 .0)) (List._∷_ Row.dead (List._∷_ Row.alive (List._∷_ Row.alive (List._∷_ Row.off List.[]))))))))) }
 
         abbrev G50 : Row.Cx
-        G50 = record { locals = List._++_ g38 (List._++_ t39 t37); slots = List._∷_ (Row.lease (κs .0) (qs .0)) (List._∷_ (Row.lease (κs .1 .0) (qs .1 .0)) (List._∷_ (Row.lease (κs .1 .1 .0) (qs .1 .1 .0)) (List._∷_ Row.off (List._∷_ Row.off (List._∷_ (Row.lease (κs .1 .1 .1 .1 .1 .0) (qs .1 .1 .1 .1 .1 .0)) (List._∷_ Row.off (List._∷_ Row.alive (List._∷_ Row.alive (List._∷_ Row.off List.[]))))))))); }
+        G50 = record { locals = List._++_ g38 (List._++_ t39 t37); slots = List._∷_ (Row.lease (κs .0) (qs .0)) (List._∷_ (Row.lease (κs .1 .0) (qs .1 .0)) (List._∷_ (Row.lease (κs .1 .1 .0) (qs .1 .1 .0)) (List._∷_ Row.off (List._∷_ Row.off (List._∷_ (Row.lease (κs .1 .1 .1 .1 .1 .0) (qs .1 .1 .1 .1 .1 .0)) (List._∷_ Row.off (List._∷_ Row.alive (List._∷_ Row.alive (List._∷_ Row.off List.[]))))))))) }
 
         abbrev G51 : Row.Cx
-        G51 = record { locals = List._++_ g38 (List._++_ t39 t37); slots = List._∷_ (Row.lease (κs .0) (qs .0)) (List._∷_ (Row.lease (κs .1 .0) (qs .1 .0)) (List._∷_ (Row.lease (κs .1 .1 .0) (qs .1 .1 .0)) (List._∷_ Row.off (List._∷_ Row.off (List._∷_ (Row.lease (κs .1 .1 .1 .1 .1 .0) (qs .1 .1 .1 .1 .1 .0)) (List._∷_ Row.off (List._∷_ Row.dead (List._∷_ Row.alive (List._∷_ Row.off List.[]))))))))); }
+        G51 = record { locals = List._++_ g38 (List._++_ t39 t37); slots = List._∷_ (Row.lease (κs .0) (qs .0)) (List._∷_ (Row.lease (κs .1 .0) (qs .1 .0)) (List._∷_ (Row.lease (κs .1 .1 .0) (qs .1 .1 .0)) (List._∷_ Row.off (List._∷_ Row.off (List._∷_ (Row.lease (κs .1 .1 .1 .1 .1 .0) (qs .1 .1 .1 .1 .1 .0)) (List._∷_ Row.off (List._∷_ Row.dead (List._∷_ Row.alive (List._∷_ Row.off List.[]))))))))) }
 
         abbrev G52 : Row.Cx
-        G52 = record { locals = List._++_ g40 (List._++_ t39 t41); slots = List._∷_ (Row.lease (κs .0) (qs .0)) (List._∷_ (Row.lease (κs .1 .0) (qs .1 .0)) (List._∷_ (Row.lease (κs .1 .1 .0) (qs .1 .1 .0)) (List._∷_ (Row.lease (κs .1 .1 .1 .0) (qs .1 .1 .1 .0)) (List._∷_ Row.off (List._∷_ (Row.lease (κs .1 .1 .1 .1 .1 .0) (qs .1 .1 .1 .1 .1 .0)) (List._∷_ Row.off (List._∷_ Row.dead (List._∷_ Row.alive (List._∷_ Row.off List.[]))))))))); }
+        G52 = record { locals = List._++_ g40 (List._++_ t39 t41); slots = List._∷_ (Row.lease (κs .0) (qs .0)) (List._∷_ (Row.lease (κs .1 .0) (qs .1 .0)) (List._∷_ (Row.lease (κs .1 .1 .0) (qs .1 .1 .0)) (List._∷_ (Row.lease (κs .1 .1 .1 .0) (qs .1 .1 .1 .0)) (List._∷_ Row.off (List._∷_ (Row.lease (κs .1 .1 .1 .1 .1 .0) (qs .1 .1 .1 .1 .1 .0)) (List._∷_ Row.off (List._∷_ Row.dead (List._∷_ Row.alive (List._∷_ Row.off List.[]))))))))) }
 
         abbrev G53 : Row.Cx
-        G53 = record { locals = List._++_ g40 (List._++_ t39 t41); slots = List._∷_ (Row.lease (κs .0) (qs .0)) (List._∷_ (Row.lease (κs .1 .0) (qs .1 .0)) (List._∷_ (Row.lease (κs .1 .1 .0) (qs .1 .1 .0)) (List._∷_ (Row.lease (κs .1 .1 .1 .0) (qs .1 .1 .1 .0)) (List._∷_ Row.off (List._∷_ (Row.lease (κs .1 .1 .1 .1 .1 .0) (qs .1 .1 .1 .1 .1 .0)) (List._∷_ Row.off (List._∷_ Row.dead (List._∷_ Row.alive (List._∷_ Row.off List.[]))))))))); }
+        G53 = record { locals = List._++_ g40 (List._++_ t39 t41); slots = List._∷_ (Row.lease (κs .0) (qs .0)) (List._∷_ (Row.lease (κs .1 .0) (qs .1 .0)) (List._∷_ (Row.lease (κs .1 .1 .0) (qs .1 .1 .0)) (List._∷_ (Row.lease (κs .1 .1 .1 .0) (qs .1 .1 .1 .0)) (List._∷_ Row.off (List._∷_ (Row.lease (κs .1 .1 .1 .1 .1 .0) (qs .1 .1 .1 .1 .1 .0)) (List._∷_ Row.off (List._∷_ Row.dead (List._∷_ Row.alive (List._∷_ Row.off List.[]))))))))) }
 
         abbrev G54 : Row.Cx
-        G54 = record { locals = List._++_ g40 (List._++_ t39 t41); slots = List._∷_ (Row.lease (κs .0) (qs .0)) (List._∷_ (Row.lease (κs .1 .0) (qs .1 .0)) (List._∷_ (Row.lease (κs .1 .1 .0) (qs .1 .1 .0)) (List._∷_ (Row.lease (κs .1 .1 .1 .0) (qs .1 .1 .1 .0)) (List._∷_ Row.off (List._∷_ (Row.lease (κs .1 .1 .1 .1 .1 .0) (qs .1 .1 .1 .1 .1 .0)) (List._∷_ Row.off (List._∷_ Row.off (List._∷_ Row.alive (List._∷_ Row.off List.[]))))))))); }
+        G54 = record { locals = List._++_ g40 (List._++_ t39 t41); slots = List._∷_ (Row.lease (κs .0) (qs .0)) (List._∷_ (Row.lease (κs .1 .0) (qs .1 .0)) (List._∷_ (Row.lease (κs .1 .1 .0) (qs .1 .1 .0)) (List._∷_ (Row.lease (κs .1 .1 .1 .0) (qs .1 .1 .1 .0)) (List._∷_ Row.off (List._∷_ (Row.lease (κs .1 .1 .1 .1 .1 .0) (qs .1 .1 .1 .1 .1 .0)) (List._∷_ Row.off (List._∷_ Row.off (List._∷_ Row.alive (List._∷_ Row.off List.[]))))))))) }
 
         abbrev G55 : Row.Cx
-        G55 = record { locals = List._++_ g40 (List._++_ t39 t41); slots = List._∷_ (Row.lease (κs .0) (qs .0)) (List._∷_ (Row.lease (κs .1 .0) (qs .1 .0)) (List._∷_ (Row.lease (κs .1 .1 .0) (qs .1 .1 .0)) (List._∷_ (Row.lease (κs .1 .1 .1 .0) (qs .1 .1 .1 .0)) (List._∷_ Row.off (List._∷_ (Row.lease (κs .1 .1 .1 .1 .1 .0) (qs .1 .1 .1 .1 .1 .0)) (List._∷_ Row.off (List._∷_ Row.off (List._∷_ Row.dead (List._∷_ Row.off List.[]))))))))); }
+        G55 = record { locals = List._++_ g40 (List._++_ t39 t41); slots = List._∷_ (Row.lease (κs .0) (qs .0)) (List._∷_ (Row.lease (κs .1 .0) (qs .1 .0)) (List._∷_ (Row.lease (κs .1 .1 .0) (qs .1 .1 .0)) (List._∷_ (Row.lease (κs .1 .1 .1 .0) (qs .1 .1 .1 .0)) (List._∷_ Row.off (List._∷_ (Row.lease (κs .1 .1 .1 .1 .1 .0) (qs .1 .1 .1 .1 .1 .0)) (List._∷_ Row.off (List._∷_ Row.off (List._∷_ Row.dead (List._∷_ Row.off List.[]))))))))) }
 
         abbrev G56 : Row.Cx
-        G56 = record { locals = List._++_ t18 (List._++_ t39 t2); slots = List._∷_ (Row.lease (κs .0) (qs .0)) (List._∷_ (Row.lease (κs .1 .0) (qs .1 .0)) (List._∷_ (Row.lease (κs .1 .1 .0) (qs .1 .1 .0)) (List._∷_ (Row.lease (κs .1 .1 .1 .0) (qs .1 .1 .1 .0)) (List._∷_ (Row.lease (κs .1 .1 .1 .1 .0) (qs .1 .1 .1 .1 .0)) (List._∷_ (Row.lease (κs .1 .1 .1 .1 .1 .0) (qs .1 .1 .1 .1 .1 .0)) (List._∷_ Row.off (List._∷_ Row.off (List._∷_ Row.dead (List._∷_ Row.off List.[]))))))))); }
+        G56 = record { locals = List._++_ t18 (List._++_ t39 t2); slots = List._∷_ (Row.lease (κs .0) (qs .0)) (List._∷_ (Row.lease (κs .1 .0) (qs .1 .0)) (List._∷_ (Row.lease (κs .1 .1 .0) (qs .1 .1 .0)) (List._∷_ (Row.lease (κs .1 .1 .1 .0) (qs .1 .1 .1 .0)) (List._∷_ (Row.lease (κs .1 .1 .1 .1 .0) (qs .1 .1 .1 .1 .0)) (List._∷_ (Row.lease (κs .1 .1 .1 .1 .1 .0) (qs .1 .1 .1 .1 .1 .0)) (List._∷_ Row.off (List._∷_ Row.off (List._∷_ Row.dead (List._∷_ Row.off List.[]))))))))) }
 
         abbrev G57 : Row.Cx
-        G57 = record { locals = List._++_ t18 (List._++_ t39 t2); slots = List._∷_ (Row.lease (κs .0) (qs .0)) (List._∷_ (Row.lease (κs .1 .0) (qs .1 .0)) (List._∷_ (Row.lease (κs .1 .1 .0) (qs .1 .1 .0)) (List._∷_ (Row.lease (κs .1 .1 .1 .0) (qs .1 .1 .1 .0)) (List._∷_ (Row.lease (κs .1 .1 .1 .1 .0) (qs .1 .1 .1 .1 .0)) (List._∷_ (Row.lease (κs .1 .1 .1 .1 .1 .0) (qs .1 .1 .1 .1 .1 .0)) (List._∷_ Row.off (List._∷_ Row.off (List._∷_ Row.off (List._∷_ Row.off List.[]))))))))); }
+        G57 = record { locals = List._++_ t18 (List._++_ t39 t2); slots = List._∷_ (Row.lease (κs .0) (qs .0)) (List._∷_ (Row.lease (κs .1 .0) (qs .1 .0)) (List._∷_ (Row.lease (κs .1 .1 .0) (qs .1 .1 .0)) (List._∷_ (Row.lease (κs .1 .1 .1 .0) (qs .1 .1 .1 .0)) (List._∷_ (Row.lease (κs .1 .1 .1 .1 .0) (qs .1 .1 .1 .1 .0)) (List._∷_ (Row.lease (κs .1 .1 .1 .1 .1 .0) (qs .1 .1 .1 .1 .1 .0)) (List._∷_ Row.off (List._∷_ Row.off (List._∷_ Row.off (List._∷_ Row.off List.[]))))))))) }
 
         abbrev G58 : Row.Cx
-        G58 = record { locals = List._++_ t18 (List._++_ t39 t2); slots = List._∷_ (Row.lease (κs .0) (qs .0)) (List._∷_ (Row.lease (κs .1 .0) (qs .1 .0)) (List._∷_ (Row.lease (κs .1 .1 .0) (qs .1 .1 .0)) (List._∷_ (Row.lease (κs .1 .1 .1 .0) (qs .1 .1 .1 .0)) (List._∷_ (Row.lease (κs .1 .1 .1 .1 .0) (qs .1 .1 .1 .1 .0)) (List._∷_ (Row.lease (κs .1 .1 .1 .1 .1 .0) (qs .1 .1 .1 .1 .1 .0)) (List._∷_ Row.off (List._∷_ Row.off (List._∷_ Row.off (List._∷_ Row.off List.[]))))))))); }
+        G58 = record { locals = List._++_ t18 (List._++_ t39 t2); slots = List._∷_ (Row.lease (κs .0) (qs .0)) (List._∷_ (Row.lease (κs .1 .0) (qs .1 .0)) (List._∷_ (Row.lease (κs .1 .1 .0) (qs .1 .1 .0)) (List._∷_ (Row.lease (κs .1 .1 .1 .0) (qs .1 .1 .1 .0)) (List._∷_ (Row.lease (κs .1 .1 .1 .1 .0) (qs .1 .1 .1 .1 .0)) (List._∷_ (Row.lease (κs .1 .1 .1 .1 .1 .0) (qs .1 .1 .1 .1 .1 .0)) (List._∷_ Row.off (List._∷_ Row.off (List._∷_ Row.off (List._∷_ Row.off List.[]))))))))) }
 
         abbrev G59 : Row.Cx
-        G59 = record { locals = List._++_ t18 (List._++_ t19 t2); slots = List._∷_ (Row.lease (κs .0) (qs .0)) (List._∷_ (Row.lease (κs .1 .0) (qs .1 .0)) (List._∷_ (Row.lease (κs .1 .1 .0) (qs .1 .1 .0)) (List._∷_ (Row.lease (κs .1 .1 .1 .0) (qs .1 .1 .1 .0)) (List._∷_ (Row.lease (κs .1 .1 .1 .1 .0) (qs .1 .1 .1 .1 .0)) (List._∷_ (Row.lease (κs .1 .1 .1 .1 .1 .0) (qs .1 .1 .1 .1 .1 .0)) (List._∷_ Row.off (List._∷_ Row.off (List._∷_ Row.off (List._∷_ Row.off List.[]))))))))); }
+        G59 = record { locals = List._++_ t18 (List._++_ t19 t2); slots = List._∷_ (Row.lease (κs .0) (qs .0)) (List._∷_ (Row.lease (κs .1 .0) (qs .1 .0)) (List._∷_ (Row.lease (κs .1 .1 .0) (qs .1 .1 .0)) (List._∷_ (Row.lease (κs .1 .1 .1 .0) (qs .1 .1 .1 .0)) (List._∷_ (Row.lease (κs .1 .1 .1 .1 .0) (qs .1 .1 .1 .1 .0)) (List._∷_ (Row.lease (κs .1 .1 .1 .1 .1 .0) (qs .1 .1 .1 .1 .1 .0)) (List._∷_ Row.off (List._∷_ Row.off (List._∷_ Row.off (List._∷_ Row.off List.[]))))))))) }
 
         abbrev G60 : Row.Cx
-        G60 = record { locals = List._++_ t10 (List._++_ t42 t2); slots = List._∷_ (Row.lease (κs .0) (qs .0)) (List._∷_ (Row.lease (κs .1 .0) (qs .1 .0)) (List._∷_ (Row.lease (κs .1 .1 .0) (qs .1 .1 .0)) (List._∷_ (Row.lease (κs .1 .1 .1 .0) (qs .1 .1 .1 .0)) (List._∷_ (Row.lease (κs .1 .1 .1 .1 .0) (qs .1 .1 .1 .1 .0)) (List._∷_ (Row.lease (κs .1 .1 .1 .1 .1 .0) (qs .1 .1 .1 .1 .1 .0)) (List._∷_ Row.off (List._∷_ Row.off (List._∷_ Row.off (List._∷_ Row.off List.[]))))))))); }
+        G60 = record { locals = List._++_ t10 (List._++_ t42 t2); slots = List._∷_ (Row.lease (κs .0) (qs .0)) (List._∷_ (Row.lease (κs .1 .0) (qs .1 .0)) (List._∷_ (Row.lease (κs .1 .1 .0) (qs .1 .1 .0)) (List._∷_ (Row.lease (κs .1 .1 .1 .0) (qs .1 .1 .1 .0)) (List._∷_ (Row.lease (κs .1 .1 .1 .1 .0) (qs .1 .1 .1 .1 .0)) (List._∷_ (Row.lease (κs .1 .1 .1 .1 .1 .0) (qs .1 .1 .1 .1 .1 .0)) (List._∷_ Row.off (List._∷_ Row.off (List._∷_ Row.off (List._∷_ Row.off List.[]))))))))) }
 
         abbrev G61 : Row.Cx
-        G61 = record { locals = List._++_ t10 (List._++_ t42 t2); slots = List._∷_ (Row.lease (κs .0) (qs .0)) (List._∷_ (Row.lease (κs .1 .0) (qs .1 .0)) (List._∷_ (Row.lease (κs .1 .1 .0) (qs .1 .1 .0)) (List._∷_ (Row.lease (κs .1 .1 .1 .0) (qs .1 .1 .1 .0)) (List._∷_ (Row.lease (κs .1 .1 .1 .1 .0) (qs .1 .1 .1 .1 .0)) (List._∷_ (Row.lease (κs .1 .1 .1 .1 .1 .0) (qs .1 .1 .1 .1 .1 .0)) (List._∷_ Row.off (List._∷_ Row.off (List._∷_ Row.off (List._∷_ Row.off List.[]))))))))); }
+        G61 = record { locals = List._++_ t10 (List._++_ t42 t2); slots = List._∷_ (Row.lease (κs .0) (qs .0)) (List._∷_ (Row.lease (κs .1 .0) (qs .1 .0)) (List._∷_ (Row.lease (κs .1 .1 .0) (qs .1 .1 .0)) (List._∷_ (Row.lease (κs .1 .1 .1 .0) (qs .1 .1 .1 .0)) (List._∷_ (Row.lease (κs .1 .1 .1 .1 .0) (qs .1 .1 .1 .1 .0)) (List._∷_ (Row.lease (κs .1 .1 .1 .1 .1 .0) (qs .1 .1 .1 .1 .1 .0)) (List._∷_ Row.off (List._∷_ Row.off (List._∷_ Row.off (List._∷_ Row.off List.[]))))))))) }
 
         abbrev G62 : Row.Cx
-        G62 = record { locals = List._++_ t18 (List._++_ t42 t2); slots = List._∷_ (Row.lease (κs .0) (qs .0)) (List._∷_ (Row.lease (κs .1 .0) (qs .1 .0)) (List._∷_ (Row.lease (κs .1 .1 .0) (qs .1 .1 .0)) (List._∷_ (Row.lease (κs .1 .1 .1 .0) (qs .1 .1 .1 .0)) (List._∷_ (Row.lease (κs .1 .1 .1 .1 .0) (qs .1 .1 .1 .1 .0)) (List._∷_ (Row.lease (κs .1 .1 .1 .1 .1 .0) (qs .1 .1 .1 .1 .1 .0)) (List._∷_ Row.off (List._∷_ Row.off (List._∷_ Row.off (List._∷_ Row.off List.[]))))))))); }
+        G62 = record { locals = List._++_ t18 (List._++_ t42 t2); slots = List._∷_ (Row.lease (κs .0) (qs .0)) (List._∷_ (Row.lease (κs .1 .0) (qs .1 .0)) (List._∷_ (Row.lease (κs .1 .1 .0) (qs .1 .1 .0)) (List._∷_ (Row.lease (κs .1 .1 .1 .0) (qs .1 .1 .1 .0)) (List._∷_ (Row.lease (κs .1 .1 .1 .1 .0) (qs .1 .1 .1 .1 .0)) (List._∷_ (Row.lease (κs .1 .1 .1 .1 .1 .0) (qs .1 .1 .1 .1 .1 .0)) (List._∷_ Row.off (List._∷_ Row.off (List._∷_ Row.off (List._∷_ Row.off List.[]))))))))) }
 
         abbrev G63 : Row.Cx
-        G63 = record { locals = List._++_ t18 (List._++_ t43 t2); slots = List._∷_ (Row.lease (κs .0) (qs .0)) (List._∷_ (Row.lease (κs .1 .0) (qs .1 .0)) (List._∷_ (Row.lease (κs .1 .1 .0) (qs .1 .1 .0)) (List._∷_ (Row.lease (κs .1 .1 .1 .0) (qs .1 .1 .1 .0)) (List._∷_ (Row.lease (κs .1 .1 .1 .1 .0) (qs .1 .1 .1 .1 .0)) (List._∷_ (Row.lease (κs .1 .1 .1 .1 .1 .0) (qs .1 .1 .1 .1 .1 .0)) (List._∷_ Row.off (List._∷_ Row.off (List._∷_ Row.off (List._∷_ Row.off List.[]))))))))); }
+        G63 = record { locals = List._++_ t18 (List._++_ t43 t2); slots = List._∷_ (Row.lease (κs .0) (qs .0)) (List._∷_ (Row.lease (κs .1 .0) (qs .1 .0)) (List._∷_ (Row.lease (κs .1 .1 .0) (qs .1 .1 .0)) (List._∷_ (Row.lease (κs .1 .1 .1 .0) (qs .1 .1 .1 .0)) (List._∷_ (Row.lease (κs .1 .1 .1 .1 .0) (qs .1 .1 .1 .1 .0)) (List._∷_ (Row.lease (κs .1 .1 .1 .1 .1 .0) (qs .1 .1 .1 .1 .1 .0)) (List._∷_ Row.off (List._∷_ Row.off (List._∷_ Row.off (List._∷_ Row.off List.[]))))))))) }
 
         abbrev G64 : Row.Cx
-        G64 = record { locals = List._++_ t18 (List._++_ t44 t2); slots = List._∷_ (Row.lease (κs .0) (qs .0)) (List._∷_ (Row.lease (κs .1 .0) (qs .1 .0)) (List._∷_ (Row.lease (κs .1 .1 .0) (qs .1 .1 .0)) (List._∷_ (Row.lease (κs .1 .1 .1 .0) (qs .1 .1 .1 .0)) (List._∷_ (Row.lease (κs .1 .1 .1 .1 .0) (qs .1 .1 .1 .1 .0)) (List._∷_ (Row.lease (κs .1 .1 .1 .1 .1 .0) (qs .1 .1 .1 .1 .1 .0)) (List._∷_ Row.off (List._∷_ Row.off (List._∷_ Row.off (List._∷_ Row.off List.[]))))))))); }
+        G64 = record { locals = List._++_ t18 (List._++_ t44 t2); slots = List._∷_ (Row.lease (κs .0) (qs .0)) (List._∷_ (Row.lease (κs .1 .0) (qs .1 .0)) (List._∷_ (Row.lease (κs .1 .1 .0) (qs .1 .1 .0)) (List._∷_ (Row.lease (κs .1 .1 .1 .0) (qs .1 .1 .1 .0)) (List._∷_ (Row.lease (κs .1 .1 .1 .1 .0) (qs .1 .1 .1 .1 .0)) (List._∷_ (Row.lease (κs .1 .1 .1 .1 .1 .0) (qs .1 .1 .1 .1 .1 .0)) (List._∷_ Row.off (List._∷_ Row.off (List._∷_ Row.off (List._∷_ Row.off List.[]))))))))) }
 
         abbrev G65 : Row.Cx
-        G65 = record { locals = List._++_ t18 (List._++_ t45 t2); slots = List._∷_ (Row.lease (κs .0) (qs .0)) (List._∷_ (Row.lease (κs .1 .0) (qs .1 .0)) (List._∷_ (Row.lease (κs .1 .1 .0) (qs .1 .1 .0)) (List._∷_ (Row.lease (κs .1 .1 .1 .0) (qs .1 .1 .1 .0)) (List._∷_ (Row.lease (κs .1 .1 .1 .1 .0) (qs .1 .1 .1 .1 .0)) (List._∷_ (Row.lease (κs .1 .1 .1 .1 .1 .0) (qs .1 .1 .1 .1 .1 .0)) (List._∷_ Row.off (List._∷_ Row.off (List._∷_ Row.off (List._∷_ Row.off List.[]))))))))); }
+        G65 = record { locals = List._++_ t18 (List._++_ t45 t2); slots = List._∷_ (Row.lease (κs .0) (qs .0)) (List._∷_ (Row.lease (κs .1 .0) (qs .1 .0)) (List._∷_ (Row.lease (κs .1 .1 .0) (qs .1 .1 .0)) (List._∷_ (Row.lease (κs .1 .1 .1 .0) (qs .1 .1 .1 .0)) (List._∷_ (Row.lease (κs .1 .1 .1 .1 .0) (qs .1 .1 .1 .1 .0)) (List._∷_ (Row.lease (κs .1 .1 .1 .1 .1 .0) (qs .1 .1 .1 .1 .1 .0)) (List._∷_ Row.off (List._∷_ Row.off (List._∷_ Row.off (List._∷_ Row.off List.[]))))))))) }
 
         abbrev G66 : Row.Cx
-        G66 = record { locals = List._++_ t18 (List._++_ t46 t2); slots = List._∷_ (Row.lease (κs .0) (qs .0)) (List._∷_ (Row.lease (κs .1 .0) (qs .1 .0)) (List._∷_ (Row.lease (κs .1 .1 .0) (qs .1 .1 .0)) (List._∷_ (Row.lease (κs .1 .1 .1 .0) (qs .1 .1 .1 .0)) (List._∷_ (Row.lease (κs .1 .1 .1 .1 .0) (qs .1 .1 .1 .1 .0)) (List._∷_ (Row.lease (κs .1 .1 .1 .1 .1 .0) (qs .1 .1 .1 .1 .1 .0)) (List._∷_ Row.off (List._∷_ Row.off (List._∷_ Row.off (List._∷_ Row.off List.[]))))))))); }
+        G66 = record { locals = List._++_ t18 (List._++_ t46 t2); slots = List._∷_ (Row.lease (κs .0) (qs .0)) (List._∷_ (Row.lease (κs .1 .0) (qs .1 .0)) (List._∷_ (Row.lease (κs .1 .1 .0) (qs .1 .1 .0)) (List._∷_ (Row.lease (κs .1 .1 .1 .0) (qs .1 .1 .1 .0)) (List._∷_ (Row.lease (κs .1 .1 .1 .1 .0) (qs .1 .1 .1 .1 .0)) (List._∷_ (Row.lease (κs .1 .1 .1 .1 .1 .0) (qs .1 .1 .1 .1 .1 .0)) (List._∷_ Row.off (List._∷_ Row.off (List._∷_ Row.off (List._∷_ Row.off List.[]))))))))) }
 
         abbrev G67 : Row.Cx
-        G67 = record { locals = List._++_ t18 (List._++_ t46 t2); slots = List._∷_ (Row.lease (κs .0) (qs .0)) (List._∷_ (Row.lease (κs .1 .0) (qs .1 .0)) (List._∷_ (Row.lease (κs .1 .1 .0) (qs .1 .1 .0)) (List._∷_ (Row.lease (κs .1 .1 .1 .0) (qs .1 .1 .1 .0)) (List._∷_ (Row.lease (κs .1 .1 .1 .1 .0) (qs .1 .1 .1 .1 .0)) (List._∷_ (Row.lease (κs .1 .1 .1 .1 .1 .0) (qs .1 .1 .1 .1 .1 .0)) (List._∷_ Row.off (List._∷_ Row.off (List._∷_ Row.off (List._∷_ Row.alive List.[]))))))))); }
+        G67 = record { locals = List._++_ t18 (List._++_ t46 t2); slots = List._∷_ (Row.lease (κs .0) (qs .0)) (List._∷_ (Row.lease (κs .1 .0) (qs .1 .0)) (List._∷_ (Row.lease (κs .1 .1 .0) (qs .1 .1 .0)) (List._∷_ (Row.lease (κs .1 .1 .1 .0) (qs .1 .1 .1 .0)) (List._∷_ (Row.lease (κs .1 .1 .1 .1 .0) (qs .1 .1 .1 .1 .0)) (List._∷_ (Row.lease (κs .1 .1 .1 .1 .1 .0) (qs .1 .1 .1 .1 .1 .0)) (List._∷_ Row.off (List._∷_ Row.off (List._∷_ Row.off (List._∷_ Row.alive List.[]))))))))) }
 
         abbrev G68 : Row.Cx
-        G68 = record { locals = List._++_ g47 (List._++_ t46 t48); slots = List._∷_ (Row.lease (κs .0) (qs .0)) (List._∷_ (Row.lease (κs .1 .0) (qs .1 .0)) (List._∷_ (Row.lease (κs .1 .1 .0) (qs .1 .1 .0)) (List._∷_ (Row.lease (κs .1 .1 .1 .0) (qs .1 .1 .1 .0)) (List._∷_ (Row.lease (κs .1 .1 .1 .1 .0) (qs .1 .1 .1 .1 .0)) (List._∷_ Row.off (List._∷_ Row.off (List._∷_ Row.off (List._∷_ Row.off (List._∷_ Row.alive List.[]))))))))); }
+        G68 = record { locals = List._++_ g47 (List._++_ t46 t48); slots = List._∷_ (Row.lease (κs .0) (qs .0)) (List._∷_ (Row.lease (κs .1 .0) (qs .1 .0)) (List._∷_ (Row.lease (κs .1 .1 .0) (qs .1 .1 .0)) (List._∷_ (Row.lease (κs .1 .1 .1 .0) (qs .1 .1 .1 .0)) (List._∷_ (Row.lease (κs .1 .1 .1 .1 .0) (qs .1 .1 .1 .1 .0)) (List._∷_ Row.off (List._∷_ Row.off (List._∷_ Row.off (List._∷_ Row.off (List._∷_ Row.alive List.[]))))))))) }
 
         abbrev G69 : Row.Cx
-        G69 = record { locals = List._++_ g47 (List._++_ t46 t49); slots = List._∷_ (Row.lease (κs .0) (qs .0)) (List._∷_ (Row.lease (κs .1 .0) (qs .1 .0)) (List._∷_ (Row.lease (κs .1 .1 .0) (qs .1 .1 .0)) (List._∷_ (Row.lease (κs .1 .1 .1 .0) (qs .1 .1 .1 .0)) (List._∷_ (Row.lease (κs .1 .1 .1 .1 .0) (qs .1 .1 .1 .1 .0)) (List._∷_ Row.off (List._∷_ Row.off (List._∷_ Row.off (List._∷_ Row.off (List._∷_ Row.alive List.[]))))))))); }
+        G69 = record { locals = List._++_ g47 (List._++_ t46 t49); slots = List._∷_ (Row.lease (κs .0) (qs .0)) (List._∷_ (Row.lease (κs .1 .0) (qs .1 .0)) (List._∷_ (Row.lease (κs .1 .1 .0) (qs .1 .1 .0)) (List._∷_ (Row.lease (κs .1 .1 .1 .0) (qs .1 .1 .1 .0)) (List._∷_ (Row.lease (κs .1 .1 .1 .1 .0) (qs .1 .1 .1 .1 .0)) (List._∷_ Row.off (List._∷_ Row.off (List._∷_ Row.off (List._∷_ Row.off (List._∷_ Row.alive List.[]))))))))) }
 
         abbrev G70 : Row.Cx
-        G70 = record { locals = List._++_ g47 (List._++_ t46 t50); slots = List._∷_ (Row.lease (κs .0) (qs .0)) (List._∷_ (Row.lease (κs .1 .0) (qs .1 .0)) (List._∷_ (Row.lease (κs .1 .1 .0) (qs .1 .1 .0)) (List._∷_ (Row.lease (κs .1 .1 .1 .0) (qs .1 .1 .1 .0)) (List._∷_ (Row.lease (κs .1 .1 .1 .1 .0) (qs .1 .1 .1 .1 .0)) (List._∷_ Row.off (List._∷_ Row.off (List._∷_ Row.off (List._∷_ Row.off (List._∷_ Row.alive List.[]))))))))); }
+        G70 = record { locals = List._++_ g47 (List._++_ t46 t50); slots = List._∷_ (Row.lease (κs .0) (qs .0)) (List._∷_ (Row.lease (κs .1 .0) (qs .1 .0)) (List._∷_ (Row.lease (κs .1 .1 .0) (qs .1 .1 .0)) (List._∷_ (Row.lease (κs .1 .1 .1 .0) (qs .1 .1 .1 .0)) (List._∷_ (Row.lease (κs .1 .1 .1 .1 .0) (qs .1 .1 .1 .1 .0)) (List._∷_ Row.off (List._∷_ Row.off (List._∷_ Row.off (List._∷_ Row.off (List._∷_ Row.alive List.[]))))))))) }
 
         abbrev G71 : Row.Cx
-        G71 = record { locals = List._++_ g47 (List._++_ t46 t51); slots = List._∷_ (Row.lease (κs .0) (qs .0)) (List._∷_ (Row.lease (κs .1 .0) (qs .1 .0)) (List._∷_ (Row.lease (κs .1 .1 .0) (qs .1 .1 .0)) (List._∷_ (Row.lease (κs .1 .1 .1 .0) (qs .1 .1 .1 .0)) (List._∷_ (Row.lease (κs .1 .1 .1 .1 .0) (qs .1 .1 .1 .1 .0)) (List._∷_ Row.off (List._∷_ Row.off (List._∷_ Row.off (List._∷_ Row.off (List._∷_ Row.alive List.[]))))))))); }
+        G71 = record { locals = List._++_ g47 (List._++_ t46 t51); slots = List._∷_ (Row.lease (κs .0) (qs .0)) (List._∷_ (Row.lease (κs .1 .0) (qs .1 .0)) (List._∷_ (Row.lease (κs .1 .1 .0) (qs .1 .1 .0)) (List._∷_ (Row.lease (κs .1 .1 .1 .0) (qs .1 .1 .1 .0)) (List._∷_ (Row.lease (κs .1 .1 .1 .1 .0) (qs .1 .1 .1 .1 .0)) (List._∷_ Row.off (List._∷_ Row.off (List._∷_ Row.off (List._∷_ Row.off (List._∷_ Row.alive List.[]))))))))) }
 
         abbrev G72 : Row.Cx
-        G72 = record { locals = List._++_ g47 (List._++_ t19 t51); slots = List._∷_ (Row.lease (κs .0) (qs .0)) (List._∷_ (Row.lease (κs .1 .0) (qs .1 .0)) (List._∷_ (Row.lease (κs .1 .1 .0) (qs .1 .1 .0)) (List._∷_ (Row.lease (κs .1 .1 .1 .0) (qs .1 .1 .1 .0)) (List._∷_ (Row.lease (κs .1 .1 .1 .1 .0) (qs .1 .1 .1 .1 .0)) (List._∷_ Row.off (List._∷_ Row.off (List._∷_ Row.off (List._∷_ Row.off (List._∷_ Row.alive List.[]))))))))); }
+        G72 = record { locals = List._++_ g47 (List._++_ t19 t51); slots = List._∷_ (Row.lease (κs .0) (qs .0)) (List._∷_ (Row.lease (κs .1 .0) (qs .1 .0)) (List._∷_ (Row.lease (κs .1 .1 .0) (qs .1 .1 .0)) (List._∷_ (Row.lease (κs .1 .1 .1 .0) (qs .1 .1 .1 .0)) (List._∷_ (Row.lease (κs .1 .1 .1 .1 .0) (qs .1 .1 .1 .1 .0)) (List._∷_ Row.off (List._∷_ Row.off (List._∷_ Row.off (List._∷_ Row.off (List._∷_ Row.alive List.[]))))))))) }
 
         abbrev G73 : Row.Cx
-        G73 = record { locals = List._++_ g47 (List._++_ t19 t52); slots = List._∷_ (Row.lease (κs .0) (qs .0)) (List._∷_ (Row.lease (κs .1 .0) (qs .1 .0)) (List._∷_ (Row.lease (κs .1 .1 .0) (qs .1 .1 .0)) (List._∷_ (Row.lease (κs .1 .1 .1 .0) (qs .1 .1 .1 .0)) (List._∷_ (Row.lease (κs .1 .1 .1 .1 .0) (qs .1 .1 .1 .1 .0)) (List._∷_ Row.off (List._∷_ Row.off (List._∷_ Row.off (List._∷_ Row.off (List._∷_ Row.alive List.[]))))))))); }
+        G73 = record { locals = List._++_ g47 (List._++_ t19 t52); slots = List._∷_ (Row.lease (κs .0) (qs .0)) (List._∷_ (Row.lease (κs .1 .0) (qs .1 .0)) (List._∷_ (Row.lease (κs .1 .1 .0) (qs .1 .1 .0)) (List._∷_ (Row.lease (κs .1 .1 .1 .0) (qs .1 .1 .1 .0)) (List._∷_ (Row.lease (κs .1 .1 .1 .1 .0) (qs .1 .1 .1 .1 .0)) (List._∷_ Row.off (List._∷_ Row.off (List._∷_ Row.off (List._∷_ Row.off (List._∷_ Row.alive List.[]))))))))) }
 
         abbrev G74 : Row.Cx
-        G74 = record { locals = List._++_ g47 (List._++_ t19 t53); slots = List._∷_ (Row.lease (κs .0) (qs .0)) (List._∷_ (Row.lease (κs .1 .0) (qs .1 .0)) (List._∷_ (Row.lease (κs .1 .1 .0) (qs .1 .1 .0)) (List._∷_ (Row.lease (κs .1 .1 .1 .0) (qs .1 .1 .1 .0)) (List._∷_ (Row.lease (κs .1 .1 .1 .1 .0) (qs .1 .1 .1 .1 .0)) (List._∷_ Row.off (List._∷_ Row.off (List._∷_ Row.off (List._∷_ Row.off (List._∷_ Row.alive List.[]))))))))); }
+        G74 = record { locals = List._++_ g47 (List._++_ t19 t53); slots = List._∷_ (Row.lease (κs .0) (qs .0)) (List._∷_ (Row.lease (κs .1 .0) (qs .1 .0)) (List._∷_ (Row.lease (κs .1 .1 .0) (qs .1 .1 .0)) (List._∷_ (Row.lease (κs .1 .1 .1 .0) (qs .1 .1 .1 .0)) (List._∷_ (Row.lease (κs .1 .1 .1 .1 .0) (qs .1 .1 .1 .1 .0)) (List._∷_ Row.off (List._∷_ Row.off (List._∷_ Row.off (List._∷_ Row.off (List._∷_ Row.alive List.[]))))))))) }
 
         abbrev G75 : Row.Cx
-        G75 = record { locals = List._++_ g47 (List._++_ t19 t53); slots = List._∷_ (Row.lease (κs .0) (qs .0)) (List._∷_ (Row.lease (κs .1 .0) (qs .1 .0)) (List._∷_ (Row.lease (κs .1 .1 .0) (qs .1 .1 .0)) (List._∷_ (Row.lease (κs .1 .1 .1 .0) (qs .1 .1 .1 .0)) (List._∷_ (Row.lease (κs .1 .1 .1 .1 .0) (qs .1 .1 .1 .1 .0)) (List._∷_ Row.off (List._∷_ Row.off (List._∷_ Row.off (List._∷_ Row.off (List._∷_ Row.dead List.[]))))))))); }
+        G75 = record { locals = List._++_ g47 (List._++_ t19 t53); slots = List._∷_ (Row.lease (κs .0) (qs .0)) (List._∷_ (Row.lease (κs .1 .0) (qs .1 .0)) (List._∷_ (Row.lease (κs .1 .1 .0) (qs .1 .1 .0)) (List._∷_ (Row.lease (κs .1 .1 .1 .0) (qs .1 .1 .1 .0)) (List._∷_ (Row.lease (κs .1 .1 .1 .1 .0) (qs .1 .1 .1 .1 .0)) (List._∷_ Row.off (List._∷_ Row.off (List._∷_ Row.off (List._∷_ Row.off (List._∷_ Row.dead List.[]))))))))) }
 
         abbrev G76 : Row.Cx
-        G76 = record { locals = List._++_ t18 (List._++_ t19 t2); slots = List._∷_ (Row.lease (κs .0) (qs .0)) (List._∷_ (Row.lease (κs .1 .0) (qs .1 .0)) (List._∷_ (Row.lease (κs .1 .1 .0) (qs .1 .1 .0)) (List._∷_ (Row.lease (κs .1 .1 .1 .0) (qs .1 .1 .1 .0)) (List._∷_ (Row.lease (κs .1 .1 .1 .1 .0) (qs .1 .1 .1 .1 .0)) (List._∷_ (Row.lease (κs .1 .1 .1 .1 .1 .0) (qs .1 .1 .1 .1 .1 .0)) (List._∷_ Row.off (List._∷_ Row.off (List._∷_ Row.off (List._∷_ Row.dead List.[]))))))))); }
+        G76 = record { locals = List._++_ t18 (List._++_ t19 t2); slots = List._∷_ (Row.lease (κs .0) (qs .0)) (List._∷_ (Row.lease (κs .1 .0) (qs .1 .0)) (List._∷_ (Row.lease (κs .1 .1 .0) (qs .1 .1 .0)) (List._∷_ (Row.lease (κs .1 .1 .1 .0) (qs .1 .1 .1 .0)) (List._∷_ (Row.lease (κs .1 .1 .1 .1 .0) (qs .1 .1 .1 .1 .0)) (List._∷_ (Row.lease (κs .1 .1 .1 .1 .1 .0) (qs .1 .1 .1 .1 .1 .0)) (List._∷_ Row.off (List._∷_ Row.off (List._∷_ Row.off (List._∷_ Row.dead List.[]))))))))) }
 
         abbrev G77 : Row.Cx
-        G77 = record { locals = List._++_ t18 (List._++_ t19 t2); slots = List._∷_ (Row.lease (κs .0) (qs .0)) (List._∷_ (Row.lease (κs .1 .0) (qs .1 .0)) (List._∷_ (Row.lease (κs .1 .1 .0) (qs .1 .1 .0)) (List._∷_ (Row.lease (κs .1 .1 .1 .0) (qs .1 .1 .1 .0)) (List._∷_ (Row.lease (κs .1 .1 .1 .1 .0) (qs .1 .1 .1 .1 .0)) (List._∷_ (Row.lease (κs .1 .1 .1 .1 .1 .0) (qs .1 .1 .1 .1 .1 .0)) (List._∷_ Row.off (List._∷_ Row.off (List._∷_ Row.off (List._∷_ Row.off List.[]))))))))); }
+        G77 = record { locals = List._++_ t18 (List._++_ t19 t2); slots = List._∷_ (Row.lease (κs .0) (qs .0)) (List._∷_ (Row.lease (κs .1 .0) (qs .1 .0)) (List._∷_ (Row.lease (κs .1 .1 .0) (qs .1 .1 .0)) (List._∷_ (Row.lease (κs .1 .1 .1 .0) (qs .1 .1 .1 .0)) (List._∷_ (Row.lease (κs .1 .1 .1 .1 .0) (qs .1 .1 .1 .1 .0)) (List._∷_ (Row.lease (κs .1 .1 .1 .1 .1 .0) (qs .1 .1 .1 .1 .1 .0)) (List._∷_ Row.off (List._∷_ Row.off (List._∷_ Row.off (List._∷_ Row.off List.[]))))))))) }
 
         abbrev G78 : Row.Cx
-        G78 = record { locals = List._++_ t18 (List._++_ t19 t2); slots = List._∷_ (Row.lease (κs .0) (qs .0)) (List._∷_ (Row.lease (κs .1 .0) (qs .1 .0)) (List._∷_ (Row.lease (κs .1 .1 .0) (qs .1 .1 .0)) (List._∷_ (Row.lease (κs .1 .1 .1 .0) (qs .1 .1 .1 .0)) (List._∷_ (Row.lease (κs .1 .1 .1 .1 .0) (qs .1 .1 .1 .1 .0)) (List._∷_ (Row.lease (κs .1 .1 .1 .1 .1 .0) (qs .1 .1 .1 .1 .1 .0)) (List._∷_ Row.off (List._∷_ Row.off (List._∷_ Row.off (List._∷_ Row.off List.[]))))))))); }
+        G78 = record { locals = List._++_ t18 (List._++_ t19 t2); slots = List._∷_ (Row.lease (κs .0) (qs .0)) (List._∷_ (Row.lease (κs .1 .0) (qs .1 .0)) (List._∷_ (Row.lease (κs .1 .1 .0) (qs .1 .1 .0)) (List._∷_ (Row.lease (κs .1 .1 .1 .0) (qs .1 .1 .1 .0)) (List._∷_ (Row.lease (κs .1 .1 .1 .1 .0) (qs .1 .1 .1 .1 .0)) (List._∷_ (Row.lease (κs .1 .1 .1 .1 .1 .0) (qs .1 .1 .1 .1 .1 .0)) (List._∷_ Row.off (List._∷_ Row.off (List._∷_ Row.off (List._∷_ Row.off List.[]))))))))) }
 
         abbrev G79 : Row.Cx
-        G79 = record { locals = List._++_ t10 (List._++_ t54 t2); slots = List._∷_ (Row.lease (κs .0) (qs .0)) (List._∷_ (Row.lease (κs .1 .0) (qs .1 .0)) (List._∷_ (Row.lease (κs .1 .1 .0) (qs .1 .1 .0)) (List._∷_ (Row.lease (κs .1 .1 .1 .0) (qs .1 .1 .1 .0)) (List._∷_ (Row.lease (κs .1 .1 .1 .1 .0) (qs .1 .1 .1 .1 .0)) (List._∷_ (Row.lease (κs .1 .1 .1 .1 .1 .0) (qs .1 .1 .1 .1 .1 .0)) (List._∷_ Row.off (List._∷_ Row.off (List._∷_ Row.off (List._∷_ Row.off List.[]))))))))); }
+        G79 = record { locals = List._++_ t10 (List._++_ t54 t2); slots = List._∷_ (Row.lease (κs .0) (qs .0)) (List._∷_ (Row.lease (κs .1 .0) (qs .1 .0)) (List._∷_ (Row.lease (κs .1 .1 .0) (qs .1 .1 .0)) (List._∷_ (Row.lease (κs .1 .1 .1 .0) (qs .1 .1 .1 .0)) (List._∷_ (Row.lease (κs .1 .1 .1 .1 .0) (qs .1 .1 .1 .1 .0)) (List._∷_ (Row.lease (κs .1 .1 .1 .1 .1 .0) (qs .1 .1 .1 .1 .1 .0)) (List._∷_ Row.off (List._∷_ Row.off (List._∷_ Row.off (List._∷_ Row.off List.[]))))))))) }
 
         abbrev G80 : Row.Cx
-        G80 = record { locals = List._++_ t10 (List._++_ t54 t2); slots = List._∷_ (Row.lease (κs .0) (qs .0)) (List._∷_ (Row.lease (κs .1 .0) (qs .1 .0)) (List._∷_ (Row.lease (κs .1 .1 .0) (qs .1 .1 .0)) (List._∷_ (Row.lease (κs .1 .1 .1 .0) (qs .1 .1 .1 .0)) (List._∷_ (Row.lease (κs .1 .1 .1 .1 .0) (qs .1 .1 .1 .1 .0)) (List._∷_ (Row.lease (κs .1 .1 .1 .1 .1 .0) (qs .1 .1 .1 .1 .1 .0)) (List._∷_ Row.off (List._∷_ Row.off (List._∷_ Row.off (List._∷_ Row.off List.[]))))))))); }
+        G80 = record { locals = List._++_ t10 (List._++_ t54 t2); slots = List._∷_ (Row.lease (κs .0) (qs .0)) (List._∷_ (Row.lease (κs .1 .0) (qs .1 .0)) (List._∷_ (Row.lease (κs .1 .1 .0) (qs .1 .1 .0)) (List._∷_ (Row.lease (κs .1 .1 .1 .0) (qs .1 .1 .1 .0)) (List._∷_ (Row.lease (κs .1 .1 .1 .1 .0) (qs .1 .1 .1 .1 .0)) (List._∷_ (Row.lease (κs .1 .1 .1 .1 .1 .0) (qs .1 .1 .1 .1 .1 .0)) (List._∷_ Row.off (List._∷_ Row.off (List._∷_ Row.off (List._∷_ Row.off List.[]))))))))) }
 
         abbrev G81 : Row.Cx
-        G81 = record { locals = List._++_ t10 (List._++_ t55 t2); slots = List._∷_ (Row.lease (κs .0) (qs .0)) (List._∷_ (Row.lease (κs .1 .0) (qs .1 .0)) (List._∷_ (Row.lease (κs .1 .1 .0) (qs .1 .1 .0)) (List._∷_ (Row.lease (κs .1 .1 .1 .0) (qs .1 .1 .1 .0)) (List._∷_ (Row.lease (κs .1 .1 .1 .1 .0) (qs .1 .1 .1 .1 .0)) (List._∷_ (Row.lease (κs .1 .1 .1 .1 .1 .0) (qs .1 .1 .1 .1 .1 .0)) (List._∷_ Row.off (List._∷_ Row.off (List._∷_ Row.off (List._∷_ Row.off List.[]))))))))); }
+        G81 = record { locals = List._++_ t10 (List._++_ t55 t2); slots = List._∷_ (Row.lease (κs .0) (qs .0)) (List._∷_ (Row.lease (κs .1 .0) (qs .1 .0)) (List._∷_ (Row.lease (κs .1 .1 .0) (qs .1 .1 .0)) (List._∷_ (Row.lease (κs .1 .1 .1 .0) (qs .1 .1 .1 .0)) (List._∷_ (Row.lease (κs .1 .1 .1 .1 .0) (qs .1 .1 .1 .1 .0)) (List._∷_ (Row.lease (κs .1 .1 .1 .1 .1 .0) (qs .1 .1 .1 .1 .1 .0)) (List._∷_ Row.off (List._∷_ Row.off (List._∷_ Row.off (List._∷_ Row.off List.[]))))))))) }
 
         abbrev G82 : Row.Cx
-        G82 = record { locals = List._++_ t10 (List._++_ t56 t2); slots = List._∷_ (Row.lease (κs .0) (qs .0)) (List._∷_ (Row.lease (κs .1 .0) (qs .1 .0)) (List._∷_ (Row.lease (κs .1 .1 .0) (qs .1 .1 .0)) (List._∷_ (Row.lease (κs .1 .1 .1 .0) (qs .1 .1 .1 .0)) (List._∷_ (Row.lease (κs .1 .1 .1 .1 .0) (qs .1 .1 .1 .1 .0)) (List._∷_ (Row.lease (κs .1 .1 .1 .1 .1 .0) (qs .1 .1 .1 .1 .1 .0)) (List._∷_ Row.off (List._∷_ Row.off (List._∷_ Row.off (List._∷_ Row.off List.[]))))))))); }
+        G82 = record { locals = List._++_ t10 (List._++_ t56 t2); slots = List._∷_ (Row.lease (κs .0) (qs .0)) (List._∷_ (Row.lease (κs .1 .0) (qs .1 .0)) (List._∷_ (Row.lease (κs .1 .1 .0) (qs .1 .1 .0)) (List._∷_ (Row.lease (κs .1 .1 .1 .0) (qs .1 .1 .1 .0)) (List._∷_ (Row.lease (κs .1 .1 .1 .1 .0) (qs .1 .1 .1 .1 .0)) (List._∷_ (Row.lease (κs .1 .1 .1 .1 .1 .0) (qs .1 .1 .1 .1 .1 .0)) (List._∷_ Row.off (List._∷_ Row.off (List._∷_ Row.off (List._∷_ Row.off List.[]))))))))) }
 
         abbrev G83 : Row.Cx
-        G83 = record { locals = List._++_ t57 (List._++_ t56 t2); slots = List._∷_ (Row.lease (κs .0) (qs .0)) (List._∷_ (Row.lease (κs .1 .0) (qs .1 .0)) (List._∷_ (Row.lease (κs .1 .1 .0) (qs .1 .1 .0)) (List._∷_ (Row.lease (κs .1 .1 .1 .0) (qs .1 .1 .1 .0)) (List._∷_ (Row.lease (κs .1 .1 .1 .1 .0) (qs .1 .1 .1 .1 .0)) (List._∷_ (Row.lease (κs .1 .1 .1 .1 .1 .0) (qs .1 .1 .1 .1 .1 .0)) (List._∷_ Row.off (List._∷_ Row.off (List._∷_ Row.off (List._∷_ Row.off List.[]))))))))); }
+        G83 = record { locals = List._++_ t57 (List._++_ t56 t2); slots = List._∷_ (Row.lease (κs .0) (qs .0)) (List._∷_ (Row.lease (κs .1 .0) (qs .1 .0)) (List._∷_ (Row.lease (κs .1 .1 .0) (qs .1 .1 .0)) (List._∷_ (Row.lease (κs .1 .1 .1 .0) (qs .1 .1 .1 .0)) (List._∷_ (Row.lease (κs .1 .1 .1 .1 .0) (qs .1 .1 .1 .1 .0)) (List._∷_ (Row.lease (κs .1 .1 .1 .1 .1 .0) (qs .1 .1 .1 .1 .1 .0)) (List._∷_ Row.off (List._∷_ Row.off (List._∷_ Row.off (List._∷_ Row.off List.[]))))))))) }
 
         abbrev G84 : Row.Cx
-        G84 = record { locals = List._++_ t57 (List._++_ t58 t2); slots = List._∷_ (Row.lease (κs .0) (qs .0)) (List._∷_ (Row.lease (κs .1 .0) (qs .1 .0)) (List._∷_ (Row.lease (κs .1 .1 .0) (qs .1 .1 .0)) (List._∷_ (Row.lease (κs .1 .1 .1 .0) (qs .1 .1 .1 .0)) (List._∷_ (Row.lease (κs .1 .1 .1 .1 .0) (qs .1 .1 .1 .1 .0)) (List._∷_ (Row.lease (κs .1 .1 .1 .1 .1 .0) (qs .1 .1 .1 .1 .1 .0)) (List._∷_ Row.off (List._∷_ Row.off (List._∷_ Row.off (List._∷_ Row.off List.[]))))))))); }
+        G84 = record { locals = List._++_ t57 (List._++_ t58 t2); slots = List._∷_ (Row.lease (κs .0) (qs .0)) (List._∷_ (Row.lease (κs .1 .0) (qs .1 .0)) (List._∷_ (Row.lease (κs .1 .1 .0) (qs .1 .1 .0)) (List._∷_ (Row.lease (κs .1 .1 .1 .0) (qs .1 .1 .1 .0)) (List._∷_ (Row.lease (κs .1 .1 .1 .1 .0) (qs .1 .1 .1 .1 .0)) (List._∷_ (Row.lease (κs .1 .1 .1 .1 .1 .0) (qs .1 .1 .1 .1 .1 .0)) (List._∷_ Row.off (List._∷_ Row.off (List._∷_ Row.off (List._∷_ Row.off List.[]))))))))) }
 
         abbrev G85 : Row.Cx
-        G85 = record { locals = List._++_ t57 (List._++_ t59 t2); slots = List._∷_ (Row.lease (κs .0) (qs .0)) (List._∷_ (Row.lease (κs .1 .0) (qs .1 .0)) (List._∷_ (Row.lease (κs .1 .1 .0) (qs .1 .1 .0)) (List._∷_ (Row.lease (κs .1 .1 .1 .0) (qs .1 .1 .1 .0)) (List._∷_ (Row.lease (κs .1 .1 .1 .1 .0) (qs .1 .1 .1 .1 .0)) (List._∷_ (Row.lease (κs .1 .1 .1 .1 .1 .0) (qs .1 .1 .1 .1 .1 .0)) (List._∷_ Row.off (List._∷_ Row.off (List._∷_ Row.off (List._∷_ Row.off List.[]))))))))); }
+        G85 = record { locals = List._++_ t57 (List._++_ t59 t2); slots = List._∷_ (Row.lease (κs .0) (qs .0)) (List._∷_ (Row.lease (κs .1 .0) (qs .1 .0)) (List._∷_ (Row.lease (κs .1 .1 .0) (qs .1 .1 .0)) (List._∷_ (Row.lease (κs .1 .1 .1 .0) (qs .1 .1 .1 .0)) (List._∷_ (Row.lease (κs .1 .1 .1 .1 .0) (qs .1 .1 .1 .1 .0)) (List._∷_ (Row.lease (κs .1 .1 .1 .1 .1 .0) (qs .1 .1 .1 .1 .1 .0)) (List._∷_ Row.off (List._∷_ Row.off (List._∷_ Row.off (List._∷_ Row.off List.[]))))))))) }
 
         abbrev G86 : Row.Cx
-        G86 = record { locals = List._++_ t57 (List._++_ t9 t2); slots = List._∷_ (Row.lease (κs .0) (qs .0)) (List._∷_ (Row.lease (κs .1 .0) (qs .1 .0)) (List._∷_ (Row.lease (κs .1 .1 .0) (qs .1 .1 .0)) (List._∷_ (Row.lease (κs .1 .1 .1 .0) (qs .1 .1 .1 .0)) (List._∷_ (Row.lease (κs .1 .1 .1 .1 .0) (qs .1 .1 .1 .1 .0)) (List._∷_ (Row.lease (κs .1 .1 .1 .1 .1 .0) (qs .1 .1 .1 .1 .1 .0)) (List._∷_ Row.off (List._∷_ Row.off (List._∷_ Row.off (List._∷_ Row.off List.[]))))))))); }
+        G86 = record { locals = List._++_ t57 (List._++_ t9 t2); slots = List._∷_ (Row.lease (κs .0) (qs .0)) (List._∷_ (Row.lease (κs .1 .0) (qs .1 .0)) (List._∷_ (Row.lease (κs .1 .1 .0) (qs .1 .1 .0)) (List._∷_ (Row.lease (κs .1 .1 .1 .0) (qs .1 .1 .1 .0)) (List._∷_ (Row.lease (κs .1 .1 .1 .1 .0) (qs .1 .1 .1 .1 .0)) (List._∷_ (Row.lease (κs .1 .1 .1 .1 .1 .0) (qs .1 .1 .1 .1 .1 .0)) (List._∷_ Row.off (List._∷_ Row.off (List._∷_ Row.off (List._∷_ Row.off List.[]))))))))) }
 
         abbrev G87 : Row.Cx
-        G87 = record { locals = List._++_ t60 (List._++_ t9 t2); slots = List._∷_ (Row.lease (κs .0) (qs .0)) (List._∷_ (Row.lease (κs .1 .0) (qs .1 .0)) (List._∷_ (Row.lease (κs .1 .1 .0) (qs .1 .1 .0)) (List._∷_ (Row.lease (κs .1 .1 .1 .0) (qs .1 .1 .1 .0)) (List._∷_ (Row.lease (κs .1 .1 .1 .1 .0) (qs .1 .1 .1 .1 .0)) (List._∷_ (Row.lease (κs .1 .1 .1 .1 .1 .0) (qs .1 .1 .1 .1 .1 .0)) (List._∷_ Row.off (List._∷_ Row.off (List._∷_ Row.off (List._∷_ Row.off List.[]))))))))); }
+        G87 = record { locals = List._++_ t60 (List._++_ t9 t2); slots = List._∷_ (Row.lease (κs .0) (qs .0)) (List._∷_ (Row.lease (κs .1 .0) (qs .1 .0)) (List._∷_ (Row.lease (κs .1 .1 .0) (qs .1 .1 .0)) (List._∷_ (Row.lease (κs .1 .1 .1 .0) (qs .1 .1 .1 .0)) (List._∷_ (Row.lease (κs .1 .1 .1 .1 .0) (qs .1 .1 .1 .1 .0)) (List._∷_ (Row.lease (κs .1 .1 .1 .1 .1 .0) (qs .1 .1 .1 .1 .1 .0)) (List._∷_ Row.off (List._∷_ Row.off (List._∷_ Row.off (List._∷_ Row.off List.[]))))))))) }
 
         abbrev G88 : Row.Cx
-        G88 = record { locals = List._++_ t61 (List._++_ t9 t2); slots = List._∷_ (Row.lease (κs .0) (qs .0)) (List._∷_ (Row.lease (κs .1 .0) (qs .1 .0)) (List._∷_ (Row.lease (κs .1 .1 .0) (qs .1 .1 .0)) (List._∷_ (Row.lease (κs .1 .1 .1 .0) (qs .1 .1 .1 .0)) (List._∷_ (Row.lease (κs .1 .1 .1 .1 .0) (qs .1 .1 .1 .1 .0)) (List._∷_ (Row.lease (κs .1 .1 .1 .1 .1 .0) (qs .1 .1 .1 .1 .1 .0)) (List._∷_ Row.off (List._∷_ Row.off (List._∷_ Row.off (List._∷_ Row.off List.[]))))))))); }
+        G88 = record { locals = List._++_ t61 (List._++_ t9 t2); slots = List._∷_ (Row.lease (κs .0) (qs .0)) (List._∷_ (Row.lease (κs .1 .0) (qs .1 .0)) (List._∷_ (Row.lease (κs .1 .1 .0) (qs .1 .1 .0)) (List._∷_ (Row.lease (κs .1 .1 .1 .0) (qs .1 .1 .1 .0)) (List._∷_ (Row.lease (κs .1 .1 .1 .1 .0) (qs .1 .1 .1 .1 .0)) (List._∷_ (Row.lease (κs .1 .1 .1 .1 .1 .0) (qs .1 .1 .1 .1 .1 .0)) (List._∷_ Row.off (List._∷_ Row.off (List._∷_ Row.off (List._∷_ Row.off List.[]))))))))) }
 
         abbrev G89 : Row.Cx
-        G89 = record { locals = List._++_ t62 (List._++_ t9 t2); slots = List._∷_ (Row.lease (κs .0) (qs .0)) (List._∷_ (Row.lease (κs .1 .0) (qs .1 .0)) (List._∷_ (Row.lease (κs .1 .1 .0) (qs .1 .1 .0)) (List._∷_ (Row.lease (κs .1 .1 .1 .0) (qs .1 .1 .1 .0)) (List._∷_ (Row.lease (κs .1 .1 .1 .1 .0) (qs .1 .1 .1 .1 .0)) (List._∷_ (Row.lease (κs .1 .1 .1 .1 .1 .0) (qs .1 .1 .1 .1 .1 .0)) (List._∷_ Row.off (List._∷_ Row.off (List._∷_ Row.off (List._∷_ Row.off List.[]))))))))); }
+        G89 = record { locals = List._++_ t62 (List._++_ t9 t2); slots = List._∷_ (Row.lease (κs .0) (qs .0)) (List._∷_ (Row.lease (κs .1 .0) (qs .1 .0)) (List._∷_ (Row.lease (κs .1 .1 .0) (qs .1 .1 .0)) (List._∷_ (Row.lease (κs .1 .1 .1 .0) (qs .1 .1 .1 .0)) (List._∷_ (Row.lease (κs .1 .1 .1 .1 .0) (qs .1 .1 .1 .1 .0)) (List._∷_ (Row.lease (κs .1 .1 .1 .1 .1 .0) (qs .1 .1 .1 .1 .1 .0)) (List._∷_ Row.off (List._∷_ Row.off (List._∷_ Row.off (List._∷_ Row.off List.[]))))))))) }
 
         abbrev G90 : Row.Cx
-        G90 = record { locals = List._++_ t63 (List._++_ t9 t2); slots = List._∷_ (Row.lease (κs .0) (qs .0)) (List._∷_ (Row.lease (κs .1 .0) (qs .1 .0)) (List._∷_ (Row.lease (κs .1 .1 .0) (qs .1 .1 .0)) (List._∷_ (Row.lease (κs .1 .1 .1 .0) (qs .1 .1 .1 .0)) (List._∷_ (Row.lease (κs .1 .1 .1 .1 .0) (qs .1 .1 .1 .1 .0)) (List._∷_ (Row.lease (κs .1 .1 .1 .1 .1 .0) (qs .1 .1 .1 .1 .1 .0)) (List._∷_ Row.off (List._∷_ Row.off (List._∷_ Row.off (List._∷_ Row.off List.[]))))))))); }
+        G90 = record { locals = List._++_ t63 (List._++_ t9 t2); slots = List._∷_ (Row.lease (κs .0) (qs .0)) (List._∷_ (Row.lease (κs .1 .0) (qs .1 .0)) (List._∷_ (Row.lease (κs .1 .1 .0) (qs .1 .1 .0)) (List._∷_ (Row.lease (κs .1 .1 .1 .0) (qs .1 .1 .1 .0)) (List._∷_ (Row.lease (κs .1 .1 .1 .1 .0) (qs .1 .1 .1 .1 .0)) (List._∷_ (Row.lease (κs .1 .1 .1 .1 .1 .0) (qs .1 .1 .1 .1 .1 .0)) (List._∷_ Row.off (List._∷_ Row.off (List._∷_ Row.off (List._∷_ Row.off List.[]))))))))) }
 
         abbrev G91 : Row.Cx
-        G91 = record { locals = List._++_ t64 (List._++_ t9 t2); slots = List._∷_ (Row.lease (κs .0) (qs .0)) (List._∷_ (Row.lease (κs .1 .0) (qs .1 .0)) (List._∷_ (Row.lease (κs .1 .1 .0) (qs .1 .1 .0)) (List._∷_ (Row.lease (κs .1 .1 .1 .0) (qs .1 .1 .1 .0)) (List._∷_ (Row.lease (κs .1 .1 .1 .1 .0) (qs .1 .1 .1 .1 .0)) (List._∷_ (Row.lease (κs .1 .1 .1 .1 .1 .0) (qs .1 .1 .1 .1 .1 .0)) (List._∷_ Row.off (List._∷_ Row.off (List._∷_ Row.off (List._∷_ Row.off List.[]))))))))); }
+        G91 = record { locals = List._++_ t64 (List._++_ t9 t2); slots = List._∷_ (Row.lease (κs .0) (qs .0)) (List._∷_ (Row.lease (κs .1 .0) (qs .1 .0)) (List._∷_ (Row.lease (κs .1 .1 .0) (qs .1 .1 .0)) (List._∷_ (Row.lease (κs .1 .1 .1 .0) (qs .1 .1 .1 .0)) (List._∷_ (Row.lease (κs .1 .1 .1 .1 .0) (qs .1 .1 .1 .1 .0)) (List._∷_ (Row.lease (κs .1 .1 .1 .1 .1 .0) (qs .1 .1 .1 .1 .1 .0)) (List._∷_ Row.off (List._∷_ Row.off (List._∷_ Row.off (List._∷_ Row.off List.[]))))))))) }
 
         abbrev G92 : Row.Cx
-        G92 = record { locals = List._++_ t65 (List._++_ t9 t2); slots = List._∷_ (Row.lease (κs .0) (qs .0)) (List._∷_ (Row.lease (κs .1 .0) (qs .1 .0)) (List._∷_ (Row.lease (κs .1 .1 .0) (qs .1 .1 .0)) (List._∷_ (Row.lease (κs .1 .1 .1 .0) (qs .1 .1 .1 .0)) (List._∷_ (Row.lease (κs .1 .1 .1 .1 .0) (qs .1 .1 .1 .1 .0)) (List._∷_ (Row.lease (κs .1 .1 .1 .1 .1 .0) (qs .1 .1 .1 .1 .1 .0)) (List._∷_ Row.off (List._∷_ Row.off (List._∷_ Row.off (List._∷_ Row.off List.[]))))))))); }
+        G92 = record { locals = List._++_ t65 (List._++_ t9 t2); slots = List._∷_ (Row.lease (κs .0) (qs .0)) (List._∷_ (Row.lease (κs .1 .0) (qs .1 .0)) (List._∷_ (Row.lease (κs .1 .1 .0) (qs .1 .1 .0)) (List._∷_ (Row.lease (κs .1 .1 .1 .0) (qs .1 .1 .1 .0)) (List._∷_ (Row.lease (κs .1 .1 .1 .1 .0) (qs .1 .1 .1 .1 .0)) (List._∷_ (Row.lease (κs .1 .1 .1 .1 .1 .0) (qs .1 .1 .1 .1 .1 .0)) (List._∷_ Row.off (List._∷_ Row.off (List._∷_ Row.off (List._∷_ Row.off List.[]))))))))) }
 
         abbrev G93 : Row.Cx
-        G93 = record { locals = List._++_ t3 (List._++_ t9 t2); slots = List._∷_ (Row.lease (κs .0) (qs .0)) (List._∷_ (Row.lease (κs .1 .0) (qs .1 .0)) (List._∷_ (Row.lease (κs .1 .1 .0) (qs .1 .1 .0)) (List._∷_ (Row.lease (κs .1 .1 .1 .0) (qs .1 .1 .1 .0)) (List._∷_ (Row.lease (κs .1 .1 .1 .1 .0) (qs .1 .1 .1 .1 .0)) (List._∷_ (Row.lease (κs .1 .1 .1 .1 .1 .0) (qs .1 .1 .1 .1 .1 .0)) (List._∷_ Row.off (List._∷_ Row.off (List._∷_ Row.off (List._∷_ Row.off List.[]))))))))); }
+        G93 = record { locals = List._++_ t3 (List._++_ t9 t2); slots = List._∷_ (Row.lease (κs .0) (qs .0)) (List._∷_ (Row.lease (κs .1 .0) (qs .1 .0)) (List._∷_ (Row.lease (κs .1 .1 .0) (qs .1 .1 .0)) (List._∷_ (Row.lease (κs .1 .1 .1 .0) (qs .1 .1 .1 .0)) (List._∷_ (Row.lease (κs .1 .1 .1 .1 .0) (qs .1 .1 .1 .1 .0)) (List._∷_ (Row.lease (κs .1 .1 .1 .1 .1 .0) (qs .1 .1 .1 .1 .1 .0)) (List._∷_ Row.off (List._∷_ Row.off (List._∷_ Row.off (List._∷_ Row.off List.[]))))))))) }
 
         abbrev G94 : Row.Cx
-        G94 = record { locals = List._++_ t3 (List._++_ t66 t2); slots = List._∷_ (Row.lease (κs .0) (qs .0)) (List._∷_ (Row.lease (κs .1 .0) (qs .1 .0)) (List._∷_ (Row.lease (κs .1 .1 .0) (qs .1 .1 .0)) (List._∷_ (Row.lease (κs .1 .1 .1 .0) (qs .1 .1 .1 .0)) (List._∷_ (Row.lease (κs .1 .1 .1 .1 .0) (qs .1 .1 .1 .1 .0)) (List._∷_ (Row.lease (κs .1 .1 .1 .1 .1 .0) (qs .1 .1 .1 .1 .1 .0)) (List._∷_ Row.off (List._∷_ Row.off (List._∷_ Row.off (List._∷_ Row.off List.[]))))))))); }
+        G94 = record { locals = List._++_ t3 (List._++_ t66 t2); slots = List._∷_ (Row.lease (κs .0) (qs .0)) (List._∷_ (Row.lease (κs .1 .0) (qs .1 .0)) (List._∷_ (Row.lease (κs .1 .1 .0) (qs .1 .1 .0)) (List._∷_ (Row.lease (κs .1 .1 .1 .0) (qs .1 .1 .1 .0)) (List._∷_ (Row.lease (κs .1 .1 .1 .1 .0) (qs .1 .1 .1 .1 .0)) (List._∷_ (Row.lease (κs .1 .1 .1 .1 .1 .0) (qs .1 .1 .1 .1 .1 .0)) (List._∷_ Row.off (List._∷_ Row.off (List._∷_ Row.off (List._∷_ Row.off List.[]))))))))) }
 
         abbrev G95 : Row.Cx
-        G95 = record { locals = List._++_ t3 (List._++_ t1 t2); slots = List._∷_ (Row.lease (κs .0) (qs .0)) (List._∷_ (Row.lease (κs .1 .0) (qs .1 .0)) (List._∷_ (Row.lease (κs .1 .1 .0) (qs .1 .1 .0)) (List._∷_ (Row.lease (κs .1 .1 .1 .0) (qs .1 .1 .1 .0)) (List._∷_ (Row.lease (κs .1 .1 .1 .1 .0) (qs .1 .1 .1 .1 .0)) (List._∷_ (Row.lease (κs .1 .1 .1 .1 .1 .0) (qs .1 .1 .1 .1 .1 .0)) (List._∷_ Row.off (List._∷_ Row.off (List._∷_ Row.off (List._∷_ Row.off List.[]))))))))); }
+        G95 = record { locals = List._++_ t3 (List._++_ t1 t2); slots = List._∷_ (Row.lease (κs .0) (qs .0)) (List._∷_ (Row.lease (κs .1 .0) (qs .1 .0)) (List._∷_ (Row.lease (κs .1 .1 .0) (qs .1 .1 .0)) (List._∷_ (Row.lease (κs .1 .1 .1 .0) (qs .1 .1 .1 .0)) (List._∷_ (Row.lease (κs .1 .1 .1 .1 .0) (qs .1 .1 .1 .1 .0)) (List._∷_ (Row.lease (κs .1 .1 .1 .1 .1 .0) (qs .1 .1 .1 .1 .1 .0)) (List._∷_ Row.off (List._∷_ Row.off (List._∷_ Row.off (List._∷_ Row.off List.[]))))))))) }
 
         abbrev G96 : Row.Cx
-        G96 = record { locals = List._++_ t10 (List._++_ t20 t2); slots = List._∷_ (Row.lease (κs .0) (qs .0)) (List._∷_ (Row.lease (κs .1 .0) (qs .1 .0)) (List._∷_ (Row.lease (κs .1 .1 .0) (qs .1 .1 .0)) (List._∷_ (Row.lease (κs .1 .1 .1 .0) (qs .1 .1 .1 .0)) (List._∷_ (Row.lease (κs .1 .1 .1 .1 .0) (qs .1 .1 .1 .1 .0)) (List._∷_ (Row.lease (κs .1 .1 .1 .1 .1 .0) (qs .1 .1 .1 .1 .1 .0)) (List._∷_ Row.off (List._∷_ Row.off (List._∷_ Row.off (List._∷_ Row.off List.[]))))))))); }
+        G96 = record { locals = List._++_ t10 (List._++_ t20 t2); slots = List._∷_ (Row.lease (κs .0) (qs .0)) (List._∷_ (Row.lease (κs .1 .0) (qs .1 .0)) (List._∷_ (Row.lease (κs .1 .1 .0) (qs .1 .1 .0)) (List._∷_ (Row.lease (κs .1 .1 .1 .0) (qs .1 .1 .1 .0)) (List._∷_ (Row.lease (κs .1 .1 .1 .1 .0) (qs .1 .1 .1 .1 .0)) (List._∷_ (Row.lease (κs .1 .1 .1 .1 .1 .0) (qs .1 .1 .1 .1 .1 .0)) (List._∷_ Row.off (List._∷_ Row.off (List._∷_ Row.off (List._∷_ Row.off List.[]))))))))) }
 
         abbrev G97 : Row.Cx
-        G97 = record { locals = List._++_ t18 (List._++_ t20 t2); slots = List._∷_ (Row.lease (κs .0) (qs .0)) (List._∷_ (Row.lease (κs .1 .0) (qs .1 .0)) (List._∷_ (Row.lease (κs .1 .1 .0) (qs .1 .1 .0)) (List._∷_ (Row.lease (κs .1 .1 .1 .0) (qs .1 .1 .1 .0)) (List._∷_ (Row.lease (κs .1 .1 .1 .1 .0) (qs .1 .1 .1 .1 .0)) (List._∷_ (Row.lease (κs .1 .1 .1 .1 .1 .0) (qs .1 .1 .1 .1 .1 .0)) (List._∷_ Row.off (List._∷_ Row.off (List._∷_ Row.off (List._∷_ Row.off List.[]))))))))); }
+        G97 = record { locals = List._++_ t18 (List._++_ t20 t2); slots = List._∷_ (Row.lease (κs .0) (qs .0)) (List._∷_ (Row.lease (κs .1 .0) (qs .1 .0)) (List._∷_ (Row.lease (κs .1 .1 .0) (qs .1 .1 .0)) (List._∷_ (Row.lease (κs .1 .1 .1 .0) (qs .1 .1 .1 .0)) (List._∷_ (Row.lease (κs .1 .1 .1 .1 .0) (qs .1 .1 .1 .1 .0)) (List._∷_ (Row.lease (κs .1 .1 .1 .1 .1 .0) (qs .1 .1 .1 .1 .1 .0)) (List._∷_ Row.off (List._∷_ Row.off (List._∷_ Row.off (List._∷_ Row.off List.[]))))))))) }
 
         abbrev G98 : Row.Cx
-        G98 = record { locals = List._++_ t18 (List._++_ t19 t2); slots = List._∷_ (Row.lease (κs .0) (qs .0)) (List._∷_ (Row.lease (κs .1 .0) (qs .1 .0)) (List._∷_ (Row.lease (κs .1 .1 .0) (qs .1 .1 .0)) (List._∷_ (Row.lease (κs .1 .1 .1 .0) (qs .1 .1 .1 .0)) (List._∷_ (Row.lease (κs .1 .1 .1 .1 .0) (qs .1 .1 .1 .1 .0)) (List._∷_ (Row.lease (κs .1 .1 .1 .1 .1 .0) (qs .1 .1 .1 .1 .1 .0)) (List._∷_ Row.off (List._∷_ Row.off (List._∷_ Row.off (List._∷_ Row.off List.[]))))))))); }
+        G98 = record { locals = List._++_ t18 (List._++_ t19 t2); slots = List._∷_ (Row.lease (κs .0) (qs .0)) (List._∷_ (Row.lease (κs .1 .0) (qs .1 .0)) (List._∷_ (Row.lease (κs .1 .1 .0) (qs .1 .1 .0)) (List._∷_ (Row.lease (κs .1 .1 .1 .0) (qs .1 .1 .1 .0)) (List._∷_ (Row.lease (κs .1 .1 .1 .1 .0) (qs .1 .1 .1 .1 .0)) (List._∷_ (Row.lease (κs .1 .1 .1 .1 .1 .0) (qs .1 .1 .1 .1 .1 .0)) (List._∷_ Row.off (List._∷_ Row.off (List._∷_ Row.off (List._∷_ Row.off List.[]))))))))) }
 
         abbrev G99 : Row.Cx
-        G99 = record { locals = List._++_ t67 (List._++_ t19 t2); slots = List._∷_ (Row.lease (κs .0) (qs .0)) (List._∷_ (Row.lease (κs .1 .0) (qs .1 .0)) (List._∷_ (Row.lease (κs .1 .1 .0) (qs .1 .1 .0)) (List._∷_ (Row.lease (κs .1 .1 .1 .0) (qs .1 .1 .1 .0)) (List._∷_ (Row.lease (κs .1 .1 .1 .1 .0) (qs .1 .1 .1 .1 .0)) (List._∷_ (Row.lease (κs .1 .1 .1 .1 .1 .0) (qs .1 .1 .1 .1 .1 .0)) (List._∷_ Row.off (List._∷_ Row.off (List._∷_ Row.off (List._∷_ Row.off List.[]))))))))); }
+        G99 = record { locals = List._++_ t67 (List._++_ t19 t2); slots = List._∷_ (Row.lease (κs .0) (qs .0)) (List._∷_ (Row.lease (κs .1 .0) (qs .1 .0)) (List._∷_ (Row.lease (κs .1 .1 .0) (qs .1 .1 .0)) (List._∷_ (Row.lease (κs .1 .1 .1 .0) (qs .1 .1 .1 .0)) (List._∷_ (Row.lease (κs .1 .1 .1 .1 .0) (qs .1 .1 .1 .1 .0)) (List._∷_ (Row.lease (κs .1 .1 .1 .1 .1 .0) (qs .1 .1 .1 .1 .1 .0)) (List._∷_ Row.off (List._∷_ Row.off (List._∷_ Row.off (List._∷_ Row.off List.[]))))))))) }
 
         abbrev G100 : Row.Cx
-        G100 = record { locals = List._++_ t67 (List._++_ t14 t2); slots = List._∷_ (Row.lease (κs .0) (qs .0)) (List._∷_ (Row.lease (κs .1 .0) (qs .1 .0)) (List._∷_ (Row.lease (κs .1 .1 .0) (qs .1 .1 .0)) (List._∷_ (Row.lease (κs .1 .1 .1 .0) (qs .1 .1 .1 .0)) (List._∷_ (Row.lease (κs .1 .1 .1 .1 .0) (qs .1 .1 .1 .1 .0)) (List._∷_ (Row.lease (κs .1 .1 .1 .1 .1 .0) (qs .1 .1 .1 .1 .1 .0)) (List._∷_ Row.off (List._∷_ Row.off (List._∷_ Row.off (List._∷_ Row.off List.[]))))))))); }
+        G100 = record { locals = List._++_ t67 (List._++_ t14 t2); slots = List._∷_ (Row.lease (κs .0) (qs .0)) (List._∷_ (Row.lease (κs .1 .0) (qs .1 .0)) (List._∷_ (Row.lease (κs .1 .1 .0) (qs .1 .1 .0)) (List._∷_ (Row.lease (κs .1 .1 .1 .0) (qs .1 .1 .1 .0)) (List._∷_ (Row.lease (κs .1 .1 .1 .1 .0) (qs .1 .1 .1 .1 .0)) (List._∷_ (Row.lease (κs .1 .1 .1 .1 .1 .0) (qs .1 .1 .1 .1 .1 .0)) (List._∷_ Row.off (List._∷_ Row.off (List._∷_ Row.off (List._∷_ Row.off List.[]))))))))) }
 
         abbrev G101 : Row.Cx
-        G101 = record { locals = List._++_ t7 (List._++_ t14 t2); slots = List._∷_ (Row.lease (κs .0) (qs .0)) (List._∷_ (Row.lease (κs .1 .0) (qs .1 .0)) (List._∷_ (Row.lease (κs .1 .1 .0) (qs .1 .1 .0)) (List._∷_ (Row.lease (κs .1 .1 .1 .0) (qs .1 .1 .1 .0)) (List._∷_ (Row.lease (κs .1 .1 .1 .1 .0) (qs .1 .1 .1 .1 .0)) (List._∷_ (Row.lease (κs .1 .1 .1 .1 .1 .0) (qs .1 .1 .1 .1 .1 .0)) (List._∷_ Row.off (List._∷_ Row.off (List._∷_ Row.off (List._∷_ Row.off List.[]))))))))); }
+        G101 = record { locals = List._++_ t7 (List._++_ t14 t2); slots = List._∷_ (Row.lease (κs .0) (qs .0)) (List._∷_ (Row.lease (κs .1 .0) (qs .1 .0)) (List._∷_ (Row.lease (κs .1 .1 .0) (qs .1 .1 .0)) (List._∷_ (Row.lease (κs .1 .1 .1 .0) (qs .1 .1 .1 .0)) (List._∷_ (Row.lease (κs .1 .1 .1 .1 .0) (qs .1 .1 .1 .1 .0)) (List._∷_ (Row.lease (κs .1 .1 .1 .1 .1 .0) (qs .1 .1 .1 .1 .1 .0)) (List._∷_ Row.off (List._∷_ Row.off (List._∷_ Row.off (List._∷_ Row.off List.[]))))))))) }
 
         abbrev G102 : Row.Cx
-        G102 = record { locals = List._++_ t7 (List._++_ t9 t2); slots = List._∷_ (Row.lease (κs .0) (qs .0)) (List._∷_ (Row.lease (κs .1 .0) (qs .1 .0)) (List._∷_ (Row.lease (κs .1 .1 .0) (qs .1 .1 .0)) (List._∷_ (Row.lease (κs .1 .1 .1 .0) (qs .1 .1 .1 .0)) (List._∷_ (Row.lease (κs .1 .1 .1 .1 .0) (qs .1 .1 .1 .1 .0)) (List._∷_ (Row.lease (κs .1 .1 .1 .1 .1 .0) (qs .1 .1 .1 .1 .1 .0)) (List._∷_ Row.off (List._∷_ Row.off (List._∷_ Row.off (List._∷_ Row.off List.[]))))))))); }
+        G102 = record { locals = List._++_ t7 (List._++_ t9 t2); slots = List._∷_ (Row.lease (κs .0) (qs .0)) (List._∷_ (Row.lease (κs .1 .0) (qs .1 .0)) (List._∷_ (Row.lease (κs .1 .1 .0) (qs .1 .1 .0)) (List._∷_ (Row.lease (κs .1 .1 .1 .0) (qs .1 .1 .1 .0)) (List._∷_ (Row.lease (κs .1 .1 .1 .1 .0) (qs .1 .1 .1 .1 .0)) (List._∷_ (Row.lease (κs .1 .1 .1 .1 .1 .0) (qs .1 .1 .1 .1 .1 .0)) (List._∷_ Row.off (List._∷_ Row.off (List._∷_ Row.off (List._∷_ Row.off List.[]))))))))) }
 
         abbrev G103 : Row.Cx
-        G103 = record { locals = List._++_ t7 (List._++_ t9 t2); slots = List._∷_ (Row.lease (κs .0) (qs .0)) (List._∷_ (Row.lease (κs .1 .0) (qs .1 .0)) (List._∷_ (Row.lease (κs .1 .1 .0) (qs .1 .1 .0)) (List._∷_ (Row.lease (κs .1 .1 .1 .0) (qs .1 .1 .1 .0)) (List._∷_ (Row.lease (κs .1 .1 .1 .1 .0) (qs .1 .1 .1 .1 .0)) (List._∷_ (Row.lease (κs .1 .1 .1 .1 .1 .0) (qs .1 .1 .1 .1 .1 .0)) (List._∷_ Row.off (List._∷_ Row.off (List._∷_ Row.off (List._∷_ Row.off List.[]))))))))); }
+        G103 = record { locals = List._++_ t7 (List._++_ t9 t2); slots = List._∷_ (Row.lease (κs .0) (qs .0)) (List._∷_ (Row.lease (κs .1 .0) (qs .1 .0)) (List._∷_ (Row.lease (κs .1 .1 .0) (qs .1 .1 .0)) (List._∷_ (Row.lease (κs .1 .1 .1 .0) (qs .1 .1 .1 .0)) (List._∷_ (Row.lease (κs .1 .1 .1 .1 .0) (qs .1 .1 .1 .1 .0)) (List._∷_ (Row.lease (κs .1 .1 .1 .1 .1 .0) (qs .1 .1 .1 .1 .1 .0)) (List._∷_ Row.off (List._∷_ Row.off (List._∷_ Row.off (List._∷_ Row.off List.[]))))))))) }
 
         abbrev G104 : Row.Cx
-        G104 = record { locals = List._++_ t57 (List._++_ t9 t2); slots = List._∷_ (Row.lease (κs .0) (qs .0)) (List._∷_ (Row.lease (κs .1 .0) (qs .1 .0)) (List._∷_ (Row.lease (κs .1 .1 .0) (qs .1 .1 .0)) (List._∷_ (Row.lease (κs .1 .1 .1 .0) (qs .1 .1 .1 .0)) (List._∷_ (Row.lease (κs .1 .1 .1 .1 .0) (qs .1 .1 .1 .1 .0)) (List._∷_ (Row.lease (κs .1 .1 .1 .1 .1 .0) (qs .1 .1 .1 .1 .1 .0)) (List._∷_ Row.off (List._∷_ Row.off (List._∷_ Row.off (List._∷_ Row.off List.[]))))))))); }
+        G104 = record { locals = List._++_ t57 (List._++_ t9 t2); slots = List._∷_ (Row.lease (κs .0) (qs .0)) (List._∷_ (Row.lease (κs .1 .0) (qs .1 .0)) (List._∷_ (Row.lease (κs .1 .1 .0) (qs .1 .1 .0)) (List._∷_ (Row.lease (κs .1 .1 .1 .0) (qs .1 .1 .1 .0)) (List._∷_ (Row.lease (κs .1 .1 .1 .1 .0) (qs .1 .1 .1 .1 .0)) (List._∷_ (Row.lease (κs .1 .1 .1 .1 .1 .0) (qs .1 .1 .1 .1 .1 .0)) (List._∷_ Row.off (List._∷_ Row.off (List._∷_ Row.off (List._∷_ Row.off List.[]))))))))) }
 
         abbrev G105 : Row.Cx
-        G105 = record { locals = List._++_ t68 (List._++_ t9 t2); slots = List._∷_ (Row.lease (κs .0) (qs .0)) (List._∷_ (Row.lease (κs .1 .0) (qs .1 .0)) (List._∷_ (Row.lease (κs .1 .1 .0) (qs .1 .1 .0)) (List._∷_ (Row.lease (κs .1 .1 .1 .0) (qs .1 .1 .1 .0)) (List._∷_ (Row.lease (κs .1 .1 .1 .1 .0) (qs .1 .1 .1 .1 .0)) (List._∷_ (Row.lease (κs .1 .1 .1 .1 .1 .0) (qs .1 .1 .1 .1 .1 .0)) (List._∷_ Row.off (List._∷_ Row.off (List._∷_ Row.off (List._∷_ Row.off List.[]))))))))); }
+        G105 = record { locals = List._++_ t68 (List._++_ t9 t2); slots = List._∷_ (Row.lease (κs .0) (qs .0)) (List._∷_ (Row.lease (κs .1 .0) (qs .1 .0)) (List._∷_ (Row.lease (κs .1 .1 .0) (qs .1 .1 .0)) (List._∷_ (Row.lease (κs .1 .1 .1 .0) (qs .1 .1 .1 .0)) (List._∷_ (Row.lease (κs .1 .1 .1 .1 .0) (qs .1 .1 .1 .1 .0)) (List._∷_ (Row.lease (κs .1 .1 .1 .1 .1 .0) (qs .1 .1 .1 .1 .1 .0)) (List._∷_ Row.off (List._∷_ Row.off (List._∷_ Row.off (List._∷_ Row.off List.[]))))))))) }
 
         abbrev G106 : Row.Cx
-        G106 = record { locals = List._++_ t69 (List._++_ t9 t2); slots = List._∷_ (Row.lease (κs .0) (qs .0)) (List._∷_ (Row.lease (κs .1 .0) (qs .1 .0)) (List._∷_ (Row.lease (κs .1 .1 .0) (qs .1 .1 .0)) (List._∷_ (Row.lease (κs .1 .1 .1 .0) (qs .1 .1 .1 .0)) (List._∷_ (Row.lease (κs .1 .1 .1 .1 .0) (qs .1 .1 .1 .1 .0)) (List._∷_ (Row.lease (κs .1 .1 .1 .1 .1 .0) (qs .1 .1 .1 .1 .1 .0)) (List._∷_ Row.off (List._∷_ Row.off (List._∷_ Row.off (List._∷_ Row.off List.[]))))))))); }
+        G106 = record { locals = List._++_ t69 (List._++_ t9 t2); slots = List._∷_ (Row.lease (κs .0) (qs .0)) (List._∷_ (Row.lease (κs .1 .0) (qs .1 .0)) (List._∷_ (Row.lease (κs .1 .1 .0) (qs .1 .1 .0)) (List._∷_ (Row.lease (κs .1 .1 .1 .0) (qs .1 .1 .1 .0)) (List._∷_ (Row.lease (κs .1 .1 .1 .1 .0) (qs .1 .1 .1 .1 .0)) (List._∷_ (Row.lease (κs .1 .1 .1 .1 .1 .0) (qs .1 .1 .1 .1 .1 .0)) (List._∷_ Row.off (List._∷_ Row.off (List._∷_ Row.off (List._∷_ Row.off List.[]))))))))) }
 
         abbrev G107 : Row.Cx
-        G107 = record { locals = List._++_ t69 (List._++_ t66 t2); slots = List._∷_ (Row.lease (κs .0) (qs .0)) (List._∷_ (Row.lease (κs .1 .0) (qs .1 .0)) (List._∷_ (Row.lease (κs .1 .1 .0) (qs .1 .1 .0)) (List._∷_ (Row.lease (κs .1 .1 .1 .0) (qs .1 .1 .1 .0)) (List._∷_ (Row.lease (κs .1 .1 .1 .1 .0) (qs .1 .1 .1 .1 .0)) (List._∷_ (Row.lease (κs .1 .1 .1 .1 .1 .0) (qs .1 .1 .1 .1 .1 .0)) (List._∷_ Row.off (List._∷_ Row.off (List._∷_ Row.off (List._∷_ Row.off List.[]))))))))); }
+        G107 = record { locals = List._++_ t69 (List._++_ t66 t2); slots = List._∷_ (Row.lease (κs .0) (qs .0)) (List._∷_ (Row.lease (κs .1 .0) (qs .1 .0)) (List._∷_ (Row.lease (κs .1 .1 .0) (qs .1 .1 .0)) (List._∷_ (Row.lease (κs .1 .1 .1 .0) (qs .1 .1 .1 .0)) (List._∷_ (Row.lease (κs .1 .1 .1 .1 .0) (qs .1 .1 .1 .1 .0)) (List._∷_ (Row.lease (κs .1 .1 .1 .1 .1 .0) (qs .1 .1 .1 .1 .1 .0)) (List._∷_ Row.off (List._∷_ Row.off (List._∷_ Row.off (List._∷_ Row.off List.[]))))))))) }
 
         abbrev G108 : Row.Cx
-        G108 = record { locals = List._++_ t69 (List._++_ t1 t2); slots = List._∷_ (Row.lease (κs .0) (qs .0)) (List._∷_ (Row.lease (κs .1 .0) (qs .1 .0)) (List._∷_ (Row.lease (κs .1 .1 .0) (qs .1 .1 .0)) (List._∷_ (Row.lease (κs .1 .1 .1 .0) (qs .1 .1 .1 .0)) (List._∷_ (Row.lease (κs .1 .1 .1 .1 .0) (qs .1 .1 .1 .1 .0)) (List._∷_ (Row.lease (κs .1 .1 .1 .1 .1 .0) (qs .1 .1 .1 .1 .1 .0)) (List._∷_ Row.off (List._∷_ Row.off (List._∷_ Row.off (List._∷_ Row.off List.[]))))))))); }
+        G108 = record { locals = List._++_ t69 (List._++_ t1 t2); slots = List._∷_ (Row.lease (κs .0) (qs .0)) (List._∷_ (Row.lease (κs .1 .0) (qs .1 .0)) (List._∷_ (Row.lease (κs .1 .1 .0) (qs .1 .1 .0)) (List._∷_ (Row.lease (κs .1 .1 .1 .0) (qs .1 .1 .1 .0)) (List._∷_ (Row.lease (κs .1 .1 .1 .1 .0) (qs .1 .1 .1 .1 .0)) (List._∷_ (Row.lease (κs .1 .1 .1 .1 .1 .0) (qs .1 .1 .1 .1 .1 .0)) (List._∷_ Row.off (List._∷_ Row.off (List._∷_ Row.off (List._∷_ Row.off List.[]))))))))) }
 
         abbrev G109 : Row.Cx
-        G109 = record { locals = List._++_ t70 (List._++_ t1 t2); slots = List._∷_ (Row.lease (κs .0) (qs .0)) (List._∷_ (Row.lease (κs .1 .0) (qs .1 .0)) (List._∷_ (Row.lease (κs .1 .1 .0) (qs .1 .1 .0)) (List._∷_ (Row.lease (κs .1 .1 .1 .0) (qs .1 .1 .1 .0)) (List._∷_ (Row.lease (κs .1 .1 .1 .1 .0) (qs .1 .1 .1 .1 .0)) (List._∷_ (Row.lease (κs .1 .1 .1 .1 .1 .0) (qs .1 .1 .1 .1 .1 .0)) (List._∷_ Row.off (List._∷_ Row.off (List._∷_ Row.off (List._∷_ Row.off List.[]))))))))); }
+        G109 = record { locals = List._++_ t70 (List._++_ t1 t2); slots = List._∷_ (Row.lease (κs .0) (qs .0)) (List._∷_ (Row.lease (κs .1 .0) (qs .1 .0)) (List._∷_ (Row.lease (κs .1 .1 .0) (qs .1 .1 .0)) (List._∷_ (Row.lease (κs .1 .1 .1 .0) (qs .1 .1 .1 .0)) (List._∷_ (Row.lease (κs .1 .1 .1 .1 .0) (qs .1 .1 .1 .1 .0)) (List._∷_ (Row.lease (κs .1 .1 .1 .1 .1 .0) (qs .1 .1 .1 .1 .1 .0)) (List._∷_ Row.off (List._∷_ Row.off (List._∷_ Row.off (List._∷_ Row.off List.[]))))))))) }
 
         abbrev G110 : Row.Cx
-        G110 = record { locals = List._++_ t71 (List._++_ t1 t2); slots = List._∷_ (Row.lease (κs .0) (qs .0)) (List._∷_ (Row.lease (κs .1 .0) (qs .1 .0)) (List._∷_ (Row.lease (κs .1 .1 .0) (qs .1 .1 .0)) (List._∷_ (Row.lease (κs .1 .1 .1 .0) (qs .1 .1 .1 .0)) (List._∷_ (Row.lease (κs .1 .1 .1 .1 .0) (qs .1 .1 .1 .1 .0)) (List._∷_ (Row.lease (κs .1 .1 .1 .1 .1 .0) (qs .1 .1 .1 .1 .1 .0)) (List._∷_ Row.off (List._∷_ Row.off (List._∷_ Row.off (List._∷_ Row.off List.[]))))))))); }
+        G110 = record { locals = List._++_ t71 (List._++_ t1 t2); slots = List._∷_ (Row.lease (κs .0) (qs .0)) (List._∷_ (Row.lease (κs .1 .0) (qs .1 .0)) (List._∷_ (Row.lease (κs .1 .1 .0) (qs .1 .1 .0)) (List._∷_ (Row.lease (κs .1 .1 .1 .0) (qs .1 .1 .1 .0)) (List._∷_ (Row.lease (κs .1 .1 .1 .1 .0) (qs .1 .1 .1 .1 .0)) (List._∷_ (Row.lease (κs .1 .1 .1 .1 .1 .0) (qs .1 .1 .1 .1 .1 .0)) (List._∷_ Row.off (List._∷_ Row.off (List._∷_ Row.off (List._∷_ Row.off List.[]))))))))) }
 
         abbrev G111 : Row.Cx
-        G111 = record { locals = List._++_ t72 (List._++_ t1 t2); slots = List._∷_ (Row.lease (κs .0) (qs .0)) (List._∷_ (Row.lease (κs .1 .0) (qs .1 .0)) (List._∷_ (Row.lease (κs .1 .1 .0) (qs .1 .1 .0)) (List._∷_ (Row.lease (κs .1 .1 .1 .0) (qs .1 .1 .1 .0)) (List._∷_ (Row.lease (κs .1 .1 .1 .1 .0) (qs .1 .1 .1 .1 .0)) (List._∷_ (Row.lease (κs .1 .1 .1 .1 .1 .0) (qs .1 .1 .1 .1 .1 .0)) (List._∷_ Row.off (List._∷_ Row.off (List._∷_ Row.off (List._∷_ Row.off List.[]))))))))); }
+        G111 = record { locals = List._++_ t72 (List._++_ t1 t2); slots = List._∷_ (Row.lease (κs .0) (qs .0)) (List._∷_ (Row.lease (κs .1 .0) (qs .1 .0)) (List._∷_ (Row.lease (κs .1 .1 .0) (qs .1 .1 .0)) (List._∷_ (Row.lease (κs .1 .1 .1 .0) (qs .1 .1 .1 .0)) (List._∷_ (Row.lease (κs .1 .1 .1 .1 .0) (qs .1 .1 .1 .1 .0)) (List._∷_ (Row.lease (κs .1 .1 .1 .1 .1 .0) (qs .1 .1 .1 .1 .1 .0)) (List._∷_ Row.off (List._∷_ Row.off (List._∷_ Row.off (List._∷_ Row.off List.[]))))))))) }
 
         abbrev G112 : Row.Cx
-        G112 = record { locals = List._++_ t73 (List._++_ t1 t2); slots = List._∷_ (Row.lease (κs .0) (qs .0)) (List._∷_ (Row.lease (κs .1 .0) (qs .1 .0)) (List._∷_ (Row.lease (κs .1 .1 .0) (qs .1 .1 .0)) (List._∷_ (Row.lease (κs .1 .1 .1 .0) (qs .1 .1 .1 .0)) (List._∷_ (Row.lease (κs .1 .1 .1 .1 .0) (qs .1 .1 .1 .1 .0)) (List._∷_ (Row.lease (κs .1 .1 .1 .1 .1 .0) (qs .1 .1 .1 .1 .1 .0)) (List._∷_ Row.off (List._∷_ Row.off (List._∷_ Row.off (List._∷_ Row.off List.[]))))))))); }
+        G112 = record { locals = List._++_ t73 (List._++_ t1 t2); slots = List._∷_ (Row.lease (κs .0) (qs .0)) (List._∷_ (Row.lease (κs .1 .0) (qs .1 .0)) (List._∷_ (Row.lease (κs .1 .1 .0) (qs .1 .1 .0)) (List._∷_ (Row.lease (κs .1 .1 .1 .0) (qs .1 .1 .1 .0)) (List._∷_ (Row.lease (κs .1 .1 .1 .1 .0) (qs .1 .1 .1 .1 .0)) (List._∷_ (Row.lease (κs .1 .1 .1 .1 .1 .0) (qs .1 .1 .1 .1 .1 .0)) (List._∷_ Row.off (List._∷_ Row.off (List._∷_ Row.off (List._∷_ Row.off List.[]))))))))) }
 
         abbrev G113 : Row.Cx
-        G113 = record { locals = List._++_ t3 (List._++_ t1 t2); slots = List._∷_ (Row.lease (κs .0) (qs .0)) (List._∷_ (Row.lease (κs .1 .0) (qs .1 .0)) (List._∷_ (Row.lease (κs .1 .1 .0) (qs .1 .1 .0)) (List._∷_ (Row.lease (κs .1 .1 .1 .0) (qs .1 .1 .1 .0)) (List._∷_ (Row.lease (κs .1 .1 .1 .1 .0) (qs .1 .1 .1 .1 .0)) (List._∷_ (Row.lease (κs .1 .1 .1 .1 .1 .0) (qs .1 .1 .1 .1 .1 .0)) (List._∷_ Row.off (List._∷_ Row.off (List._∷_ Row.off (List._∷_ Row.off List.[]))))))))); }
+        G113 = record { locals = List._++_ t3 (List._++_ t1 t2); slots = List._∷_ (Row.lease (κs .0) (qs .0)) (List._∷_ (Row.lease (κs .1 .0) (qs .1 .0)) (List._∷_ (Row.lease (κs .1 .1 .0) (qs .1 .1 .0)) (List._∷_ (Row.lease (κs .1 .1 .1 .0) (qs .1 .1 .1 .0)) (List._∷_ (Row.lease (κs .1 .1 .1 .1 .0) (qs .1 .1 .1 .1 .0)) (List._∷_ (Row.lease (κs .1 .1 .1 .1 .1 .0) (qs .1 .1 .1 .1 .1 .0)) (List._∷_ Row.off (List._∷_ Row.off (List._∷_ Row.off (List._∷_ Row.off List.[]))))))))) }
 
         abbrev Δ0 : Typed.Outs
         Δ0 = record { next = Option.none; exits = List.[]; returns = Option.some G1 }
@@ -2132,7 +2132,7 @@ module _ (claims· : Claims) where
           d24 = Typed.g-pre 𝓤 H A W 𝓣 E G44 G45 b24 Δ5 (Typed.pass T44 T45 (s40 bs)) (at23 bs) (RScalar.g-room 𝓤 H A W E G44 22 τ4 (RLocal.room-whole 𝓤 H A W (Declared.row Saying.the-type) τ4 Path'.refl)) d23
 
           d25 : Typed.Typed 𝓤 H A 𝓣 E G43 b25 Δ5 (at25 bs)
-          d25 = Typed.s-seq 𝓤 H A W 𝓣 E G43 G44 b23 b24 Δ5 (Typed.both (s39 bs)) (at24 bs) (Plain.t-call-plain 𝓤 H A W 𝓣 3 ps·1 r·1 (claims· .2) (claims· .3) "below::says::say" (known .1) E (λ pos β. β) G43 (record { pos = 22; st = List.[]; d = 0; at = λ x. x }, (record { pos = 30; ty = Syntax.tyRef Syntax.erased Syntax.mut (Syntax.tyInt Syntax.w64); ref = λ x. x; }, (record { pos = 32; ty = Syntax.tyRef Syntax.erased Syntax.mut (Syntax.tyInt Syntax.w64); ref = λ x. x; }, (Bool.bAt 8 λ x. x, (record { pos = 34; ty = Syntax.tyRef Syntax.erased Syntax.mut (Syntax.tyArray (Syntax.tyInt Syntax.w64) 2); ref = λ x. x; }, (Num.vAt 35 λ x. x, tt)))))) 28 (List._∷_ 6 (List._∷_ 7 (List._∷_ 8 List.[]))) (Call.sub-id 𝓤 H A W (G43 .slots)) ((Yields.yields-copy 𝓤 H A W (λ ρ. Unit) (Declared.row Saying.the-type) Path'.refl (TCopies.cEnum Saying.the-type Laws'5.the-laws Laws'5.the-copy .copy 𝓤 H A W) (Rows'.whole (Declared.row Saying.the-type)) (λ x. x) (λ x. x) (λ ρ told. RLocal.mem-whole 𝓤 H A W (Declared.row Saying.the-type) ρ) λ ρ told. RLocal.whole-mem 𝓤 H A W (Declared.row Saying.the-type) ρ, Path'.refl), (Reads'.as-is 𝓤 H A (Mut.mslice (TReferent.rtF (TReferent.fInt Syntax.w64)) (Syntax.tyRef Syntax.erased Syntax.mut (Syntax.tyInt Syntax.w64)) 6), Mut.reads-mslice 𝓤 H A W (TReferent.rtF (TReferent.fInt Syntax.w64)) (Syntax.tyRef Syntax.erased Syntax.mut (Syntax.tyInt Syntax.w64)) 6, Path'.refl, (Reads'.as-is 𝓤 H A (Mut.mslice (TReferent.rtF (TReferent.fInt Syntax.w64)) (Syntax.tyRef Syntax.erased Syntax.mut (Syntax.tyInt Syntax.w64)) 7), Mut.reads-mslice 𝓤 H A W (TReferent.rtF (TReferent.fInt Syntax.w64)) (Syntax.tyRef Syntax.erased Syntax.mut (Syntax.tyInt Syntax.w64)) 7, Path'.refl, ((RScalar.reads-sc 𝓤 H A W Row.sBool, Path'.refl), (Reads'.as-is 𝓤 H A (Mut.mslice (DArray.Array (TReferent.rtF (TReferent.fInt Syntax.w64)) 2) (Syntax.tyRef Syntax.erased Syntax.mut (Syntax.tyArray (Syntax.tyInt Syntax.w64) 2)) 8), Mut.reads-mslice 𝓤 H A W (DArray.Array (TReferent.rtF (TReferent.fInt Syntax.w64)) 2) (Syntax.tyRef Syntax.erased Syntax.mut (Syntax.tyArray (Syntax.tyInt Syntax.w64) 2)) 8, Path'.refl, ((RScalar.reads-sc 𝓤 H A W (Row.sInt Syntax.w64), Path'.refl), tt)))))) (Reads'.room-gone 𝓤 H A (Syntax.tyInt Syntax.w64)) (tt, (tt, (tt, tt))) Path'.refl) d24
+          d25 = Typed.s-seq 𝓤 H A W 𝓣 E G43 G44 b23 b24 Δ5 (Typed.both (s39 bs)) (at24 bs) (Plain.t-call-plain 𝓤 H A W 𝓣 3 ps·1 r·1 (claims· .2) (claims· .3) "below::says::say" (known .1) E (λ pos β. β) G43 (record { pos = 22; st = List.[]; d = 0; at = λ x. x }, (record { pos = 30; ty = Syntax.tyRef Syntax.erased Syntax.mut (Syntax.tyInt Syntax.w64); ref = λ x. x }, (record { pos = 32; ty = Syntax.tyRef Syntax.erased Syntax.mut (Syntax.tyInt Syntax.w64); ref = λ x. x }, (Bool.bAt 8 λ x. x, (record { pos = 34; ty = Syntax.tyRef Syntax.erased Syntax.mut (Syntax.tyArray (Syntax.tyInt Syntax.w64) 2); ref = λ x. x }, (Num.vAt 35 λ x. x, tt)))))) 28 (List._∷_ 6 (List._∷_ 7 (List._∷_ 8 List.[]))) (Call.sub-id 𝓤 H A W (G43 .slots)) ((Yields.yields-copy 𝓤 H A W (λ ρ. Unit) (Declared.row Saying.the-type) Path'.refl (TCopies.cEnum Saying.the-type Laws'5.the-laws Laws'5.the-copy .copy 𝓤 H A W) (Rows'.whole (Declared.row Saying.the-type)) (λ x. x) (λ x. x) (λ ρ told. RLocal.mem-whole 𝓤 H A W (Declared.row Saying.the-type) ρ) λ ρ told. RLocal.whole-mem 𝓤 H A W (Declared.row Saying.the-type) ρ, Path'.refl), (Reads'.as-is 𝓤 H A (Mut.mslice (TReferent.rtF (TReferent.fInt Syntax.w64)) (Syntax.tyRef Syntax.erased Syntax.mut (Syntax.tyInt Syntax.w64)) 6), Mut.reads-mslice 𝓤 H A W (TReferent.rtF (TReferent.fInt Syntax.w64)) (Syntax.tyRef Syntax.erased Syntax.mut (Syntax.tyInt Syntax.w64)) 6, Path'.refl, (Reads'.as-is 𝓤 H A (Mut.mslice (TReferent.rtF (TReferent.fInt Syntax.w64)) (Syntax.tyRef Syntax.erased Syntax.mut (Syntax.tyInt Syntax.w64)) 7), Mut.reads-mslice 𝓤 H A W (TReferent.rtF (TReferent.fInt Syntax.w64)) (Syntax.tyRef Syntax.erased Syntax.mut (Syntax.tyInt Syntax.w64)) 7, Path'.refl, ((RScalar.reads-sc 𝓤 H A W Row.sBool, Path'.refl), (Reads'.as-is 𝓤 H A (Mut.mslice (DArray.Array (TReferent.rtF (TReferent.fInt Syntax.w64)) 2) (Syntax.tyRef Syntax.erased Syntax.mut (Syntax.tyArray (Syntax.tyInt Syntax.w64) 2)) 8), Mut.reads-mslice 𝓤 H A W (DArray.Array (TReferent.rtF (TReferent.fInt Syntax.w64)) 2) (Syntax.tyRef Syntax.erased Syntax.mut (Syntax.tyArray (Syntax.tyInt Syntax.w64) 2)) 8, Path'.refl, ((RScalar.reads-sc 𝓤 H A W (Row.sInt Syntax.w64), Path'.refl), tt)))))) (Reads'.room-gone 𝓤 H A (Syntax.tyInt Syntax.w64)) (tt, (tt, (tt, tt))) Path'.refl) d24
 
           d26 : Typed.Typed 𝓤 H A 𝓣 E G42 b26 Δ5 (at26 bs)
           d26 = Typed.s-seq 𝓤 H A W 𝓣 E G42 G43 b22 b25 Δ5 (Typed.ask (s38 bs)) (at25 bs) (RScalar.t-op2 𝓤 H A W E 𝓣 G42 (Syntax.add Syntax.unsigned) (RScalar.oAt 10 (Syntax.tyInt Syntax.w64) (Row.valS (Row.sInt Syntax.w64))) (RScalar.oAt 16 (Syntax.tyInt Syntax.w64) (Row.valS (Row.sInt Syntax.w64))) 35 (Rows'.sc-here (Row.sInt Syntax.w64)) (Syntax.tyInt Syntax.w64) (Row.valS (Row.sInt Syntax.w64)) (Row.sInt Syntax.w64 .of) (RScalar.reads-sc 𝓤 H A W (Row.sInt Syntax.w64), Path'.refl) (RScalar.reads-sc 𝓤 H A W (Row.sInt Syntax.w64), Path'.refl) (Reads'.room-gone 𝓤 H A (Syntax.tyInt Syntax.w64)) (RScalar.holds-sc 𝓤 H A W (Row.sInt Syntax.w64)) Path'.refl (λ u. Path'.refl) λ u. tt) d25
@@ -2201,7 +2201,7 @@ module _ (claims· : Claims) where
           d47 = Typed.g-pre 𝓤 H A W 𝓣 E G71 G72 b40 Δ5 (Typed.pass T71 T72 (s67 bs)) (at46 bs) (RScalar.g-room 𝓤 H A W E G71 24 ExpectationElem.ty (RLocal.room-whole 𝓤 H A W ExpectationElem.R ExpectationElem.ty Path'.refl)) d46
 
           d48 : Typed.Typed 𝓤 H A 𝓣 E G70 b41 Δ5 (at48 bs)
-          d48 = Typed.s-seq 𝓤 H A W 𝓣 E G70 G71 b39 b40 Δ5 (Typed.both (s66 bs)) (at47 bs) (Plain.t-call-plain 𝓤 H A W 𝓣 1 ps·3 r·3 (claims· .6) (claims· .7) "slots::put_expectation" (known .3) E (λ pos β. β) G70 (record { pos = 38; ty = Syntax.tyRef Syntax.erased Syntax.mut ExpectationElem.behind; ref = λ x. x; }, (Num.vAt 39 λ x. x, (record { pos = 24; st = List.[]; d = 0; at = λ x. x }, tt))) 36 (List._∷_ 9 List.[]) (Call.sub-id 𝓤 H A W (G70 .slots)) (Reads'.as-is 𝓤 H A (Mut.mslice ExpectationElem.R (Syntax.tyRef Syntax.erased Syntax.mut ExpectationElem.behind) 9), Mut.reads-mslice 𝓤 H A W ExpectationElem.R (Syntax.tyRef Syntax.erased Syntax.mut ExpectationElem.behind) 9, Path'.refl, ((RScalar.reads-sc 𝓤 H A W (Row.sInt Syntax.w64), Path'.refl), ((ExpectationElem.yields 𝓤 H A W, Path'.refl), tt))) (Reads'.room-gone 𝓤 H A Syntax.tyUnit) (tt, tt) Path'.refl) d47
+          d48 = Typed.s-seq 𝓤 H A W 𝓣 E G70 G71 b39 b40 Δ5 (Typed.both (s66 bs)) (at47 bs) (Plain.t-call-plain 𝓤 H A W 𝓣 1 ps·3 r·3 (claims· .6) (claims· .7) "slots::put_expectation" (known .3) E (λ pos β. β) G70 (record { pos = 38; ty = Syntax.tyRef Syntax.erased Syntax.mut ExpectationElem.behind; ref = λ x. x }, (Num.vAt 39 λ x. x, (record { pos = 24; st = List.[]; d = 0; at = λ x. x }, tt))) 36 (List._∷_ 9 List.[]) (Call.sub-id 𝓤 H A W (G70 .slots)) (Reads'.as-is 𝓤 H A (Mut.mslice ExpectationElem.R (Syntax.tyRef Syntax.erased Syntax.mut ExpectationElem.behind) 9), Mut.reads-mslice 𝓤 H A W ExpectationElem.R (Syntax.tyRef Syntax.erased Syntax.mut ExpectationElem.behind) 9, Path'.refl, ((RScalar.reads-sc 𝓤 H A W (Row.sInt Syntax.w64), Path'.refl), ((ExpectationElem.yields 𝓤 H A W, Path'.refl), tt))) (Reads'.room-gone 𝓤 H A Syntax.tyUnit) (tt, tt) Path'.refl) d47
 
           d49 : Typed.Typed 𝓤 H A 𝓣 E G69 b42 Δ5 (at49 bs)
           d49 = Typed.s-seq 𝓤 H A W 𝓣 E G69 G70 b38 b41 Δ5 (Typed.ask (s65 bs)) (at48 bs) (RScalar.t-op2 𝓤 H A W E 𝓣 G69 (Syntax.add Syntax.unsigned) (RScalar.oAt 12 (Syntax.tyInt Syntax.w64) (Row.valS (Row.sInt Syntax.w64))) (RScalar.oAt 17 (Syntax.tyInt Syntax.w64) (Row.valS (Row.sInt Syntax.w64))) 39 (Rows'.sc-here (Row.sInt Syntax.w64)) (Syntax.tyInt Syntax.w64) (Row.valS (Row.sInt Syntax.w64)) (Row.sInt Syntax.w64 .of) (RScalar.reads-sc 𝓤 H A W (Row.sInt Syntax.w64), Path'.refl) (RScalar.reads-sc 𝓤 H A W (Row.sInt Syntax.w64), Path'.refl) (Reads'.room-gone 𝓤 H A (Syntax.tyInt Syntax.w64)) (RScalar.holds-sc 𝓤 H A W (Row.sInt Syntax.w64)) Path'.refl (λ u. Path'.refl) λ u. tt) d48
@@ -2334,13 +2334,13 @@ module _ (claims· : Claims) where
           d91 = Typed.s-seq 𝓤 H A W 𝓣 E G21 G22 b12 b60 Δ3 (Typed.pass T21 T22 (s18 bs)) (at90 bs) (CopyOut.t-copy-told 𝓤 H A W E 𝓣 (Declared.row Role.the-type) Path'.refl (Laws'8.val Role.the-type Laws'4.the-laws) (Laws'8.lawful Role.the-type Laws'4.the-laws 𝓤 H A W tt) (Laws'8.makes Role.the-type Laws'4.the-plain 𝓤 H A) G21 20 (RScalar.oFld 19 (List._∷_ (Syntax.field 0) List.[]) τ3 0 λ x. Laws'8.val Role.the-type Laws'4.the-laws (Step.struct .as-values x .0)) (λ m. Step.struct .as-values (m .1 .1 .1 .1 .1 .1 .1 .1 .1 .1 .1 .1 .1 .1 .1 .1 .1 .1 .1 .0) .0) (λ m. Laws'9.Is (Declared'.row Step.the-type) (m .1 .1 .1 .1 .1 .1 .1 .1 .1 .1 .1 .1 .1 .1 .1 .1 .1 .1 .1 .0) (Laws'10.vals Step.the-type Laws'6.the-laws (m .1 .1 .1 .1 .1 .1 .1 .1 .1 .1 .1 .1 .1 .1 .1 .1 .1 .1 .1 .0))) (Reads'.room-gone 𝓤 H A τ3) (Reads.reads-field 𝓤 H A W Step.the-type Laws'6.the-laws 0 τ3 0 Path'.refl, Path'.refl) Path'.refl (λ ρ m. Make.tells-row 𝓤 H A W E ρ (Row.out 20 (G21 .locals)) m 19 (Laws'9.Is (Declared'.row Step.the-type) (m .1 .1 .1 .1 .1 .1 .1 .1 .1 .1 .1 .1 .1 .1 .1 .1 .1 .1 .1 .0) (Laws'10.vals Step.the-type Laws'6.the-laws (m .1 .1 .1 .1 .1 .1 .1 .1 .1 .1 .1 .1 .1 .1 .1 .1 .1 .1 .1 .0))) (Make.whole-is 𝓤 H A W E (Declared'.row Step.the-type) Path'.refl (Laws'10.val Step.the-type Laws'6.the-laws) (Laws'10.tells Step.the-type Laws'6.the-laws) ρ 19 (m .1 .1 .1 .1 .1 .1 .1 .1 .1 .1 .1 .1 .1 .1 .1 .1 .1 .1 .1 .0))) (λ m k wa. Path'.refl) λ m k wa. Laws'10.owed Step.the-type Laws'6.the-laws (m .1 .1 .1 .1 .1 .1 .1 .1 .1 .1 .1 .1 .1 .1 .1 .1 .1 .1 .1 .0) (Laws'10.vals Step.the-type Laws'6.the-laws (m .1 .1 .1 .1 .1 .1 .1 .1 .1 .1 .1 .1 .1 .1 .1 .1 .1 .1 .1 .0)) k .0) d90
 
           d92 : Typed.Typed 𝓤 H A 𝓣 E G20 b62 Δ3 (at92 bs)
-          d92 = Typed.s-seq 𝓤 H A W 𝓣 E G20 G21 b11 b61 Δ3 (Typed.both (s17 bs)) (at91 bs) (WayStmt.t-way-copy-out 𝓤 H A W E 𝓣 (Declared'.row Step.the-type) Path'.refl (TCopies.cStruct Step.the-type Laws'6.the-laws Laws'6.the-copy .copy 𝓤 H A W) (λ ρ. Unit) G20 (Row.out 18 (G20 .locals)) (λ u. Row.drop 18 (G20 .locals) u) (G20 .slots) 18 (λ t. List._∷_ (Syntax.field 0) t) τ2 τ2 19 (Rows'.whole (Declared'.row Step.the-type)) (λ x. x) (λ u. At.getAt (Turn.the-type .parts) 0 (Turn.struct .as-values (u .1 .1 .1 .1 .1 .1 .1 .1 .1 .1 .1 .1 .1 .1 .1 .1 .1 .1 .0))) (λ u. (Row.hd 0 (Row.tl (Row.tl (Row.tl (Row.tl (Row.tl (Row.tl (Row.tl (Row.tl (Row.tl (Row.tl (Row.tl (Row.tl (Row.tl (Row.tl (Row.tl (Row.tl (Row.tl (Row.tl bs)))))))))))))))))), Nat._+_ 0 0)) (λ T′. record { locals = Row.setRow 18 (18, Rows'.whole (Declared'.row Turn.the-type)) T′; slots = G20 .slots; }) (λ u T′ m′. Row.set 18 (18, Rows'.whole (Declared'.row Turn.the-type)) (u .1 .1 .1 .1 .1 .1 .1 .1 .1 .1 .1 .1 .1 .1 .1 .1 .1 .1 .0) T′ m′) (λ u. Unit) (λ x. Unit) (Own.told-none 𝓤 H A (G20 .slots)) (DerefMove.learns-nothing 𝓤 H A (Declared'.row Step.the-type)) (λ ρ told u asked. Way'.w-partˢ 𝓤 H A W E (Declared'.row Turn.the-type) (Declared'.row Step.the-type) τ1 τ2 0 0 (u .1 .1 .1 .1 .1 .1 .1 .1 .1 .1 .1 .1 .1 .1 .1 .1 .1 .1 .0) (At.getAt (Turn.the-type .parts) 0 (Turn.struct .as-values (u .1 .1 .1 .1 .1 .1 .1 .1 .1 .1 .1 .1 .1 .1 .1 .1 .1 .1 .0))) (Row.hd 0 (Row.tl (Row.tl (Row.tl (Row.tl (Row.tl (Row.tl (Row.tl (Row.tl (Row.tl (Row.tl (Row.tl (Row.tl (Row.tl (Row.tl (Row.tl (Row.tl (Row.tl (Row.tl bs)))))))))))))))))), 0) (Way.w-look 𝓤 H A W E (Way.w-local 𝓤 H A W E G20 ρ u (G20 .slots) 18 (Declared'.row Turn.the-type) (Rows'.whole (Declared'.row Turn.the-type)) (λ x. x) (λ x. x) (u .1 .1 .1 .1 .1 .1 .1 .1 .1 .1 .1 .1 .1 .1 .1 .1 .1 .1 .0) (RLocal.mem-whole 𝓤 H A W (Declared'.row Turn.the-type) ρ (u .1 .1 .1 .1 .1 .1 .1 .1 .1 .1 .1 .1 .1 .1 .1 .1 .1 .1 .0) (Row.hd 0 (Row.tl (Row.tl (Row.tl (Row.tl (Row.tl (Row.tl (Row.tl (Row.tl (Row.tl (Row.tl (Row.tl (Row.tl (Row.tl (Row.tl (Row.tl (Row.tl (Row.tl (Row.tl bs)))))))))))))))))))) (RLocal.whole-mem 𝓤 H A W (Declared'.row Turn.the-type) ρ (u .1 .1 .1 .1 .1 .1 .1 .1 .1 .1 .1 .1 .1 .1 .1 .1 .1 .1 .0) (Row.hd 0 (Row.tl (Row.tl (Row.tl (Row.tl (Row.tl (Row.tl (Row.tl (Row.tl (Row.tl (Row.tl (Row.tl (Row.tl (Row.tl (Row.tl (Row.tl (Row.tl (Row.tl (Row.tl bs)))))))))))))))))))))) Path'.refl λ q. Inner.cut-record 𝓤 H A q (Declared'.row Turn.the-type) Step.the-type 0 (u .1 .1 .1 .1 .1 .1 .1 .1 .1 .1 .1 .1 .1 .1 .1 .1 .1 .1 .0) (u .1 .1 .1 .1 .1 .1 .1 .1 .1 .1 .1 .1 .1 .1 .1 .1 .1 .1 .0) (At.getAt (Turn.the-type .parts) 0 (Turn.struct .as-values (u .1 .1 .1 .1 .1 .1 .1 .1 .1 .1 .1 .1 .1 .1 .1 .1 .1 .1 .0))) (At.getAt (Turn.the-type .parts) 0 (Turn.struct .as-values (u .1 .1 .1 .1 .1 .1 .1 .1 .1 .1 .1 .1 .1 .1 .1 .1 .1 .1 .0))) (Row.hd 0 (Row.tl (Row.tl (Row.tl (Row.tl (Row.tl (Row.tl (Row.tl (Row.tl (Row.tl (Row.tl (Row.tl (Row.tl (Row.tl (Row.tl (Row.tl (Row.tl (Row.tl (Row.tl bs)))))))))))))))))), 0) (Behind.look-at 𝓤 H A W q Turn.the-type Laws'.the-laws 0 0 Path'.refl Path'.refl (Row.hd 0 (Row.tl (Row.tl (Row.tl (Row.tl (Row.tl (Row.tl (Row.tl (Row.tl (Row.tl (Row.tl (Row.tl (Row.tl (Row.tl (Row.tl (Row.tl (Row.tl (Row.tl (Row.tl bs)))))))))))))))))), 0) (u .1 .1 .1 .1 .1 .1 .1 .1 .1 .1 .1 .1 .1 .1 .1 .1 .1 .1 .0) (Turn.struct .as-values (u .1 .1 .1 .1 .1 .1 .1 .1 .1 .1 .1 .1 .1 .1 .1 .1 .1 .1 .0)) Path'.refl)) (Reads'.room-gone 𝓤 H A τ2) (Yields.makes-mem 𝓤 H A W (λ ρ. Unit) (Declared'.row Step.the-type) Path'.refl (Rows'.whole (Declared'.row Step.the-type)) (λ x. x) λ ρ told. RLocal.whole-mem 𝓤 H A W (Declared'.row Step.the-type) ρ) Path'.refl Path'.refl Path'.refl) d91
+          d92 = Typed.s-seq 𝓤 H A W 𝓣 E G20 G21 b11 b61 Δ3 (Typed.both (s17 bs)) (at91 bs) (WayStmt.t-way-copy-out 𝓤 H A W E 𝓣 (Declared'.row Step.the-type) Path'.refl (TCopies.cStruct Step.the-type Laws'6.the-laws Laws'6.the-copy .copy 𝓤 H A W) (λ ρ. Unit) G20 (Row.out 18 (G20 .locals)) (λ u. Row.drop 18 (G20 .locals) u) (G20 .slots) 18 (λ t. List._∷_ (Syntax.field 0) t) τ2 τ2 19 (Rows'.whole (Declared'.row Step.the-type)) (λ x. x) (λ u. At.getAt (Turn.the-type .parts) 0 (Turn.struct .as-values (u .1 .1 .1 .1 .1 .1 .1 .1 .1 .1 .1 .1 .1 .1 .1 .1 .1 .1 .0))) (λ u. (Row.hd 0 (Row.tl (Row.tl (Row.tl (Row.tl (Row.tl (Row.tl (Row.tl (Row.tl (Row.tl (Row.tl (Row.tl (Row.tl (Row.tl (Row.tl (Row.tl (Row.tl (Row.tl (Row.tl bs)))))))))))))))))), Nat._+_ 0 0)) (λ T′. record { locals = Row.setRow 18 (18, Rows'.whole (Declared'.row Turn.the-type)) T′; slots = G20 .slots }) (λ u T′ m′. Row.set 18 (18, Rows'.whole (Declared'.row Turn.the-type)) (u .1 .1 .1 .1 .1 .1 .1 .1 .1 .1 .1 .1 .1 .1 .1 .1 .1 .1 .0) T′ m′) (λ u. Unit) (λ x. Unit) (Own.told-none 𝓤 H A (G20 .slots)) (DerefMove.learns-nothing 𝓤 H A (Declared'.row Step.the-type)) (λ ρ told u asked. Way'.w-partˢ 𝓤 H A W E (Declared'.row Turn.the-type) (Declared'.row Step.the-type) τ1 τ2 0 0 (u .1 .1 .1 .1 .1 .1 .1 .1 .1 .1 .1 .1 .1 .1 .1 .1 .1 .1 .0) (At.getAt (Turn.the-type .parts) 0 (Turn.struct .as-values (u .1 .1 .1 .1 .1 .1 .1 .1 .1 .1 .1 .1 .1 .1 .1 .1 .1 .1 .0))) (Row.hd 0 (Row.tl (Row.tl (Row.tl (Row.tl (Row.tl (Row.tl (Row.tl (Row.tl (Row.tl (Row.tl (Row.tl (Row.tl (Row.tl (Row.tl (Row.tl (Row.tl (Row.tl (Row.tl bs)))))))))))))))))), 0) (Way.w-look 𝓤 H A W E (Way.w-local 𝓤 H A W E G20 ρ u (G20 .slots) 18 (Declared'.row Turn.the-type) (Rows'.whole (Declared'.row Turn.the-type)) (λ x. x) (λ x. x) (u .1 .1 .1 .1 .1 .1 .1 .1 .1 .1 .1 .1 .1 .1 .1 .1 .1 .1 .0) (RLocal.mem-whole 𝓤 H A W (Declared'.row Turn.the-type) ρ (u .1 .1 .1 .1 .1 .1 .1 .1 .1 .1 .1 .1 .1 .1 .1 .1 .1 .1 .0) (Row.hd 0 (Row.tl (Row.tl (Row.tl (Row.tl (Row.tl (Row.tl (Row.tl (Row.tl (Row.tl (Row.tl (Row.tl (Row.tl (Row.tl (Row.tl (Row.tl (Row.tl (Row.tl (Row.tl bs)))))))))))))))))))) (RLocal.whole-mem 𝓤 H A W (Declared'.row Turn.the-type) ρ (u .1 .1 .1 .1 .1 .1 .1 .1 .1 .1 .1 .1 .1 .1 .1 .1 .1 .1 .0) (Row.hd 0 (Row.tl (Row.tl (Row.tl (Row.tl (Row.tl (Row.tl (Row.tl (Row.tl (Row.tl (Row.tl (Row.tl (Row.tl (Row.tl (Row.tl (Row.tl (Row.tl (Row.tl (Row.tl bs)))))))))))))))))))))) Path'.refl λ q. Inner.cut-record 𝓤 H A q (Declared'.row Turn.the-type) Step.the-type 0 (u .1 .1 .1 .1 .1 .1 .1 .1 .1 .1 .1 .1 .1 .1 .1 .1 .1 .1 .0) (u .1 .1 .1 .1 .1 .1 .1 .1 .1 .1 .1 .1 .1 .1 .1 .1 .1 .1 .0) (At.getAt (Turn.the-type .parts) 0 (Turn.struct .as-values (u .1 .1 .1 .1 .1 .1 .1 .1 .1 .1 .1 .1 .1 .1 .1 .1 .1 .1 .0))) (At.getAt (Turn.the-type .parts) 0 (Turn.struct .as-values (u .1 .1 .1 .1 .1 .1 .1 .1 .1 .1 .1 .1 .1 .1 .1 .1 .1 .1 .0))) (Row.hd 0 (Row.tl (Row.tl (Row.tl (Row.tl (Row.tl (Row.tl (Row.tl (Row.tl (Row.tl (Row.tl (Row.tl (Row.tl (Row.tl (Row.tl (Row.tl (Row.tl (Row.tl (Row.tl bs)))))))))))))))))), 0) (Behind.look-at 𝓤 H A W q Turn.the-type Laws'.the-laws 0 0 Path'.refl Path'.refl (Row.hd 0 (Row.tl (Row.tl (Row.tl (Row.tl (Row.tl (Row.tl (Row.tl (Row.tl (Row.tl (Row.tl (Row.tl (Row.tl (Row.tl (Row.tl (Row.tl (Row.tl (Row.tl (Row.tl bs)))))))))))))))))), 0) (u .1 .1 .1 .1 .1 .1 .1 .1 .1 .1 .1 .1 .1 .1 .1 .1 .1 .1 .0) (Turn.struct .as-values (u .1 .1 .1 .1 .1 .1 .1 .1 .1 .1 .1 .1 .1 .1 .1 .1 .1 .1 .0)) Path'.refl)) (Reads'.room-gone 𝓤 H A τ2) (Yields.makes-mem 𝓤 H A W (λ ρ. Unit) (Declared'.row Step.the-type) Path'.refl (Rows'.whole (Declared'.row Step.the-type)) (λ x. x) λ ρ told. RLocal.whole-mem 𝓤 H A W (Declared'.row Step.the-type) ρ) Path'.refl Path'.refl Path'.refl) d91
 
           d93 : Typed.Typed 𝓤 H A 𝓣 E G19 b62 Δ3 (at93 bs)
           d93 = Typed.g-pre 𝓤 H A W 𝓣 E G19 G20 b62 Δ3 (Typed.pass T19 T20 (s16 bs)) (at92 bs) (RScalar.g-room 𝓤 H A W E G19 13 τ0 (RLocal.room-whole 𝓤 H A W (Declared.row Where.the-type) τ0 Path'.refl)) d92
 
           d94 : Typed.Typed 𝓤 H A 𝓣 E G14 b63 Δ3 (at94 bs)
-          d94 = Typed.s-seq 𝓤 H A W 𝓣 E G14 G19 b10 b62 Δ3 (Typed.both (s15 bs)) (at93 bs) (Plain.t-call-plain 𝓤 H A W 𝓣 2 ps·0 r·0 (claims· .0) (claims· .1) "kept::look" (known .0) E (λ pos β. β) G14 (record { pos = 1; ty = Syntax.tyRef (Syntax.named 0) Syntax.imm (Syntax.tyInt Syntax.w8); ref = λ x. x; }, (record { pos = 2; ty = Syntax.tyRef (Syntax.named 1) Syntax.imm KeptElem.behind; ref = λ x. x; }, (record { pos = 13; st = List.[]; d = 0; at = λ x. x }, (Num.vAt 14 λ x. x, (Num.vAt 15 λ x. x, tt))))) 18 (List._∷_ 0 (List._∷_ 1 List.[])) (Call.sub-id 𝓤 H A W (G14 .slots)) (ShrSlice.spares-sslice 𝓤 H A W (TReferent.rtF (TReferent.fInt Syntax.w8)) (Syntax.tyRef (Syntax.named 0) Syntax.imm (Syntax.tyInt Syntax.w8)) 0, SShared.reads-sslice 𝓤 H A W (TReferent.rtF (TReferent.fInt Syntax.w8)) (Syntax.tyRef (Syntax.named 0) Syntax.imm (Syntax.tyInt Syntax.w8)) 0, Path'.refl, (ShrSlice.spares-sslice 𝓤 H A W KeptElem.R (Syntax.tyRef (Syntax.named 1) Syntax.imm KeptElem.behind) 1, SShared.reads-sslice 𝓤 H A W KeptElem.R (Syntax.tyRef (Syntax.named 1) Syntax.imm KeptElem.behind) 1, Path'.refl, ((Yields.yields-copy 𝓤 H A W (λ ρ. Unit) (Declared.row Where.the-type) Path'.refl (TCopies.cEnum Where.the-type Laws'7.the-laws Laws'7.the-copy .copy 𝓤 H A W) (Rows'.whole (Declared.row Where.the-type)) (λ x. x) (λ x. x) (λ ρ told. RLocal.mem-whole 𝓤 H A W (Declared.row Where.the-type) ρ) λ ρ told. RLocal.whole-mem 𝓤 H A W (Declared.row Where.the-type) ρ, Path'.refl), ((RScalar.reads-sc 𝓤 H A W (Row.sInt Syntax.w64), Path'.refl), ((RScalar.reads-sc 𝓤 H A W (Row.sInt Syntax.w64), Path'.refl), tt))))) (Reads'.room-gone 𝓤 H A τ1) (tt, (tt, tt)) Path'.refl) d93
+          d94 = Typed.s-seq 𝓤 H A W 𝓣 E G14 G19 b10 b62 Δ3 (Typed.both (s15 bs)) (at93 bs) (Plain.t-call-plain 𝓤 H A W 𝓣 2 ps·0 r·0 (claims· .0) (claims· .1) "kept::look" (known .0) E (λ pos β. β) G14 (record { pos = 1; ty = Syntax.tyRef (Syntax.named 0) Syntax.imm (Syntax.tyInt Syntax.w8); ref = λ x. x }, (record { pos = 2; ty = Syntax.tyRef (Syntax.named 1) Syntax.imm KeptElem.behind; ref = λ x. x }, (record { pos = 13; st = List.[]; d = 0; at = λ x. x }, (Num.vAt 14 λ x. x, (Num.vAt 15 λ x. x, tt))))) 18 (List._∷_ 0 (List._∷_ 1 List.[])) (Call.sub-id 𝓤 H A W (G14 .slots)) (ShrSlice.spares-sslice 𝓤 H A W (TReferent.rtF (TReferent.fInt Syntax.w8)) (Syntax.tyRef (Syntax.named 0) Syntax.imm (Syntax.tyInt Syntax.w8)) 0, SShared.reads-sslice 𝓤 H A W (TReferent.rtF (TReferent.fInt Syntax.w8)) (Syntax.tyRef (Syntax.named 0) Syntax.imm (Syntax.tyInt Syntax.w8)) 0, Path'.refl, (ShrSlice.spares-sslice 𝓤 H A W KeptElem.R (Syntax.tyRef (Syntax.named 1) Syntax.imm KeptElem.behind) 1, SShared.reads-sslice 𝓤 H A W KeptElem.R (Syntax.tyRef (Syntax.named 1) Syntax.imm KeptElem.behind) 1, Path'.refl, ((Yields.yields-copy 𝓤 H A W (λ ρ. Unit) (Declared.row Where.the-type) Path'.refl (TCopies.cEnum Where.the-type Laws'7.the-laws Laws'7.the-copy .copy 𝓤 H A W) (Rows'.whole (Declared.row Where.the-type)) (λ x. x) (λ x. x) (λ ρ told. RLocal.mem-whole 𝓤 H A W (Declared.row Where.the-type) ρ) λ ρ told. RLocal.whole-mem 𝓤 H A W (Declared.row Where.the-type) ρ, Path'.refl), ((RScalar.reads-sc 𝓤 H A W (Row.sInt Syntax.w64), Path'.refl), ((RScalar.reads-sc 𝓤 H A W (Row.sInt Syntax.w64), Path'.refl), tt))))) (Reads'.room-gone 𝓤 H A τ1) (tt, (tt, tt)) Path'.refl) d93
 
           d95 : Typed.Typed 𝓤 H A 𝓣 E G13 b64 Δ3 (at95 bs)
           d95 = Typed.t-seq 𝓤 H A W 𝓣 E G13 G14 b9 b63 Δ3 (at6 bs) (at94 bs) d6 d94
@@ -2523,7 +2523,7 @@ module _ (claims· : Claims) where
       Need-loop-holds = (c : After-slice-known2) → Inv·0 (Row.get 1 (T10 .locals) (m9 (c .before) (c .slice-known2 .given)) .now) (Row.get 2 (T10 .locals) (m9 (c .before) (c .slice-known2 .given)) .now) (Row.get 3 (T10 .locals) (m9 (c .before) (c .slice-known2 .given))) (Row.get 4 (T10 .locals) (m9 (c .before) (c .slice-known2 .given))) (Row.get 6 (T10 .locals) (m9 (c .before) (c .slice-known2 .given)) .now) (Row.get 7 (T10 .locals) (m9 (c .before) (c .slice-known2 .given)) .now) (Row.get 8 (T10 .locals) (m9 (c .before) (c .slice-known2 .given))) (Row.get 9 (T10 .locals) (m9 (c .before) (c .slice-known2 .given)) .now) (Row.get 10 (T10 .locals) (m9 (c .before) (c .slice-known2 .given))) (Row.get 11 (T10 .locals) (m9 (c .before) (c .slice-known2 .given)) .now) (Row.get 12 (T10 .locals) (m9 (c .before) (c .slice-known2 .given))) (Row.get 13 (T10 .locals) (m9 (c .before) (c .slice-known2 .given))) (Row.get 14 (T10 .locals) (m9 (c .before) (c .slice-known2 .given))) (Row.get 15 (T10 .locals) (m9 (c .before) (c .slice-known2 .given))) (Row.get 16 (T10 .locals) (m9 (c .before) (c .slice-known2 .given))) (Row.get 17 (T10 .locals) (m9 (c .before) (c .slice-known2 .given))) (Row.get 6 (T10 .locals) (m9 (c .before) (c .slice-known2 .given)) .now) (Row.get 7 (T10 .locals) (m9 (c .before) (c .slice-known2 .given)) .now) (Row.get 9 (T10 .locals) (m9 (c .before) (c .slice-known2 .given)) .now) (Row.get 11 (T10 .locals) (m9 (c .before) (c .slice-known2 .given)) .now) (Row.get 13 (T10 .locals) (m9 (c .before) (c .slice-known2 .given))) (Row.get 14 (T10 .locals) (m9 (c .before) (c .slice-known2 .given))) (Row.get 15 (T10 .locals) (m9 (c .before) (c .slice-known2 .given))) (Row.get 16 (T10 .locals) (m9 (c .before) (c .slice-known2 .given))) (Row.get 17 (T10 .locals) (m9 (c .before) (c .slice-known2 .given)))
 
       abbrev pub m10 : (before : After-slice-known2) → (starts : List.List (TReferent.rtF (TReferent.fInt Syntax.w64) .Denot)) → (ends : List.List (TReferent.rtF (TReferent.fInt Syntax.w64) .Denot)) → (items : List.List (DArray.Array (TReferent.rtF (TReferent.fInt Syntax.w64)) 2 .Denot)) → (expectations : List.List (ExpectationElem.R .Denot)) → (w : Rows'.whole (Declared.row Where.the-type) .Mod) → (at : Rows'.sc-here (Row.sInt Syntax.w64) .Mod) → (number : Rows'.sc-here (Row.sInt Syntax.w64) .Mod) → (pairs : Rows'.sc-here (Row.sInt Syntax.w64) .Mod) → (expects : Rows'.sc-here (Row.sInt Syntax.w64) .Mod) → Typed.Mo T10
-      m10 = λ before starts ends items expectations w at number pairs expects. Row.set 17 (17, Rows'.sc-here (Row.sInt Syntax.w64)) expects (Row.setRow 16 (16, Rows'.sc-here (Row.sInt Syntax.w64)) (Row.setRow 15 (15, Rows'.sc-here (Row.sInt Syntax.w64)) (Row.setRow 14 (14, Rows'.sc-here (Row.sInt Syntax.w64)) (Row.setRow 13 (13, Rows'.whole (Declared.row Where.the-type)) (Row.setRow 11 (11, Mut.mslice ExpectationElem.R (Syntax.tyRef (Syntax.named 5) Syntax.mut ExpectationElem.behind) 5) (Row.setRow 9 (9, Mut.mslice (DArray.Array (TReferent.rtF (TReferent.fInt Syntax.w64)) 2) (Syntax.tyRef (Syntax.named 4) Syntax.mut (Syntax.tyArray (Syntax.tyInt Syntax.w64) 2)) 4) (Row.setRow 7 (7, Mut.mslice (TReferent.rtF (TReferent.fInt Syntax.w64)) (Syntax.tyRef (Syntax.named 3) Syntax.mut (Syntax.tyInt Syntax.w64)) 3) (Row.setRow 6 (6, Mut.mslice (TReferent.rtF (TReferent.fInt Syntax.w64)) (Syntax.tyRef (Syntax.named 2) Syntax.mut (Syntax.tyInt Syntax.w64)) 2) (T10 .locals))))))))) (Row.set 16 (16, Rows'.sc-here (Row.sInt Syntax.w64)) pairs (Row.setRow 15 (15, Rows'.sc-here (Row.sInt Syntax.w64)) (Row.setRow 14 (14, Rows'.sc-here (Row.sInt Syntax.w64)) (Row.setRow 13 (13, Rows'.whole (Declared.row Where.the-type)) (Row.setRow 11 (11, Mut.mslice ExpectationElem.R (Syntax.tyRef (Syntax.named 5) Syntax.mut ExpectationElem.behind) 5) (Row.setRow 9 (9, Mut.mslice (DArray.Array (TReferent.rtF (TReferent.fInt Syntax.w64)) 2) (Syntax.tyRef (Syntax.named 4) Syntax.mut (Syntax.tyArray (Syntax.tyInt Syntax.w64) 2)) 4) (Row.setRow 7 (7, Mut.mslice (TReferent.rtF (TReferent.fInt Syntax.w64)) (Syntax.tyRef (Syntax.named 3) Syntax.mut (Syntax.tyInt Syntax.w64)) 3) (Row.setRow 6 (6, Mut.mslice (TReferent.rtF (TReferent.fInt Syntax.w64)) (Syntax.tyRef (Syntax.named 2) Syntax.mut (Syntax.tyInt Syntax.w64)) 2) (T10 .locals)))))))) (Row.set 15 (15, Rows'.sc-here (Row.sInt Syntax.w64)) number (Row.setRow 14 (14, Rows'.sc-here (Row.sInt Syntax.w64)) (Row.setRow 13 (13, Rows'.whole (Declared.row Where.the-type)) (Row.setRow 11 (11, Mut.mslice ExpectationElem.R (Syntax.tyRef (Syntax.named 5) Syntax.mut ExpectationElem.behind) 5) (Row.setRow 9 (9, Mut.mslice (DArray.Array (TReferent.rtF (TReferent.fInt Syntax.w64)) 2) (Syntax.tyRef (Syntax.named 4) Syntax.mut (Syntax.tyArray (Syntax.tyInt Syntax.w64) 2)) 4) (Row.setRow 7 (7, Mut.mslice (TReferent.rtF (TReferent.fInt Syntax.w64)) (Syntax.tyRef (Syntax.named 3) Syntax.mut (Syntax.tyInt Syntax.w64)) 3) (Row.setRow 6 (6, Mut.mslice (TReferent.rtF (TReferent.fInt Syntax.w64)) (Syntax.tyRef (Syntax.named 2) Syntax.mut (Syntax.tyInt Syntax.w64)) 2) (T10 .locals))))))) (Row.set 14 (14, Rows'.sc-here (Row.sInt Syntax.w64)) at (Row.setRow 13 (13, Rows'.whole (Declared.row Where.the-type)) (Row.setRow 11 (11, Mut.mslice ExpectationElem.R (Syntax.tyRef (Syntax.named 5) Syntax.mut ExpectationElem.behind) 5) (Row.setRow 9 (9, Mut.mslice (DArray.Array (TReferent.rtF (TReferent.fInt Syntax.w64)) 2) (Syntax.tyRef (Syntax.named 4) Syntax.mut (Syntax.tyArray (Syntax.tyInt Syntax.w64) 2)) 4) (Row.setRow 7 (7, Mut.mslice (TReferent.rtF (TReferent.fInt Syntax.w64)) (Syntax.tyRef (Syntax.named 3) Syntax.mut (Syntax.tyInt Syntax.w64)) 3) (Row.setRow 6 (6, Mut.mslice (TReferent.rtF (TReferent.fInt Syntax.w64)) (Syntax.tyRef (Syntax.named 2) Syntax.mut (Syntax.tyInt Syntax.w64)) 2) (T10 .locals)))))) (Row.set 13 (13, Rows'.whole (Declared.row Where.the-type)) w (Row.setRow 11 (11, Mut.mslice ExpectationElem.R (Syntax.tyRef (Syntax.named 5) Syntax.mut ExpectationElem.behind) 5) (Row.setRow 9 (9, Mut.mslice (DArray.Array (TReferent.rtF (TReferent.fInt Syntax.w64)) 2) (Syntax.tyRef (Syntax.named 4) Syntax.mut (Syntax.tyArray (Syntax.tyInt Syntax.w64) 2)) 4) (Row.setRow 7 (7, Mut.mslice (TReferent.rtF (TReferent.fInt Syntax.w64)) (Syntax.tyRef (Syntax.named 3) Syntax.mut (Syntax.tyInt Syntax.w64)) 3) (Row.setRow 6 (6, Mut.mslice (TReferent.rtF (TReferent.fInt Syntax.w64)) (Syntax.tyRef (Syntax.named 2) Syntax.mut (Syntax.tyInt Syntax.w64)) 2) (T10 .locals))))) (Row.set 11 (11, Mut.mslice ExpectationElem.R (Syntax.tyRef (Syntax.named 5) Syntax.mut ExpectationElem.behind) 5) record { ptr = Row.get 11 (T10 .locals) (m9 (before .before) (before .slice-known2 .given)) .ptr; name = Row.get 11 (T10 .locals) (m9 (before .before) (before .slice-known2 .given)) .name; now = expectations; } (Row.setRow 9 (9, Mut.mslice (DArray.Array (TReferent.rtF (TReferent.fInt Syntax.w64)) 2) (Syntax.tyRef (Syntax.named 4) Syntax.mut (Syntax.tyArray (Syntax.tyInt Syntax.w64) 2)) 4) (Row.setRow 7 (7, Mut.mslice (TReferent.rtF (TReferent.fInt Syntax.w64)) (Syntax.tyRef (Syntax.named 3) Syntax.mut (Syntax.tyInt Syntax.w64)) 3) (Row.setRow 6 (6, Mut.mslice (TReferent.rtF (TReferent.fInt Syntax.w64)) (Syntax.tyRef (Syntax.named 2) Syntax.mut (Syntax.tyInt Syntax.w64)) 2) (T10 .locals)))) (Row.set 9 (9, Mut.mslice (DArray.Array (TReferent.rtF (TReferent.fInt Syntax.w64)) 2) (Syntax.tyRef (Syntax.named 4) Syntax.mut (Syntax.tyArray (Syntax.tyInt Syntax.w64) 2)) 4) record { ptr = Row.get 9 (T10 .locals) (m9 (before .before) (before .slice-known2 .given)) .ptr; name = Row.get 9 (T10 .locals) (m9 (before .before) (before .slice-known2 .given)) .name; now = items; } (Row.setRow 7 (7, Mut.mslice (TReferent.rtF (TReferent.fInt Syntax.w64)) (Syntax.tyRef (Syntax.named 3) Syntax.mut (Syntax.tyInt Syntax.w64)) 3) (Row.setRow 6 (6, Mut.mslice (TReferent.rtF (TReferent.fInt Syntax.w64)) (Syntax.tyRef (Syntax.named 2) Syntax.mut (Syntax.tyInt Syntax.w64)) 2) (T10 .locals))) (Row.set 7 (7, Mut.mslice (TReferent.rtF (TReferent.fInt Syntax.w64)) (Syntax.tyRef (Syntax.named 3) Syntax.mut (Syntax.tyInt Syntax.w64)) 3) record { ptr = Row.get 7 (T10 .locals) (m9 (before .before) (before .slice-known2 .given)) .ptr; name = Row.get 7 (T10 .locals) (m9 (before .before) (before .slice-known2 .given)) .name; now = ends; } (Row.setRow 6 (6, Mut.mslice (TReferent.rtF (TReferent.fInt Syntax.w64)) (Syntax.tyRef (Syntax.named 2) Syntax.mut (Syntax.tyInt Syntax.w64)) 2) (T10 .locals)) (Row.set 6 (6, Mut.mslice (TReferent.rtF (TReferent.fInt Syntax.w64)) (Syntax.tyRef (Syntax.named 2) Syntax.mut (Syntax.tyInt Syntax.w64)) 2) record { ptr = Row.get 6 (T10 .locals) (m9 (before .before) (before .slice-known2 .given)) .ptr; name = Row.get 6 (T10 .locals) (m9 (before .before) (before .slice-known2 .given)) .name; now = starts; } (T10 .locals) (m9 (before .before) (before .slice-known2 .given))))))))))
+      m10 = λ before starts ends items expectations w at number pairs expects. Row.set 17 (17, Rows'.sc-here (Row.sInt Syntax.w64)) expects (Row.setRow 16 (16, Rows'.sc-here (Row.sInt Syntax.w64)) (Row.setRow 15 (15, Rows'.sc-here (Row.sInt Syntax.w64)) (Row.setRow 14 (14, Rows'.sc-here (Row.sInt Syntax.w64)) (Row.setRow 13 (13, Rows'.whole (Declared.row Where.the-type)) (Row.setRow 11 (11, Mut.mslice ExpectationElem.R (Syntax.tyRef (Syntax.named 5) Syntax.mut ExpectationElem.behind) 5) (Row.setRow 9 (9, Mut.mslice (DArray.Array (TReferent.rtF (TReferent.fInt Syntax.w64)) 2) (Syntax.tyRef (Syntax.named 4) Syntax.mut (Syntax.tyArray (Syntax.tyInt Syntax.w64) 2)) 4) (Row.setRow 7 (7, Mut.mslice (TReferent.rtF (TReferent.fInt Syntax.w64)) (Syntax.tyRef (Syntax.named 3) Syntax.mut (Syntax.tyInt Syntax.w64)) 3) (Row.setRow 6 (6, Mut.mslice (TReferent.rtF (TReferent.fInt Syntax.w64)) (Syntax.tyRef (Syntax.named 2) Syntax.mut (Syntax.tyInt Syntax.w64)) 2) (T10 .locals))))))))) (Row.set 16 (16, Rows'.sc-here (Row.sInt Syntax.w64)) pairs (Row.setRow 15 (15, Rows'.sc-here (Row.sInt Syntax.w64)) (Row.setRow 14 (14, Rows'.sc-here (Row.sInt Syntax.w64)) (Row.setRow 13 (13, Rows'.whole (Declared.row Where.the-type)) (Row.setRow 11 (11, Mut.mslice ExpectationElem.R (Syntax.tyRef (Syntax.named 5) Syntax.mut ExpectationElem.behind) 5) (Row.setRow 9 (9, Mut.mslice (DArray.Array (TReferent.rtF (TReferent.fInt Syntax.w64)) 2) (Syntax.tyRef (Syntax.named 4) Syntax.mut (Syntax.tyArray (Syntax.tyInt Syntax.w64) 2)) 4) (Row.setRow 7 (7, Mut.mslice (TReferent.rtF (TReferent.fInt Syntax.w64)) (Syntax.tyRef (Syntax.named 3) Syntax.mut (Syntax.tyInt Syntax.w64)) 3) (Row.setRow 6 (6, Mut.mslice (TReferent.rtF (TReferent.fInt Syntax.w64)) (Syntax.tyRef (Syntax.named 2) Syntax.mut (Syntax.tyInt Syntax.w64)) 2) (T10 .locals)))))))) (Row.set 15 (15, Rows'.sc-here (Row.sInt Syntax.w64)) number (Row.setRow 14 (14, Rows'.sc-here (Row.sInt Syntax.w64)) (Row.setRow 13 (13, Rows'.whole (Declared.row Where.the-type)) (Row.setRow 11 (11, Mut.mslice ExpectationElem.R (Syntax.tyRef (Syntax.named 5) Syntax.mut ExpectationElem.behind) 5) (Row.setRow 9 (9, Mut.mslice (DArray.Array (TReferent.rtF (TReferent.fInt Syntax.w64)) 2) (Syntax.tyRef (Syntax.named 4) Syntax.mut (Syntax.tyArray (Syntax.tyInt Syntax.w64) 2)) 4) (Row.setRow 7 (7, Mut.mslice (TReferent.rtF (TReferent.fInt Syntax.w64)) (Syntax.tyRef (Syntax.named 3) Syntax.mut (Syntax.tyInt Syntax.w64)) 3) (Row.setRow 6 (6, Mut.mslice (TReferent.rtF (TReferent.fInt Syntax.w64)) (Syntax.tyRef (Syntax.named 2) Syntax.mut (Syntax.tyInt Syntax.w64)) 2) (T10 .locals))))))) (Row.set 14 (14, Rows'.sc-here (Row.sInt Syntax.w64)) at (Row.setRow 13 (13, Rows'.whole (Declared.row Where.the-type)) (Row.setRow 11 (11, Mut.mslice ExpectationElem.R (Syntax.tyRef (Syntax.named 5) Syntax.mut ExpectationElem.behind) 5) (Row.setRow 9 (9, Mut.mslice (DArray.Array (TReferent.rtF (TReferent.fInt Syntax.w64)) 2) (Syntax.tyRef (Syntax.named 4) Syntax.mut (Syntax.tyArray (Syntax.tyInt Syntax.w64) 2)) 4) (Row.setRow 7 (7, Mut.mslice (TReferent.rtF (TReferent.fInt Syntax.w64)) (Syntax.tyRef (Syntax.named 3) Syntax.mut (Syntax.tyInt Syntax.w64)) 3) (Row.setRow 6 (6, Mut.mslice (TReferent.rtF (TReferent.fInt Syntax.w64)) (Syntax.tyRef (Syntax.named 2) Syntax.mut (Syntax.tyInt Syntax.w64)) 2) (T10 .locals)))))) (Row.set 13 (13, Rows'.whole (Declared.row Where.the-type)) w (Row.setRow 11 (11, Mut.mslice ExpectationElem.R (Syntax.tyRef (Syntax.named 5) Syntax.mut ExpectationElem.behind) 5) (Row.setRow 9 (9, Mut.mslice (DArray.Array (TReferent.rtF (TReferent.fInt Syntax.w64)) 2) (Syntax.tyRef (Syntax.named 4) Syntax.mut (Syntax.tyArray (Syntax.tyInt Syntax.w64) 2)) 4) (Row.setRow 7 (7, Mut.mslice (TReferent.rtF (TReferent.fInt Syntax.w64)) (Syntax.tyRef (Syntax.named 3) Syntax.mut (Syntax.tyInt Syntax.w64)) 3) (Row.setRow 6 (6, Mut.mslice (TReferent.rtF (TReferent.fInt Syntax.w64)) (Syntax.tyRef (Syntax.named 2) Syntax.mut (Syntax.tyInt Syntax.w64)) 2) (T10 .locals))))) (Row.set 11 (11, Mut.mslice ExpectationElem.R (Syntax.tyRef (Syntax.named 5) Syntax.mut ExpectationElem.behind) 5) record { ptr = Row.get 11 (T10 .locals) (m9 (before .before) (before .slice-known2 .given)) .ptr; name = Row.get 11 (T10 .locals) (m9 (before .before) (before .slice-known2 .given)) .name; now = expectations } (Row.setRow 9 (9, Mut.mslice (DArray.Array (TReferent.rtF (TReferent.fInt Syntax.w64)) 2) (Syntax.tyRef (Syntax.named 4) Syntax.mut (Syntax.tyArray (Syntax.tyInt Syntax.w64) 2)) 4) (Row.setRow 7 (7, Mut.mslice (TReferent.rtF (TReferent.fInt Syntax.w64)) (Syntax.tyRef (Syntax.named 3) Syntax.mut (Syntax.tyInt Syntax.w64)) 3) (Row.setRow 6 (6, Mut.mslice (TReferent.rtF (TReferent.fInt Syntax.w64)) (Syntax.tyRef (Syntax.named 2) Syntax.mut (Syntax.tyInt Syntax.w64)) 2) (T10 .locals)))) (Row.set 9 (9, Mut.mslice (DArray.Array (TReferent.rtF (TReferent.fInt Syntax.w64)) 2) (Syntax.tyRef (Syntax.named 4) Syntax.mut (Syntax.tyArray (Syntax.tyInt Syntax.w64) 2)) 4) record { ptr = Row.get 9 (T10 .locals) (m9 (before .before) (before .slice-known2 .given)) .ptr; name = Row.get 9 (T10 .locals) (m9 (before .before) (before .slice-known2 .given)) .name; now = items } (Row.setRow 7 (7, Mut.mslice (TReferent.rtF (TReferent.fInt Syntax.w64)) (Syntax.tyRef (Syntax.named 3) Syntax.mut (Syntax.tyInt Syntax.w64)) 3) (Row.setRow 6 (6, Mut.mslice (TReferent.rtF (TReferent.fInt Syntax.w64)) (Syntax.tyRef (Syntax.named 2) Syntax.mut (Syntax.tyInt Syntax.w64)) 2) (T10 .locals))) (Row.set 7 (7, Mut.mslice (TReferent.rtF (TReferent.fInt Syntax.w64)) (Syntax.tyRef (Syntax.named 3) Syntax.mut (Syntax.tyInt Syntax.w64)) 3) record { ptr = Row.get 7 (T10 .locals) (m9 (before .before) (before .slice-known2 .given)) .ptr; name = Row.get 7 (T10 .locals) (m9 (before .before) (before .slice-known2 .given)) .name; now = ends } (Row.setRow 6 (6, Mut.mslice (TReferent.rtF (TReferent.fInt Syntax.w64)) (Syntax.tyRef (Syntax.named 2) Syntax.mut (Syntax.tyInt Syntax.w64)) 2) (T10 .locals)) (Row.set 6 (6, Mut.mslice (TReferent.rtF (TReferent.fInt Syntax.w64)) (Syntax.tyRef (Syntax.named 2) Syntax.mut (Syntax.tyInt Syntax.w64)) 2) record { ptr = Row.get 6 (T10 .locals) (m9 (before .before) (before .slice-known2 .given)) .ptr; name = Row.get 6 (T10 .locals) (m9 (before .before) (before .slice-known2 .given)) .name; now = starts } (T10 .locals) (m9 (before .before) (before .slice-known2 .given))))))))))
 
       abbrev W3 : (before : After-slice-known2) → (starts : List.List (TReferent.rtF (TReferent.fInt Syntax.w64) .Denot)) → (ends : List.List (TReferent.rtF (TReferent.fInt Syntax.w64) .Denot)) → (items : List.List (DArray.Array (TReferent.rtF (TReferent.fInt Syntax.w64)) 2 .Denot)) → (expectations : List.List (ExpectationElem.R .Denot)) → (w : Rows'.whole (Declared.row Where.the-type) .Mod) → (at : Rows'.sc-here (Row.sInt Syntax.w64) .Mod) → (number : Rows'.sc-here (Row.sInt Syntax.w64) .Mod) → (pairs : Rows'.sc-here (Row.sInt Syntax.w64) .Mod) → (expects : Rows'.sc-here (Row.sInt Syntax.w64) .Mod) → Typed.Want O3
       W3 = λ before starts ends items expectations w at number pairs expects. Typed.inLoop T10 O2 (Typed.Round T10 O2 put0 (λ u vs. Inv·0 (Row.get 1 (T10 .locals) u .now) (Row.get 2 (T10 .locals) u .now) (Row.get 3 (T10 .locals) u) (Row.get 4 (T10 .locals) u) (Row.get 6 (T10 .locals) u .now) (Row.get 7 (T10 .locals) u .now) (Row.get 8 (T10 .locals) u) (Row.get 9 (T10 .locals) u .now) (Row.get 10 (T10 .locals) u) (Row.get 11 (T10 .locals) u .now) (Row.get 12 (T10 .locals) u) (Row.get 13 (T10 .locals) u) (Row.get 14 (T10 .locals) u) (Row.get 15 (T10 .locals) u) (Row.get 16 (T10 .locals) u) (Row.get 17 (T10 .locals) u) (vs .0) (vs .1) (vs .2) (vs .3) (vs .4) (vs .5) (vs .6) (vs .7) (vs .8)) (λ u vs. μ·0 (Row.get 1 (T10 .locals) u .now) (Row.get 2 (T10 .locals) u .now) (Row.get 3 (T10 .locals) u) (Row.get 4 (T10 .locals) u) (Row.get 6 (T10 .locals) u .now) (Row.get 7 (T10 .locals) u .now) (Row.get 8 (T10 .locals) u) (Row.get 9 (T10 .locals) u .now) (Row.get 10 (T10 .locals) u) (Row.get 11 (T10 .locals) u .now) (Row.get 12 (T10 .locals) u) (Row.get 13 (T10 .locals) u) (Row.get 14 (T10 .locals) u) (Row.get 15 (T10 .locals) u) (Row.get 16 (T10 .locals) u) (Row.get 17 (T10 .locals) u) (vs .0) (vs .1) (vs .2) (vs .3) (vs .4) (vs .5) (vs .6) (vs .7) (vs .8)) (at97 (before .before .before .before .blocks)) (m9 (before .before) (before .slice-known2 .given)) (starts, ends, items, expectations, w, at, number, pairs, expects)) (W2 (before .before) (before .slice-known2 .given))
@@ -2590,14 +2590,14 @@ module _ (claims· : Claims) where
 
       module _ (before· : In-loop) where
         abbrev pub After-look·own : Type 0
-        After-look·own = Called.Called ps·0 r·0 (claims· .1) T14 (record { pos = 1; ty = Syntax.tyRef (Syntax.named 0) Syntax.imm (Syntax.tyInt Syntax.w8); ref = λ x. x; }, (record { pos = 2; ty = Syntax.tyRef (Syntax.named 1) Syntax.imm KeptElem.behind; ref = λ x. x; }, (record { pos = 13; st = List.[]; d = 0; at = λ x. x }, (Num.vAt 14 λ x. x, (Num.vAt 15 λ x. x, tt))))) (m14 (before· .before))
+        After-look·own = Called.Called ps·0 r·0 (claims· .1) T14 (record { pos = 1; ty = Syntax.tyRef (Syntax.named 0) Syntax.imm (Syntax.tyInt Syntax.w8); ref = λ x. x }, (record { pos = 2; ty = Syntax.tyRef (Syntax.named 1) Syntax.imm KeptElem.behind; ref = λ x. x }, (record { pos = 13; st = List.[]; d = 0; at = λ x. x }, (Num.vAt 14 λ x. x, (Num.vAt 15 λ x. x, tt))))) (m14 (before· .before))
 
       pub record After-look : Type 0 where
         pub before : In-loop
         pub look : After-look·own before
 
       abbrev pub After-look·gave : (c : After-look) → s15 (c .before .before .before .before .before .before .blocks) .gives (m14 (c .before .before))
-      After-look·gave = λ c. Called.given ps·0 r·0 (claims· .1) T14 (record { pos = 1; ty = Syntax.tyRef (Syntax.named 0) Syntax.imm (Syntax.tyInt Syntax.w8); ref = λ x. x; }, (record { pos = 2; ty = Syntax.tyRef (Syntax.named 1) Syntax.imm KeptElem.behind; ref = λ x. x; }, (record { pos = 13; st = List.[]; d = 0; at = λ x. x }, (Num.vAt 14 λ x. x, (Num.vAt 15 λ x. x, tt))))) (m14 (c .before .before)) (c .look)
+      After-look·gave = λ c. Called.given ps·0 r·0 (claims· .1) T14 (record { pos = 1; ty = Syntax.tyRef (Syntax.named 0) Syntax.imm (Syntax.tyInt Syntax.w8); ref = λ x. x }, (record { pos = 2; ty = Syntax.tyRef (Syntax.named 1) Syntax.imm KeptElem.behind; ref = λ x. x }, (record { pos = 13; st = List.[]; d = 0; at = λ x. x }, (Num.vAt 14 λ x. x, (Num.vAt 15 λ x. x, tt))))) (m14 (c .before .before)) (c .look)
 
       abbrev pub m18 : (before : In-loop) → (given : s15 (before .before .before .before .before .before .blocks) .gives (m14 (before .before))) → Typed.Mo T20
       m18 = λ before given. s16 (before .before .before .before .before .before .blocks) (m17 before given)
@@ -2751,14 +2751,14 @@ module _ (claims· : Claims) where
 
       module _ (before· : After-say-arg3) where
         abbrev pub After-say·own : Type 0
-        After-say·own = Called.Called ps·1 r·1 (claims· .3) T43 (record { pos = 22; st = List.[]; d = 0; at = λ x. x }, (record { pos = 30; ty = Syntax.tyRef Syntax.erased Syntax.mut (Syntax.tyInt Syntax.w64); ref = λ x. x; }, (record { pos = 32; ty = Syntax.tyRef Syntax.erased Syntax.mut (Syntax.tyInt Syntax.w64); ref = λ x. x; }, (Bool.bAt 8 λ x. x, (record { pos = 34; ty = Syntax.tyRef Syntax.erased Syntax.mut (Syntax.tyArray (Syntax.tyInt Syntax.w64) 2); ref = λ x. x; }, (Num.vAt 35 λ x. x, tt)))))) (m37 (before· .before) (before· .say-arg3 .given))
+        After-say·own = Called.Called ps·1 r·1 (claims· .3) T43 (record { pos = 22; st = List.[]; d = 0; at = λ x. x }, (record { pos = 30; ty = Syntax.tyRef Syntax.erased Syntax.mut (Syntax.tyInt Syntax.w64); ref = λ x. x }, (record { pos = 32; ty = Syntax.tyRef Syntax.erased Syntax.mut (Syntax.tyInt Syntax.w64); ref = λ x. x }, (Bool.bAt 8 λ x. x, (record { pos = 34; ty = Syntax.tyRef Syntax.erased Syntax.mut (Syntax.tyArray (Syntax.tyInt Syntax.w64) 2); ref = λ x. x }, (Num.vAt 35 λ x. x, tt)))))) (m37 (before· .before) (before· .say-arg3 .given))
 
       pub record After-say : Type 0 where
         pub before : After-say-arg3
         pub say : After-say·own before
 
       abbrev pub After-say·gave : (c : After-say) → s39 (c .before .before .before .before .before .before .before .before .before .before .before .before .before .before .blocks) .gives (m37 (c .before .before) (c .before .say-arg3 .given))
-      After-say·gave = λ c. Called.given ps·1 r·1 (claims· .3) T43 (record { pos = 22; st = List.[]; d = 0; at = λ x. x }, (record { pos = 30; ty = Syntax.tyRef Syntax.erased Syntax.mut (Syntax.tyInt Syntax.w64); ref = λ x. x; }, (record { pos = 32; ty = Syntax.tyRef Syntax.erased Syntax.mut (Syntax.tyInt Syntax.w64); ref = λ x. x; }, (Bool.bAt 8 λ x. x, (record { pos = 34; ty = Syntax.tyRef Syntax.erased Syntax.mut (Syntax.tyArray (Syntax.tyInt Syntax.w64) 2); ref = λ x. x; }, (Num.vAt 35 λ x. x, tt)))))) (m37 (c .before .before) (c .before .say-arg3 .given)) (c .say)
+      After-say·gave = λ c. Called.given ps·1 r·1 (claims· .3) T43 (record { pos = 22; st = List.[]; d = 0; at = λ x. x }, (record { pos = 30; ty = Syntax.tyRef Syntax.erased Syntax.mut (Syntax.tyInt Syntax.w64); ref = λ x. x }, (record { pos = 32; ty = Syntax.tyRef Syntax.erased Syntax.mut (Syntax.tyInt Syntax.w64); ref = λ x. x }, (Bool.bAt 8 λ x. x, (record { pos = 34; ty = Syntax.tyRef Syntax.erased Syntax.mut (Syntax.tyArray (Syntax.tyInt Syntax.w64) 2); ref = λ x. x }, (Num.vAt 35 λ x. x, tt)))))) (m37 (c .before .before) (c .before .say-arg3 .given)) (c .say)
 
       abbrev pub m39 : (before : After-say-arg3) → (given : s39 (before .before .before .before .before .before .before .before .before .before .before .before .before .before .blocks) .gives (m37 (before .before) (before .say-arg3 .given))) → Typed.Mo T45
       m39 = λ before given. s40 (before .before .before .before .before .before .before .before .before .before .before .before .before .before .blocks) (m38 before given)
@@ -2920,14 +2920,14 @@ module _ (claims· : Claims) where
 
       module _ (before· : After-put-expectation-arg) where
         abbrev pub After-put-expectation·own : Type 0
-        After-put-expectation·own = Called.Called ps·3 r·3 (claims· .7) T70 (record { pos = 38; ty = Syntax.tyRef Syntax.erased Syntax.mut ExpectationElem.behind; ref = λ x. x; }, (Num.vAt 39 λ x. x, (record { pos = 24; st = List.[]; d = 0; at = λ x. x }, tt))) (m57 (before· .before) (before· .put-expectation-arg .given))
+        After-put-expectation·own = Called.Called ps·3 r·3 (claims· .7) T70 (record { pos = 38; ty = Syntax.tyRef Syntax.erased Syntax.mut ExpectationElem.behind; ref = λ x. x }, (Num.vAt 39 λ x. x, (record { pos = 24; st = List.[]; d = 0; at = λ x. x }, tt))) (m57 (before· .before) (before· .put-expectation-arg .given))
 
       pub record After-put-expectation : Type 0 where
         pub before : After-put-expectation-arg
         pub put-expectation : After-put-expectation·own before
 
       abbrev pub After-put-expectation·gave : (c : After-put-expectation) → s66 (c .before .before .before .before .before .before .before .before .before .before .before .before .before .blocks) .gives (m57 (c .before .before) (c .before .put-expectation-arg .given))
-      After-put-expectation·gave = λ c. Called.given ps·3 r·3 (claims· .7) T70 (record { pos = 38; ty = Syntax.tyRef Syntax.erased Syntax.mut ExpectationElem.behind; ref = λ x. x; }, (Num.vAt 39 λ x. x, (record { pos = 24; st = List.[]; d = 0; at = λ x. x }, tt))) (m57 (c .before .before) (c .before .put-expectation-arg .given)) (c .put-expectation)
+      After-put-expectation·gave = λ c. Called.given ps·3 r·3 (claims· .7) T70 (record { pos = 38; ty = Syntax.tyRef Syntax.erased Syntax.mut ExpectationElem.behind; ref = λ x. x }, (Num.vAt 39 λ x. x, (record { pos = 24; st = List.[]; d = 0; at = λ x. x }, tt))) (m57 (c .before .before) (c .before .put-expectation-arg .given)) (c .put-expectation)
 
       abbrev pub m59 : (before : After-put-expectation-arg) → (given : s66 (before .before .before .before .before .before .before .before .before .before .before .before .before .blocks) .gives (m57 (before .before) (before .put-expectation-arg .given))) → Typed.Mo T72
       m59 = λ before given. s67 (before .before .before .before .before .before .before .before .before .before .before .before .before .blocks) (m58 before given)
@@ -3091,7 +3091,7 @@ module _ (claims· : Claims) where
         pub enum-told2 : After-enum-told2·own before
 
       abbrev pub m84 : (before : After-step) → (starts : List.List (TReferent.rtF (TReferent.fInt Syntax.w64) .Denot)) → (ends : List.List (TReferent.rtF (TReferent.fInt Syntax.w64) .Denot)) → (items : List.List (DArray.Array (TReferent.rtF (TReferent.fInt Syntax.w64)) 2 .Denot)) → (expectations : List.List (ExpectationElem.R .Denot)) → (pairs : Rows'.sc-here (Row.sInt Syntax.w64) .Mod) → (expects : Rows'.sc-here (Row.sInt Syntax.w64) .Mod) → Typed.Mo T24
-      m84 = λ before starts ends items expectations pairs expects. Row.set 39 (39, Rows'.any-gone (Syntax.tyInt Syntax.w64)) tt (Row.setRow 38 (38, Rows'.any-gone (Syntax.tyStruct (List._∷_ 38 (List._∷_ 91 (List._∷_ 93 List.[]))) (Syntax.tcons (Syntax.tyRef Syntax.erased Syntax.mut ExpectationElem.behind) (Syntax.tcons (Syntax.tyInt Syntax.w64) Syntax.tnil)))) (Row.setRow 37 (37, Rows'.any-gone (Syntax.tyRef Syntax.erased Syntax.mut ExpectationElem.behind)) (Row.setRow 36 (36, Rows'.any-gone Syntax.tyUnit) (Row.setRow 35 (35, Rows'.any-gone (Syntax.tyInt Syntax.w64)) (Row.setRow 34 (34, Rows'.any-gone τ8) (Row.setRow 33 (33, Rows'.any-gone (Syntax.tyRef Syntax.erased Syntax.mut (Syntax.tyArray (Syntax.tyInt Syntax.w64) 2))) (Row.setRow 32 (32, Rows'.any-gone τ7) (Row.setRow 31 (31, Rows'.any-gone (Syntax.tyRef Syntax.erased Syntax.mut (Syntax.tyInt Syntax.w64))) (Row.setRow 30 (30, Rows'.any-gone τ7) (Row.setRow 29 (29, Rows'.any-gone (Syntax.tyRef Syntax.erased Syntax.mut (Syntax.tyInt Syntax.w64))) (Row.setRow 28 (28, Rows'.any-gone (Syntax.tyInt Syntax.w64)) (Row.setRow 24 (24, Rows'.any-gone ExpectationElem.ty) (Row.setRow 23 (23, Rows'.any-gone τ5) (Row.setRow 22 (22, Rows'.any-gone τ4) (Row.setRow 20 (20, Rows'.any-gone τ3) (Row.setRow 17 (17, Rows'.sc-here (Row.sInt Syntax.w64)) (Row.setRow 16 (16, Rows'.sc-here (Row.sInt Syntax.w64)) (Row.setRow 14 (14, Rows'.any-gone (Syntax.tyInt Syntax.w64)) (Row.setRow 11 (11, Mut.mslice ExpectationElem.R (Syntax.tyRef (Syntax.named 5) Syntax.mut ExpectationElem.behind) 5) (Row.setRow 9 (9, Mut.mslice (DArray.Array (TReferent.rtF (TReferent.fInt Syntax.w64)) 2) (Syntax.tyRef (Syntax.named 4) Syntax.mut (Syntax.tyArray (Syntax.tyInt Syntax.w64) 2)) 4) (Row.setRow 7 (7, Mut.mslice (TReferent.rtF (TReferent.fInt Syntax.w64)) (Syntax.tyRef (Syntax.named 3) Syntax.mut (Syntax.tyInt Syntax.w64)) 3) (Row.setRow 6 (6, Mut.mslice (TReferent.rtF (TReferent.fInt Syntax.w64)) (Syntax.tyRef (Syntax.named 2) Syntax.mut (Syntax.tyInt Syntax.w64)) 2) (T25 .locals))))))))))))))))))))))) (Row.set 38 (38, Rows'.any-gone (Syntax.tyStruct (List._∷_ 38 (List._∷_ 91 (List._∷_ 93 List.[]))) (Syntax.tcons (Syntax.tyRef Syntax.erased Syntax.mut ExpectationElem.behind) (Syntax.tcons (Syntax.tyInt Syntax.w64) Syntax.tnil)))) tt (Row.setRow 37 (37, Rows'.any-gone (Syntax.tyRef Syntax.erased Syntax.mut ExpectationElem.behind)) (Row.setRow 36 (36, Rows'.any-gone Syntax.tyUnit) (Row.setRow 35 (35, Rows'.any-gone (Syntax.tyInt Syntax.w64)) (Row.setRow 34 (34, Rows'.any-gone τ8) (Row.setRow 33 (33, Rows'.any-gone (Syntax.tyRef Syntax.erased Syntax.mut (Syntax.tyArray (Syntax.tyInt Syntax.w64) 2))) (Row.setRow 32 (32, Rows'.any-gone τ7) (Row.setRow 31 (31, Rows'.any-gone (Syntax.tyRef Syntax.erased Syntax.mut (Syntax.tyInt Syntax.w64))) (Row.setRow 30 (30, Rows'.any-gone τ7) (Row.setRow 29 (29, Rows'.any-gone (Syntax.tyRef Syntax.erased Syntax.mut (Syntax.tyInt Syntax.w64))) (Row.setRow 28 (28, Rows'.any-gone (Syntax.tyInt Syntax.w64)) (Row.setRow 24 (24, Rows'.any-gone ExpectationElem.ty) (Row.setRow 23 (23, Rows'.any-gone τ5) (Row.setRow 22 (22, Rows'.any-gone τ4) (Row.setRow 20 (20, Rows'.any-gone τ3) (Row.setRow 17 (17, Rows'.sc-here (Row.sInt Syntax.w64)) (Row.setRow 16 (16, Rows'.sc-here (Row.sInt Syntax.w64)) (Row.setRow 14 (14, Rows'.any-gone (Syntax.tyInt Syntax.w64)) (Row.setRow 11 (11, Mut.mslice ExpectationElem.R (Syntax.tyRef (Syntax.named 5) Syntax.mut ExpectationElem.behind) 5) (Row.setRow 9 (9, Mut.mslice (DArray.Array (TReferent.rtF (TReferent.fInt Syntax.w64)) 2) (Syntax.tyRef (Syntax.named 4) Syntax.mut (Syntax.tyArray (Syntax.tyInt Syntax.w64) 2)) 4) (Row.setRow 7 (7, Mut.mslice (TReferent.rtF (TReferent.fInt Syntax.w64)) (Syntax.tyRef (Syntax.named 3) Syntax.mut (Syntax.tyInt Syntax.w64)) 3) (Row.setRow 6 (6, Mut.mslice (TReferent.rtF (TReferent.fInt Syntax.w64)) (Syntax.tyRef (Syntax.named 2) Syntax.mut (Syntax.tyInt Syntax.w64)) 2) (T25 .locals)))))))))))))))))))))) (Row.set 37 (37, Rows'.any-gone (Syntax.tyRef Syntax.erased Syntax.mut ExpectationElem.behind)) tt (Row.setRow 36 (36, Rows'.any-gone Syntax.tyUnit) (Row.setRow 35 (35, Rows'.any-gone (Syntax.tyInt Syntax.w64)) (Row.setRow 34 (34, Rows'.any-gone τ8) (Row.setRow 33 (33, Rows'.any-gone (Syntax.tyRef Syntax.erased Syntax.mut (Syntax.tyArray (Syntax.tyInt Syntax.w64) 2))) (Row.setRow 32 (32, Rows'.any-gone τ7) (Row.setRow 31 (31, Rows'.any-gone (Syntax.tyRef Syntax.erased Syntax.mut (Syntax.tyInt Syntax.w64))) (Row.setRow 30 (30, Rows'.any-gone τ7) (Row.setRow 29 (29, Rows'.any-gone (Syntax.tyRef Syntax.erased Syntax.mut (Syntax.tyInt Syntax.w64))) (Row.setRow 28 (28, Rows'.any-gone (Syntax.tyInt Syntax.w64)) (Row.setRow 24 (24, Rows'.any-gone ExpectationElem.ty) (Row.setRow 23 (23, Rows'.any-gone τ5) (Row.setRow 22 (22, Rows'.any-gone τ4) (Row.setRow 20 (20, Rows'.any-gone τ3) (Row.setRow 17 (17, Rows'.sc-here (Row.sInt Syntax.w64)) (Row.setRow 16 (16, Rows'.sc-here (Row.sInt Syntax.w64)) (Row.setRow 14 (14, Rows'.any-gone (Syntax.tyInt Syntax.w64)) (Row.setRow 11 (11, Mut.mslice ExpectationElem.R (Syntax.tyRef (Syntax.named 5) Syntax.mut ExpectationElem.behind) 5) (Row.setRow 9 (9, Mut.mslice (DArray.Array (TReferent.rtF (TReferent.fInt Syntax.w64)) 2) (Syntax.tyRef (Syntax.named 4) Syntax.mut (Syntax.tyArray (Syntax.tyInt Syntax.w64) 2)) 4) (Row.setRow 7 (7, Mut.mslice (TReferent.rtF (TReferent.fInt Syntax.w64)) (Syntax.tyRef (Syntax.named 3) Syntax.mut (Syntax.tyInt Syntax.w64)) 3) (Row.setRow 6 (6, Mut.mslice (TReferent.rtF (TReferent.fInt Syntax.w64)) (Syntax.tyRef (Syntax.named 2) Syntax.mut (Syntax.tyInt Syntax.w64)) 2) (T25 .locals))))))))))))))))))))) (Row.set 36 (36, Rows'.any-gone Syntax.tyUnit) tt (Row.setRow 35 (35, Rows'.any-gone (Syntax.tyInt Syntax.w64)) (Row.setRow 34 (34, Rows'.any-gone τ8) (Row.setRow 33 (33, Rows'.any-gone (Syntax.tyRef Syntax.erased Syntax.mut (Syntax.tyArray (Syntax.tyInt Syntax.w64) 2))) (Row.setRow 32 (32, Rows'.any-gone τ7) (Row.setRow 31 (31, Rows'.any-gone (Syntax.tyRef Syntax.erased Syntax.mut (Syntax.tyInt Syntax.w64))) (Row.setRow 30 (30, Rows'.any-gone τ7) (Row.setRow 29 (29, Rows'.any-gone (Syntax.tyRef Syntax.erased Syntax.mut (Syntax.tyInt Syntax.w64))) (Row.setRow 28 (28, Rows'.any-gone (Syntax.tyInt Syntax.w64)) (Row.setRow 24 (24, Rows'.any-gone ExpectationElem.ty) (Row.setRow 23 (23, Rows'.any-gone τ5) (Row.setRow 22 (22, Rows'.any-gone τ4) (Row.setRow 20 (20, Rows'.any-gone τ3) (Row.setRow 17 (17, Rows'.sc-here (Row.sInt Syntax.w64)) (Row.setRow 16 (16, Rows'.sc-here (Row.sInt Syntax.w64)) (Row.setRow 14 (14, Rows'.any-gone (Syntax.tyInt Syntax.w64)) (Row.setRow 11 (11, Mut.mslice ExpectationElem.R (Syntax.tyRef (Syntax.named 5) Syntax.mut ExpectationElem.behind) 5) (Row.setRow 9 (9, Mut.mslice (DArray.Array (TReferent.rtF (TReferent.fInt Syntax.w64)) 2) (Syntax.tyRef (Syntax.named 4) Syntax.mut (Syntax.tyArray (Syntax.tyInt Syntax.w64) 2)) 4) (Row.setRow 7 (7, Mut.mslice (TReferent.rtF (TReferent.fInt Syntax.w64)) (Syntax.tyRef (Syntax.named 3) Syntax.mut (Syntax.tyInt Syntax.w64)) 3) (Row.setRow 6 (6, Mut.mslice (TReferent.rtF (TReferent.fInt Syntax.w64)) (Syntax.tyRef (Syntax.named 2) Syntax.mut (Syntax.tyInt Syntax.w64)) 2) (T25 .locals)))))))))))))))))))) (Row.set 35 (35, Rows'.any-gone (Syntax.tyInt Syntax.w64)) tt (Row.setRow 34 (34, Rows'.any-gone τ8) (Row.setRow 33 (33, Rows'.any-gone (Syntax.tyRef Syntax.erased Syntax.mut (Syntax.tyArray (Syntax.tyInt Syntax.w64) 2))) (Row.setRow 32 (32, Rows'.any-gone τ7) (Row.setRow 31 (31, Rows'.any-gone (Syntax.tyRef Syntax.erased Syntax.mut (Syntax.tyInt Syntax.w64))) (Row.setRow 30 (30, Rows'.any-gone τ7) (Row.setRow 29 (29, Rows'.any-gone (Syntax.tyRef Syntax.erased Syntax.mut (Syntax.tyInt Syntax.w64))) (Row.setRow 28 (28, Rows'.any-gone (Syntax.tyInt Syntax.w64)) (Row.setRow 24 (24, Rows'.any-gone ExpectationElem.ty) (Row.setRow 23 (23, Rows'.any-gone τ5) (Row.setRow 22 (22, Rows'.any-gone τ4) (Row.setRow 20 (20, Rows'.any-gone τ3) (Row.setRow 17 (17, Rows'.sc-here (Row.sInt Syntax.w64)) (Row.setRow 16 (16, Rows'.sc-here (Row.sInt Syntax.w64)) (Row.setRow 14 (14, Rows'.any-gone (Syntax.tyInt Syntax.w64)) (Row.setRow 11 (11, Mut.mslice ExpectationElem.R (Syntax.tyRef (Syntax.named 5) Syntax.mut ExpectationElem.behind) 5) (Row.setRow 9 (9, Mut.mslice (DArray.Array (TReferent.rtF (TReferent.fInt Syntax.w64)) 2) (Syntax.tyRef (Syntax.named 4) Syntax.mut (Syntax.tyArray (Syntax.tyInt Syntax.w64) 2)) 4) (Row.setRow 7 (7, Mut.mslice (TReferent.rtF (TReferent.fInt Syntax.w64)) (Syntax.tyRef (Syntax.named 3) Syntax.mut (Syntax.tyInt Syntax.w64)) 3) (Row.setRow 6 (6, Mut.mslice (TReferent.rtF (TReferent.fInt Syntax.w64)) (Syntax.tyRef (Syntax.named 2) Syntax.mut (Syntax.tyInt Syntax.w64)) 2) (T25 .locals))))))))))))))))))) (Row.set 34 (34, Rows'.any-gone τ8) tt (Row.setRow 33 (33, Rows'.any-gone (Syntax.tyRef Syntax.erased Syntax.mut (Syntax.tyArray (Syntax.tyInt Syntax.w64) 2))) (Row.setRow 32 (32, Rows'.any-gone τ7) (Row.setRow 31 (31, Rows'.any-gone (Syntax.tyRef Syntax.erased Syntax.mut (Syntax.tyInt Syntax.w64))) (Row.setRow 30 (30, Rows'.any-gone τ7) (Row.setRow 29 (29, Rows'.any-gone (Syntax.tyRef Syntax.erased Syntax.mut (Syntax.tyInt Syntax.w64))) (Row.setRow 28 (28, Rows'.any-gone (Syntax.tyInt Syntax.w64)) (Row.setRow 24 (24, Rows'.any-gone ExpectationElem.ty) (Row.setRow 23 (23, Rows'.any-gone τ5) (Row.setRow 22 (22, Rows'.any-gone τ4) (Row.setRow 20 (20, Rows'.any-gone τ3) (Row.setRow 17 (17, Rows'.sc-here (Row.sInt Syntax.w64)) (Row.setRow 16 (16, Rows'.sc-here (Row.sInt Syntax.w64)) (Row.setRow 14 (14, Rows'.any-gone (Syntax.tyInt Syntax.w64)) (Row.setRow 11 (11, Mut.mslice ExpectationElem.R (Syntax.tyRef (Syntax.named 5) Syntax.mut ExpectationElem.behind) 5) (Row.setRow 9 (9, Mut.mslice (DArray.Array (TReferent.rtF (TReferent.fInt Syntax.w64)) 2) (Syntax.tyRef (Syntax.named 4) Syntax.mut (Syntax.tyArray (Syntax.tyInt Syntax.w64) 2)) 4) (Row.setRow 7 (7, Mut.mslice (TReferent.rtF (TReferent.fInt Syntax.w64)) (Syntax.tyRef (Syntax.named 3) Syntax.mut (Syntax.tyInt Syntax.w64)) 3) (Row.setRow 6 (6, Mut.mslice (TReferent.rtF (TReferent.fInt Syntax.w64)) (Syntax.tyRef (Syntax.named 2) Syntax.mut (Syntax.tyInt Syntax.w64)) 2) (T25 .locals)))))))))))))))))) (Row.set 33 (33, Rows'.any-gone (Syntax.tyRef Syntax.erased Syntax.mut (Syntax.tyArray (Syntax.tyInt Syntax.w64) 2))) tt (Row.setRow 32 (32, Rows'.any-gone τ7) (Row.setRow 31 (31, Rows'.any-gone (Syntax.tyRef Syntax.erased Syntax.mut (Syntax.tyInt Syntax.w64))) (Row.setRow 30 (30, Rows'.any-gone τ7) (Row.setRow 29 (29, Rows'.any-gone (Syntax.tyRef Syntax.erased Syntax.mut (Syntax.tyInt Syntax.w64))) (Row.setRow 28 (28, Rows'.any-gone (Syntax.tyInt Syntax.w64)) (Row.setRow 24 (24, Rows'.any-gone ExpectationElem.ty) (Row.setRow 23 (23, Rows'.any-gone τ5) (Row.setRow 22 (22, Rows'.any-gone τ4) (Row.setRow 20 (20, Rows'.any-gone τ3) (Row.setRow 17 (17, Rows'.sc-here (Row.sInt Syntax.w64)) (Row.setRow 16 (16, Rows'.sc-here (Row.sInt Syntax.w64)) (Row.setRow 14 (14, Rows'.any-gone (Syntax.tyInt Syntax.w64)) (Row.setRow 11 (11, Mut.mslice ExpectationElem.R (Syntax.tyRef (Syntax.named 5) Syntax.mut ExpectationElem.behind) 5) (Row.setRow 9 (9, Mut.mslice (DArray.Array (TReferent.rtF (TReferent.fInt Syntax.w64)) 2) (Syntax.tyRef (Syntax.named 4) Syntax.mut (Syntax.tyArray (Syntax.tyInt Syntax.w64) 2)) 4) (Row.setRow 7 (7, Mut.mslice (TReferent.rtF (TReferent.fInt Syntax.w64)) (Syntax.tyRef (Syntax.named 3) Syntax.mut (Syntax.tyInt Syntax.w64)) 3) (Row.setRow 6 (6, Mut.mslice (TReferent.rtF (TReferent.fInt Syntax.w64)) (Syntax.tyRef (Syntax.named 2) Syntax.mut (Syntax.tyInt Syntax.w64)) 2) (T25 .locals))))))))))))))))) (Row.set 32 (32, Rows'.any-gone τ7) tt (Row.setRow 31 (31, Rows'.any-gone (Syntax.tyRef Syntax.erased Syntax.mut (Syntax.tyInt Syntax.w64))) (Row.setRow 30 (30, Rows'.any-gone τ7) (Row.setRow 29 (29, Rows'.any-gone (Syntax.tyRef Syntax.erased Syntax.mut (Syntax.tyInt Syntax.w64))) (Row.setRow 28 (28, Rows'.any-gone (Syntax.tyInt Syntax.w64)) (Row.setRow 24 (24, Rows'.any-gone ExpectationElem.ty) (Row.setRow 23 (23, Rows'.any-gone τ5) (Row.setRow 22 (22, Rows'.any-gone τ4) (Row.setRow 20 (20, Rows'.any-gone τ3) (Row.setRow 17 (17, Rows'.sc-here (Row.sInt Syntax.w64)) (Row.setRow 16 (16, Rows'.sc-here (Row.sInt Syntax.w64)) (Row.setRow 14 (14, Rows'.any-gone (Syntax.tyInt Syntax.w64)) (Row.setRow 11 (11, Mut.mslice ExpectationElem.R (Syntax.tyRef (Syntax.named 5) Syntax.mut ExpectationElem.behind) 5) (Row.setRow 9 (9, Mut.mslice (DArray.Array (TReferent.rtF (TReferent.fInt Syntax.w64)) 2) (Syntax.tyRef (Syntax.named 4) Syntax.mut (Syntax.tyArray (Syntax.tyInt Syntax.w64) 2)) 4) (Row.setRow 7 (7, Mut.mslice (TReferent.rtF (TReferent.fInt Syntax.w64)) (Syntax.tyRef (Syntax.named 3) Syntax.mut (Syntax.tyInt Syntax.w64)) 3) (Row.setRow 6 (6, Mut.mslice (TReferent.rtF (TReferent.fInt Syntax.w64)) (Syntax.tyRef (Syntax.named 2) Syntax.mut (Syntax.tyInt Syntax.w64)) 2) (T25 .locals)))))))))))))))) (Row.set 31 (31, Rows'.any-gone (Syntax.tyRef Syntax.erased Syntax.mut (Syntax.tyInt Syntax.w64))) tt (Row.setRow 30 (30, Rows'.any-gone τ7) (Row.setRow 29 (29, Rows'.any-gone (Syntax.tyRef Syntax.erased Syntax.mut (Syntax.tyInt Syntax.w64))) (Row.setRow 28 (28, Rows'.any-gone (Syntax.tyInt Syntax.w64)) (Row.setRow 24 (24, Rows'.any-gone ExpectationElem.ty) (Row.setRow 23 (23, Rows'.any-gone τ5) (Row.setRow 22 (22, Rows'.any-gone τ4) (Row.setRow 20 (20, Rows'.any-gone τ3) (Row.setRow 17 (17, Rows'.sc-here (Row.sInt Syntax.w64)) (Row.setRow 16 (16, Rows'.sc-here (Row.sInt Syntax.w64)) (Row.setRow 14 (14, Rows'.any-gone (Syntax.tyInt Syntax.w64)) (Row.setRow 11 (11, Mut.mslice ExpectationElem.R (Syntax.tyRef (Syntax.named 5) Syntax.mut ExpectationElem.behind) 5) (Row.setRow 9 (9, Mut.mslice (DArray.Array (TReferent.rtF (TReferent.fInt Syntax.w64)) 2) (Syntax.tyRef (Syntax.named 4) Syntax.mut (Syntax.tyArray (Syntax.tyInt Syntax.w64) 2)) 4) (Row.setRow 7 (7, Mut.mslice (TReferent.rtF (TReferent.fInt Syntax.w64)) (Syntax.tyRef (Syntax.named 3) Syntax.mut (Syntax.tyInt Syntax.w64)) 3) (Row.setRow 6 (6, Mut.mslice (TReferent.rtF (TReferent.fInt Syntax.w64)) (Syntax.tyRef (Syntax.named 2) Syntax.mut (Syntax.tyInt Syntax.w64)) 2) (T25 .locals))))))))))))))) (Row.set 30 (30, Rows'.any-gone τ7) tt (Row.setRow 29 (29, Rows'.any-gone (Syntax.tyRef Syntax.erased Syntax.mut (Syntax.tyInt Syntax.w64))) (Row.setRow 28 (28, Rows'.any-gone (Syntax.tyInt Syntax.w64)) (Row.setRow 24 (24, Rows'.any-gone ExpectationElem.ty) (Row.setRow 23 (23, Rows'.any-gone τ5) (Row.setRow 22 (22, Rows'.any-gone τ4) (Row.setRow 20 (20, Rows'.any-gone τ3) (Row.setRow 17 (17, Rows'.sc-here (Row.sInt Syntax.w64)) (Row.setRow 16 (16, Rows'.sc-here (Row.sInt Syntax.w64)) (Row.setRow 14 (14, Rows'.any-gone (Syntax.tyInt Syntax.w64)) (Row.setRow 11 (11, Mut.mslice ExpectationElem.R (Syntax.tyRef (Syntax.named 5) Syntax.mut ExpectationElem.behind) 5) (Row.setRow 9 (9, Mut.mslice (DArray.Array (TReferent.rtF (TReferent.fInt Syntax.w64)) 2) (Syntax.tyRef (Syntax.named 4) Syntax.mut (Syntax.tyArray (Syntax.tyInt Syntax.w64) 2)) 4) (Row.setRow 7 (7, Mut.mslice (TReferent.rtF (TReferent.fInt Syntax.w64)) (Syntax.tyRef (Syntax.named 3) Syntax.mut (Syntax.tyInt Syntax.w64)) 3) (Row.setRow 6 (6, Mut.mslice (TReferent.rtF (TReferent.fInt Syntax.w64)) (Syntax.tyRef (Syntax.named 2) Syntax.mut (Syntax.tyInt Syntax.w64)) 2) (T25 .locals)))))))))))))) (Row.set 29 (29, Rows'.any-gone (Syntax.tyRef Syntax.erased Syntax.mut (Syntax.tyInt Syntax.w64))) tt (Row.setRow 28 (28, Rows'.any-gone (Syntax.tyInt Syntax.w64)) (Row.setRow 24 (24, Rows'.any-gone ExpectationElem.ty) (Row.setRow 23 (23, Rows'.any-gone τ5) (Row.setRow 22 (22, Rows'.any-gone τ4) (Row.setRow 20 (20, Rows'.any-gone τ3) (Row.setRow 17 (17, Rows'.sc-here (Row.sInt Syntax.w64)) (Row.setRow 16 (16, Rows'.sc-here (Row.sInt Syntax.w64)) (Row.setRow 14 (14, Rows'.any-gone (Syntax.tyInt Syntax.w64)) (Row.setRow 11 (11, Mut.mslice ExpectationElem.R (Syntax.tyRef (Syntax.named 5) Syntax.mut ExpectationElem.behind) 5) (Row.setRow 9 (9, Mut.mslice (DArray.Array (TReferent.rtF (TReferent.fInt Syntax.w64)) 2) (Syntax.tyRef (Syntax.named 4) Syntax.mut (Syntax.tyArray (Syntax.tyInt Syntax.w64) 2)) 4) (Row.setRow 7 (7, Mut.mslice (TReferent.rtF (TReferent.fInt Syntax.w64)) (Syntax.tyRef (Syntax.named 3) Syntax.mut (Syntax.tyInt Syntax.w64)) 3) (Row.setRow 6 (6, Mut.mslice (TReferent.rtF (TReferent.fInt Syntax.w64)) (Syntax.tyRef (Syntax.named 2) Syntax.mut (Syntax.tyInt Syntax.w64)) 2) (T25 .locals))))))))))))) (Row.set 28 (28, Rows'.any-gone (Syntax.tyInt Syntax.w64)) tt (Row.setRow 24 (24, Rows'.any-gone ExpectationElem.ty) (Row.setRow 23 (23, Rows'.any-gone τ5) (Row.setRow 22 (22, Rows'.any-gone τ4) (Row.setRow 20 (20, Rows'.any-gone τ3) (Row.setRow 17 (17, Rows'.sc-here (Row.sInt Syntax.w64)) (Row.setRow 16 (16, Rows'.sc-here (Row.sInt Syntax.w64)) (Row.setRow 14 (14, Rows'.any-gone (Syntax.tyInt Syntax.w64)) (Row.setRow 11 (11, Mut.mslice ExpectationElem.R (Syntax.tyRef (Syntax.named 5) Syntax.mut ExpectationElem.behind) 5) (Row.setRow 9 (9, Mut.mslice (DArray.Array (TReferent.rtF (TReferent.fInt Syntax.w64)) 2) (Syntax.tyRef (Syntax.named 4) Syntax.mut (Syntax.tyArray (Syntax.tyInt Syntax.w64) 2)) 4) (Row.setRow 7 (7, Mut.mslice (TReferent.rtF (TReferent.fInt Syntax.w64)) (Syntax.tyRef (Syntax.named 3) Syntax.mut (Syntax.tyInt Syntax.w64)) 3) (Row.setRow 6 (6, Mut.mslice (TReferent.rtF (TReferent.fInt Syntax.w64)) (Syntax.tyRef (Syntax.named 2) Syntax.mut (Syntax.tyInt Syntax.w64)) 2) (T25 .locals)))))))))))) (Row.set 24 (24, Rows'.any-gone ExpectationElem.ty) tt (Row.setRow 23 (23, Rows'.any-gone τ5) (Row.setRow 22 (22, Rows'.any-gone τ4) (Row.setRow 20 (20, Rows'.any-gone τ3) (Row.setRow 17 (17, Rows'.sc-here (Row.sInt Syntax.w64)) (Row.setRow 16 (16, Rows'.sc-here (Row.sInt Syntax.w64)) (Row.setRow 14 (14, Rows'.any-gone (Syntax.tyInt Syntax.w64)) (Row.setRow 11 (11, Mut.mslice ExpectationElem.R (Syntax.tyRef (Syntax.named 5) Syntax.mut ExpectationElem.behind) 5) (Row.setRow 9 (9, Mut.mslice (DArray.Array (TReferent.rtF (TReferent.fInt Syntax.w64)) 2) (Syntax.tyRef (Syntax.named 4) Syntax.mut (Syntax.tyArray (Syntax.tyInt Syntax.w64) 2)) 4) (Row.setRow 7 (7, Mut.mslice (TReferent.rtF (TReferent.fInt Syntax.w64)) (Syntax.tyRef (Syntax.named 3) Syntax.mut (Syntax.tyInt Syntax.w64)) 3) (Row.setRow 6 (6, Mut.mslice (TReferent.rtF (TReferent.fInt Syntax.w64)) (Syntax.tyRef (Syntax.named 2) Syntax.mut (Syntax.tyInt Syntax.w64)) 2) (T25 .locals))))))))))) (Row.set 23 (23, Rows'.any-gone τ5) tt (Row.setRow 22 (22, Rows'.any-gone τ4) (Row.setRow 20 (20, Rows'.any-gone τ3) (Row.setRow 17 (17, Rows'.sc-here (Row.sInt Syntax.w64)) (Row.setRow 16 (16, Rows'.sc-here (Row.sInt Syntax.w64)) (Row.setRow 14 (14, Rows'.any-gone (Syntax.tyInt Syntax.w64)) (Row.setRow 11 (11, Mut.mslice ExpectationElem.R (Syntax.tyRef (Syntax.named 5) Syntax.mut ExpectationElem.behind) 5) (Row.setRow 9 (9, Mut.mslice (DArray.Array (TReferent.rtF (TReferent.fInt Syntax.w64)) 2) (Syntax.tyRef (Syntax.named 4) Syntax.mut (Syntax.tyArray (Syntax.tyInt Syntax.w64) 2)) 4) (Row.setRow 7 (7, Mut.mslice (TReferent.rtF (TReferent.fInt Syntax.w64)) (Syntax.tyRef (Syntax.named 3) Syntax.mut (Syntax.tyInt Syntax.w64)) 3) (Row.setRow 6 (6, Mut.mslice (TReferent.rtF (TReferent.fInt Syntax.w64)) (Syntax.tyRef (Syntax.named 2) Syntax.mut (Syntax.tyInt Syntax.w64)) 2) (T25 .locals)))))))))) (Row.set 22 (22, Rows'.any-gone τ4) tt (Row.setRow 20 (20, Rows'.any-gone τ3) (Row.setRow 17 (17, Rows'.sc-here (Row.sInt Syntax.w64)) (Row.setRow 16 (16, Rows'.sc-here (Row.sInt Syntax.w64)) (Row.setRow 14 (14, Rows'.any-gone (Syntax.tyInt Syntax.w64)) (Row.setRow 11 (11, Mut.mslice ExpectationElem.R (Syntax.tyRef (Syntax.named 5) Syntax.mut ExpectationElem.behind) 5) (Row.setRow 9 (9, Mut.mslice (DArray.Array (TReferent.rtF (TReferent.fInt Syntax.w64)) 2) (Syntax.tyRef (Syntax.named 4) Syntax.mut (Syntax.tyArray (Syntax.tyInt Syntax.w64) 2)) 4) (Row.setRow 7 (7, Mut.mslice (TReferent.rtF (TReferent.fInt Syntax.w64)) (Syntax.tyRef (Syntax.named 3) Syntax.mut (Syntax.tyInt Syntax.w64)) 3) (Row.setRow 6 (6, Mut.mslice (TReferent.rtF (TReferent.fInt Syntax.w64)) (Syntax.tyRef (Syntax.named 2) Syntax.mut (Syntax.tyInt Syntax.w64)) 2) (T25 .locals))))))))) (Row.set 20 (20, Rows'.any-gone τ3) tt (Row.setRow 17 (17, Rows'.sc-here (Row.sInt Syntax.w64)) (Row.setRow 16 (16, Rows'.sc-here (Row.sInt Syntax.w64)) (Row.setRow 14 (14, Rows'.any-gone (Syntax.tyInt Syntax.w64)) (Row.setRow 11 (11, Mut.mslice ExpectationElem.R (Syntax.tyRef (Syntax.named 5) Syntax.mut ExpectationElem.behind) 5) (Row.setRow 9 (9, Mut.mslice (DArray.Array (TReferent.rtF (TReferent.fInt Syntax.w64)) 2) (Syntax.tyRef (Syntax.named 4) Syntax.mut (Syntax.tyArray (Syntax.tyInt Syntax.w64) 2)) 4) (Row.setRow 7 (7, Mut.mslice (TReferent.rtF (TReferent.fInt Syntax.w64)) (Syntax.tyRef (Syntax.named 3) Syntax.mut (Syntax.tyInt Syntax.w64)) 3) (Row.setRow 6 (6, Mut.mslice (TReferent.rtF (TReferent.fInt Syntax.w64)) (Syntax.tyRef (Syntax.named 2) Syntax.mut (Syntax.tyInt Syntax.w64)) 2) (T25 .locals)))))))) (Row.set 17 (17, Rows'.sc-here (Row.sInt Syntax.w64)) expects (Row.setRow 16 (16, Rows'.sc-here (Row.sInt Syntax.w64)) (Row.setRow 14 (14, Rows'.any-gone (Syntax.tyInt Syntax.w64)) (Row.setRow 11 (11, Mut.mslice ExpectationElem.R (Syntax.tyRef (Syntax.named 5) Syntax.mut ExpectationElem.behind) 5) (Row.setRow 9 (9, Mut.mslice (DArray.Array (TReferent.rtF (TReferent.fInt Syntax.w64)) 2) (Syntax.tyRef (Syntax.named 4) Syntax.mut (Syntax.tyArray (Syntax.tyInt Syntax.w64) 2)) 4) (Row.setRow 7 (7, Mut.mslice (TReferent.rtF (TReferent.fInt Syntax.w64)) (Syntax.tyRef (Syntax.named 3) Syntax.mut (Syntax.tyInt Syntax.w64)) 3) (Row.setRow 6 (6, Mut.mslice (TReferent.rtF (TReferent.fInt Syntax.w64)) (Syntax.tyRef (Syntax.named 2) Syntax.mut (Syntax.tyInt Syntax.w64)) 2) (T25 .locals))))))) (Row.set 16 (16, Rows'.sc-here (Row.sInt Syntax.w64)) pairs (Row.setRow 14 (14, Rows'.any-gone (Syntax.tyInt Syntax.w64)) (Row.setRow 11 (11, Mut.mslice ExpectationElem.R (Syntax.tyRef (Syntax.named 5) Syntax.mut ExpectationElem.behind) 5) (Row.setRow 9 (9, Mut.mslice (DArray.Array (TReferent.rtF (TReferent.fInt Syntax.w64)) 2) (Syntax.tyRef (Syntax.named 4) Syntax.mut (Syntax.tyArray (Syntax.tyInt Syntax.w64) 2)) 4) (Row.setRow 7 (7, Mut.mslice (TReferent.rtF (TReferent.fInt Syntax.w64)) (Syntax.tyRef (Syntax.named 3) Syntax.mut (Syntax.tyInt Syntax.w64)) 3) (Row.setRow 6 (6, Mut.mslice (TReferent.rtF (TReferent.fInt Syntax.w64)) (Syntax.tyRef (Syntax.named 2) Syntax.mut (Syntax.tyInt Syntax.w64)) 2) (T25 .locals)))))) (Row.set 14 (14, Rows'.any-gone (Syntax.tyInt Syntax.w64)) tt (Row.setRow 11 (11, Mut.mslice ExpectationElem.R (Syntax.tyRef (Syntax.named 5) Syntax.mut ExpectationElem.behind) 5) (Row.setRow 9 (9, Mut.mslice (DArray.Array (TReferent.rtF (TReferent.fInt Syntax.w64)) 2) (Syntax.tyRef (Syntax.named 4) Syntax.mut (Syntax.tyArray (Syntax.tyInt Syntax.w64) 2)) 4) (Row.setRow 7 (7, Mut.mslice (TReferent.rtF (TReferent.fInt Syntax.w64)) (Syntax.tyRef (Syntax.named 3) Syntax.mut (Syntax.tyInt Syntax.w64)) 3) (Row.setRow 6 (6, Mut.mslice (TReferent.rtF (TReferent.fInt Syntax.w64)) (Syntax.tyRef (Syntax.named 2) Syntax.mut (Syntax.tyInt Syntax.w64)) 2) (T25 .locals))))) (Row.set 11 (11, Mut.mslice ExpectationElem.R (Syntax.tyRef (Syntax.named 5) Syntax.mut ExpectationElem.behind) 5) record { ptr = Row.get 11 (T25 .locals) (m22 (before .before) (before .step .given)) .ptr; name = Row.get 11 (T25 .locals) (m22 (before .before) (before .step .given)) .name; now = expectations; } (Row.setRow 9 (9, Mut.mslice (DArray.Array (TReferent.rtF (TReferent.fInt Syntax.w64)) 2) (Syntax.tyRef (Syntax.named 4) Syntax.mut (Syntax.tyArray (Syntax.tyInt Syntax.w64) 2)) 4) (Row.setRow 7 (7, Mut.mslice (TReferent.rtF (TReferent.fInt Syntax.w64)) (Syntax.tyRef (Syntax.named 3) Syntax.mut (Syntax.tyInt Syntax.w64)) 3) (Row.setRow 6 (6, Mut.mslice (TReferent.rtF (TReferent.fInt Syntax.w64)) (Syntax.tyRef (Syntax.named 2) Syntax.mut (Syntax.tyInt Syntax.w64)) 2) (T25 .locals)))) (Row.set 9 (9, Mut.mslice (DArray.Array (TReferent.rtF (TReferent.fInt Syntax.w64)) 2) (Syntax.tyRef (Syntax.named 4) Syntax.mut (Syntax.tyArray (Syntax.tyInt Syntax.w64) 2)) 4) record { ptr = Row.get 9 (T25 .locals) (m22 (before .before) (before .step .given)) .ptr; name = Row.get 9 (T25 .locals) (m22 (before .before) (before .step .given)) .name; now = items; } (Row.setRow 7 (7, Mut.mslice (TReferent.rtF (TReferent.fInt Syntax.w64)) (Syntax.tyRef (Syntax.named 3) Syntax.mut (Syntax.tyInt Syntax.w64)) 3) (Row.setRow 6 (6, Mut.mslice (TReferent.rtF (TReferent.fInt Syntax.w64)) (Syntax.tyRef (Syntax.named 2) Syntax.mut (Syntax.tyInt Syntax.w64)) 2) (T25 .locals))) (Row.set 7 (7, Mut.mslice (TReferent.rtF (TReferent.fInt Syntax.w64)) (Syntax.tyRef (Syntax.named 3) Syntax.mut (Syntax.tyInt Syntax.w64)) 3) record { ptr = Row.get 7 (T25 .locals) (m22 (before .before) (before .step .given)) .ptr; name = Row.get 7 (T25 .locals) (m22 (before .before) (before .step .given)) .name; now = ends; } (Row.setRow 6 (6, Mut.mslice (TReferent.rtF (TReferent.fInt Syntax.w64)) (Syntax.tyRef (Syntax.named 2) Syntax.mut (Syntax.tyInt Syntax.w64)) 2) (T25 .locals)) (Row.set 6 (6, Mut.mslice (TReferent.rtF (TReferent.fInt Syntax.w64)) (Syntax.tyRef (Syntax.named 2) Syntax.mut (Syntax.tyInt Syntax.w64)) 2) record { ptr = Row.get 6 (T25 .locals) (m22 (before .before) (before .step .given)) .ptr; name = Row.get 6 (T25 .locals) (m22 (before .before) (before .step .given)) .name; now = starts; } (T25 .locals) (m22 (before .before) (before .step .given))))))))))))))))))))))))
+      m84 = λ before starts ends items expectations pairs expects. Row.set 39 (39, Rows'.any-gone (Syntax.tyInt Syntax.w64)) tt (Row.setRow 38 (38, Rows'.any-gone (Syntax.tyStruct (List._∷_ 38 (List._∷_ 91 (List._∷_ 93 List.[]))) (Syntax.tcons (Syntax.tyRef Syntax.erased Syntax.mut ExpectationElem.behind) (Syntax.tcons (Syntax.tyInt Syntax.w64) Syntax.tnil)))) (Row.setRow 37 (37, Rows'.any-gone (Syntax.tyRef Syntax.erased Syntax.mut ExpectationElem.behind)) (Row.setRow 36 (36, Rows'.any-gone Syntax.tyUnit) (Row.setRow 35 (35, Rows'.any-gone (Syntax.tyInt Syntax.w64)) (Row.setRow 34 (34, Rows'.any-gone τ8) (Row.setRow 33 (33, Rows'.any-gone (Syntax.tyRef Syntax.erased Syntax.mut (Syntax.tyArray (Syntax.tyInt Syntax.w64) 2))) (Row.setRow 32 (32, Rows'.any-gone τ7) (Row.setRow 31 (31, Rows'.any-gone (Syntax.tyRef Syntax.erased Syntax.mut (Syntax.tyInt Syntax.w64))) (Row.setRow 30 (30, Rows'.any-gone τ7) (Row.setRow 29 (29, Rows'.any-gone (Syntax.tyRef Syntax.erased Syntax.mut (Syntax.tyInt Syntax.w64))) (Row.setRow 28 (28, Rows'.any-gone (Syntax.tyInt Syntax.w64)) (Row.setRow 24 (24, Rows'.any-gone ExpectationElem.ty) (Row.setRow 23 (23, Rows'.any-gone τ5) (Row.setRow 22 (22, Rows'.any-gone τ4) (Row.setRow 20 (20, Rows'.any-gone τ3) (Row.setRow 17 (17, Rows'.sc-here (Row.sInt Syntax.w64)) (Row.setRow 16 (16, Rows'.sc-here (Row.sInt Syntax.w64)) (Row.setRow 14 (14, Rows'.any-gone (Syntax.tyInt Syntax.w64)) (Row.setRow 11 (11, Mut.mslice ExpectationElem.R (Syntax.tyRef (Syntax.named 5) Syntax.mut ExpectationElem.behind) 5) (Row.setRow 9 (9, Mut.mslice (DArray.Array (TReferent.rtF (TReferent.fInt Syntax.w64)) 2) (Syntax.tyRef (Syntax.named 4) Syntax.mut (Syntax.tyArray (Syntax.tyInt Syntax.w64) 2)) 4) (Row.setRow 7 (7, Mut.mslice (TReferent.rtF (TReferent.fInt Syntax.w64)) (Syntax.tyRef (Syntax.named 3) Syntax.mut (Syntax.tyInt Syntax.w64)) 3) (Row.setRow 6 (6, Mut.mslice (TReferent.rtF (TReferent.fInt Syntax.w64)) (Syntax.tyRef (Syntax.named 2) Syntax.mut (Syntax.tyInt Syntax.w64)) 2) (T25 .locals))))))))))))))))))))))) (Row.set 38 (38, Rows'.any-gone (Syntax.tyStruct (List._∷_ 38 (List._∷_ 91 (List._∷_ 93 List.[]))) (Syntax.tcons (Syntax.tyRef Syntax.erased Syntax.mut ExpectationElem.behind) (Syntax.tcons (Syntax.tyInt Syntax.w64) Syntax.tnil)))) tt (Row.setRow 37 (37, Rows'.any-gone (Syntax.tyRef Syntax.erased Syntax.mut ExpectationElem.behind)) (Row.setRow 36 (36, Rows'.any-gone Syntax.tyUnit) (Row.setRow 35 (35, Rows'.any-gone (Syntax.tyInt Syntax.w64)) (Row.setRow 34 (34, Rows'.any-gone τ8) (Row.setRow 33 (33, Rows'.any-gone (Syntax.tyRef Syntax.erased Syntax.mut (Syntax.tyArray (Syntax.tyInt Syntax.w64) 2))) (Row.setRow 32 (32, Rows'.any-gone τ7) (Row.setRow 31 (31, Rows'.any-gone (Syntax.tyRef Syntax.erased Syntax.mut (Syntax.tyInt Syntax.w64))) (Row.setRow 30 (30, Rows'.any-gone τ7) (Row.setRow 29 (29, Rows'.any-gone (Syntax.tyRef Syntax.erased Syntax.mut (Syntax.tyInt Syntax.w64))) (Row.setRow 28 (28, Rows'.any-gone (Syntax.tyInt Syntax.w64)) (Row.setRow 24 (24, Rows'.any-gone ExpectationElem.ty) (Row.setRow 23 (23, Rows'.any-gone τ5) (Row.setRow 22 (22, Rows'.any-gone τ4) (Row.setRow 20 (20, Rows'.any-gone τ3) (Row.setRow 17 (17, Rows'.sc-here (Row.sInt Syntax.w64)) (Row.setRow 16 (16, Rows'.sc-here (Row.sInt Syntax.w64)) (Row.setRow 14 (14, Rows'.any-gone (Syntax.tyInt Syntax.w64)) (Row.setRow 11 (11, Mut.mslice ExpectationElem.R (Syntax.tyRef (Syntax.named 5) Syntax.mut ExpectationElem.behind) 5) (Row.setRow 9 (9, Mut.mslice (DArray.Array (TReferent.rtF (TReferent.fInt Syntax.w64)) 2) (Syntax.tyRef (Syntax.named 4) Syntax.mut (Syntax.tyArray (Syntax.tyInt Syntax.w64) 2)) 4) (Row.setRow 7 (7, Mut.mslice (TReferent.rtF (TReferent.fInt Syntax.w64)) (Syntax.tyRef (Syntax.named 3) Syntax.mut (Syntax.tyInt Syntax.w64)) 3) (Row.setRow 6 (6, Mut.mslice (TReferent.rtF (TReferent.fInt Syntax.w64)) (Syntax.tyRef (Syntax.named 2) Syntax.mut (Syntax.tyInt Syntax.w64)) 2) (T25 .locals)))))))))))))))))))))) (Row.set 37 (37, Rows'.any-gone (Syntax.tyRef Syntax.erased Syntax.mut ExpectationElem.behind)) tt (Row.setRow 36 (36, Rows'.any-gone Syntax.tyUnit) (Row.setRow 35 (35, Rows'.any-gone (Syntax.tyInt Syntax.w64)) (Row.setRow 34 (34, Rows'.any-gone τ8) (Row.setRow 33 (33, Rows'.any-gone (Syntax.tyRef Syntax.erased Syntax.mut (Syntax.tyArray (Syntax.tyInt Syntax.w64) 2))) (Row.setRow 32 (32, Rows'.any-gone τ7) (Row.setRow 31 (31, Rows'.any-gone (Syntax.tyRef Syntax.erased Syntax.mut (Syntax.tyInt Syntax.w64))) (Row.setRow 30 (30, Rows'.any-gone τ7) (Row.setRow 29 (29, Rows'.any-gone (Syntax.tyRef Syntax.erased Syntax.mut (Syntax.tyInt Syntax.w64))) (Row.setRow 28 (28, Rows'.any-gone (Syntax.tyInt Syntax.w64)) (Row.setRow 24 (24, Rows'.any-gone ExpectationElem.ty) (Row.setRow 23 (23, Rows'.any-gone τ5) (Row.setRow 22 (22, Rows'.any-gone τ4) (Row.setRow 20 (20, Rows'.any-gone τ3) (Row.setRow 17 (17, Rows'.sc-here (Row.sInt Syntax.w64)) (Row.setRow 16 (16, Rows'.sc-here (Row.sInt Syntax.w64)) (Row.setRow 14 (14, Rows'.any-gone (Syntax.tyInt Syntax.w64)) (Row.setRow 11 (11, Mut.mslice ExpectationElem.R (Syntax.tyRef (Syntax.named 5) Syntax.mut ExpectationElem.behind) 5) (Row.setRow 9 (9, Mut.mslice (DArray.Array (TReferent.rtF (TReferent.fInt Syntax.w64)) 2) (Syntax.tyRef (Syntax.named 4) Syntax.mut (Syntax.tyArray (Syntax.tyInt Syntax.w64) 2)) 4) (Row.setRow 7 (7, Mut.mslice (TReferent.rtF (TReferent.fInt Syntax.w64)) (Syntax.tyRef (Syntax.named 3) Syntax.mut (Syntax.tyInt Syntax.w64)) 3) (Row.setRow 6 (6, Mut.mslice (TReferent.rtF (TReferent.fInt Syntax.w64)) (Syntax.tyRef (Syntax.named 2) Syntax.mut (Syntax.tyInt Syntax.w64)) 2) (T25 .locals))))))))))))))))))))) (Row.set 36 (36, Rows'.any-gone Syntax.tyUnit) tt (Row.setRow 35 (35, Rows'.any-gone (Syntax.tyInt Syntax.w64)) (Row.setRow 34 (34, Rows'.any-gone τ8) (Row.setRow 33 (33, Rows'.any-gone (Syntax.tyRef Syntax.erased Syntax.mut (Syntax.tyArray (Syntax.tyInt Syntax.w64) 2))) (Row.setRow 32 (32, Rows'.any-gone τ7) (Row.setRow 31 (31, Rows'.any-gone (Syntax.tyRef Syntax.erased Syntax.mut (Syntax.tyInt Syntax.w64))) (Row.setRow 30 (30, Rows'.any-gone τ7) (Row.setRow 29 (29, Rows'.any-gone (Syntax.tyRef Syntax.erased Syntax.mut (Syntax.tyInt Syntax.w64))) (Row.setRow 28 (28, Rows'.any-gone (Syntax.tyInt Syntax.w64)) (Row.setRow 24 (24, Rows'.any-gone ExpectationElem.ty) (Row.setRow 23 (23, Rows'.any-gone τ5) (Row.setRow 22 (22, Rows'.any-gone τ4) (Row.setRow 20 (20, Rows'.any-gone τ3) (Row.setRow 17 (17, Rows'.sc-here (Row.sInt Syntax.w64)) (Row.setRow 16 (16, Rows'.sc-here (Row.sInt Syntax.w64)) (Row.setRow 14 (14, Rows'.any-gone (Syntax.tyInt Syntax.w64)) (Row.setRow 11 (11, Mut.mslice ExpectationElem.R (Syntax.tyRef (Syntax.named 5) Syntax.mut ExpectationElem.behind) 5) (Row.setRow 9 (9, Mut.mslice (DArray.Array (TReferent.rtF (TReferent.fInt Syntax.w64)) 2) (Syntax.tyRef (Syntax.named 4) Syntax.mut (Syntax.tyArray (Syntax.tyInt Syntax.w64) 2)) 4) (Row.setRow 7 (7, Mut.mslice (TReferent.rtF (TReferent.fInt Syntax.w64)) (Syntax.tyRef (Syntax.named 3) Syntax.mut (Syntax.tyInt Syntax.w64)) 3) (Row.setRow 6 (6, Mut.mslice (TReferent.rtF (TReferent.fInt Syntax.w64)) (Syntax.tyRef (Syntax.named 2) Syntax.mut (Syntax.tyInt Syntax.w64)) 2) (T25 .locals)))))))))))))))))))) (Row.set 35 (35, Rows'.any-gone (Syntax.tyInt Syntax.w64)) tt (Row.setRow 34 (34, Rows'.any-gone τ8) (Row.setRow 33 (33, Rows'.any-gone (Syntax.tyRef Syntax.erased Syntax.mut (Syntax.tyArray (Syntax.tyInt Syntax.w64) 2))) (Row.setRow 32 (32, Rows'.any-gone τ7) (Row.setRow 31 (31, Rows'.any-gone (Syntax.tyRef Syntax.erased Syntax.mut (Syntax.tyInt Syntax.w64))) (Row.setRow 30 (30, Rows'.any-gone τ7) (Row.setRow 29 (29, Rows'.any-gone (Syntax.tyRef Syntax.erased Syntax.mut (Syntax.tyInt Syntax.w64))) (Row.setRow 28 (28, Rows'.any-gone (Syntax.tyInt Syntax.w64)) (Row.setRow 24 (24, Rows'.any-gone ExpectationElem.ty) (Row.setRow 23 (23, Rows'.any-gone τ5) (Row.setRow 22 (22, Rows'.any-gone τ4) (Row.setRow 20 (20, Rows'.any-gone τ3) (Row.setRow 17 (17, Rows'.sc-here (Row.sInt Syntax.w64)) (Row.setRow 16 (16, Rows'.sc-here (Row.sInt Syntax.w64)) (Row.setRow 14 (14, Rows'.any-gone (Syntax.tyInt Syntax.w64)) (Row.setRow 11 (11, Mut.mslice ExpectationElem.R (Syntax.tyRef (Syntax.named 5) Syntax.mut ExpectationElem.behind) 5) (Row.setRow 9 (9, Mut.mslice (DArray.Array (TReferent.rtF (TReferent.fInt Syntax.w64)) 2) (Syntax.tyRef (Syntax.named 4) Syntax.mut (Syntax.tyArray (Syntax.tyInt Syntax.w64) 2)) 4) (Row.setRow 7 (7, Mut.mslice (TReferent.rtF (TReferent.fInt Syntax.w64)) (Syntax.tyRef (Syntax.named 3) Syntax.mut (Syntax.tyInt Syntax.w64)) 3) (Row.setRow 6 (6, Mut.mslice (TReferent.rtF (TReferent.fInt Syntax.w64)) (Syntax.tyRef (Syntax.named 2) Syntax.mut (Syntax.tyInt Syntax.w64)) 2) (T25 .locals))))))))))))))))))) (Row.set 34 (34, Rows'.any-gone τ8) tt (Row.setRow 33 (33, Rows'.any-gone (Syntax.tyRef Syntax.erased Syntax.mut (Syntax.tyArray (Syntax.tyInt Syntax.w64) 2))) (Row.setRow 32 (32, Rows'.any-gone τ7) (Row.setRow 31 (31, Rows'.any-gone (Syntax.tyRef Syntax.erased Syntax.mut (Syntax.tyInt Syntax.w64))) (Row.setRow 30 (30, Rows'.any-gone τ7) (Row.setRow 29 (29, Rows'.any-gone (Syntax.tyRef Syntax.erased Syntax.mut (Syntax.tyInt Syntax.w64))) (Row.setRow 28 (28, Rows'.any-gone (Syntax.tyInt Syntax.w64)) (Row.setRow 24 (24, Rows'.any-gone ExpectationElem.ty) (Row.setRow 23 (23, Rows'.any-gone τ5) (Row.setRow 22 (22, Rows'.any-gone τ4) (Row.setRow 20 (20, Rows'.any-gone τ3) (Row.setRow 17 (17, Rows'.sc-here (Row.sInt Syntax.w64)) (Row.setRow 16 (16, Rows'.sc-here (Row.sInt Syntax.w64)) (Row.setRow 14 (14, Rows'.any-gone (Syntax.tyInt Syntax.w64)) (Row.setRow 11 (11, Mut.mslice ExpectationElem.R (Syntax.tyRef (Syntax.named 5) Syntax.mut ExpectationElem.behind) 5) (Row.setRow 9 (9, Mut.mslice (DArray.Array (TReferent.rtF (TReferent.fInt Syntax.w64)) 2) (Syntax.tyRef (Syntax.named 4) Syntax.mut (Syntax.tyArray (Syntax.tyInt Syntax.w64) 2)) 4) (Row.setRow 7 (7, Mut.mslice (TReferent.rtF (TReferent.fInt Syntax.w64)) (Syntax.tyRef (Syntax.named 3) Syntax.mut (Syntax.tyInt Syntax.w64)) 3) (Row.setRow 6 (6, Mut.mslice (TReferent.rtF (TReferent.fInt Syntax.w64)) (Syntax.tyRef (Syntax.named 2) Syntax.mut (Syntax.tyInt Syntax.w64)) 2) (T25 .locals)))))))))))))))))) (Row.set 33 (33, Rows'.any-gone (Syntax.tyRef Syntax.erased Syntax.mut (Syntax.tyArray (Syntax.tyInt Syntax.w64) 2))) tt (Row.setRow 32 (32, Rows'.any-gone τ7) (Row.setRow 31 (31, Rows'.any-gone (Syntax.tyRef Syntax.erased Syntax.mut (Syntax.tyInt Syntax.w64))) (Row.setRow 30 (30, Rows'.any-gone τ7) (Row.setRow 29 (29, Rows'.any-gone (Syntax.tyRef Syntax.erased Syntax.mut (Syntax.tyInt Syntax.w64))) (Row.setRow 28 (28, Rows'.any-gone (Syntax.tyInt Syntax.w64)) (Row.setRow 24 (24, Rows'.any-gone ExpectationElem.ty) (Row.setRow 23 (23, Rows'.any-gone τ5) (Row.setRow 22 (22, Rows'.any-gone τ4) (Row.setRow 20 (20, Rows'.any-gone τ3) (Row.setRow 17 (17, Rows'.sc-here (Row.sInt Syntax.w64)) (Row.setRow 16 (16, Rows'.sc-here (Row.sInt Syntax.w64)) (Row.setRow 14 (14, Rows'.any-gone (Syntax.tyInt Syntax.w64)) (Row.setRow 11 (11, Mut.mslice ExpectationElem.R (Syntax.tyRef (Syntax.named 5) Syntax.mut ExpectationElem.behind) 5) (Row.setRow 9 (9, Mut.mslice (DArray.Array (TReferent.rtF (TReferent.fInt Syntax.w64)) 2) (Syntax.tyRef (Syntax.named 4) Syntax.mut (Syntax.tyArray (Syntax.tyInt Syntax.w64) 2)) 4) (Row.setRow 7 (7, Mut.mslice (TReferent.rtF (TReferent.fInt Syntax.w64)) (Syntax.tyRef (Syntax.named 3) Syntax.mut (Syntax.tyInt Syntax.w64)) 3) (Row.setRow 6 (6, Mut.mslice (TReferent.rtF (TReferent.fInt Syntax.w64)) (Syntax.tyRef (Syntax.named 2) Syntax.mut (Syntax.tyInt Syntax.w64)) 2) (T25 .locals))))))))))))))))) (Row.set 32 (32, Rows'.any-gone τ7) tt (Row.setRow 31 (31, Rows'.any-gone (Syntax.tyRef Syntax.erased Syntax.mut (Syntax.tyInt Syntax.w64))) (Row.setRow 30 (30, Rows'.any-gone τ7) (Row.setRow 29 (29, Rows'.any-gone (Syntax.tyRef Syntax.erased Syntax.mut (Syntax.tyInt Syntax.w64))) (Row.setRow 28 (28, Rows'.any-gone (Syntax.tyInt Syntax.w64)) (Row.setRow 24 (24, Rows'.any-gone ExpectationElem.ty) (Row.setRow 23 (23, Rows'.any-gone τ5) (Row.setRow 22 (22, Rows'.any-gone τ4) (Row.setRow 20 (20, Rows'.any-gone τ3) (Row.setRow 17 (17, Rows'.sc-here (Row.sInt Syntax.w64)) (Row.setRow 16 (16, Rows'.sc-here (Row.sInt Syntax.w64)) (Row.setRow 14 (14, Rows'.any-gone (Syntax.tyInt Syntax.w64)) (Row.setRow 11 (11, Mut.mslice ExpectationElem.R (Syntax.tyRef (Syntax.named 5) Syntax.mut ExpectationElem.behind) 5) (Row.setRow 9 (9, Mut.mslice (DArray.Array (TReferent.rtF (TReferent.fInt Syntax.w64)) 2) (Syntax.tyRef (Syntax.named 4) Syntax.mut (Syntax.tyArray (Syntax.tyInt Syntax.w64) 2)) 4) (Row.setRow 7 (7, Mut.mslice (TReferent.rtF (TReferent.fInt Syntax.w64)) (Syntax.tyRef (Syntax.named 3) Syntax.mut (Syntax.tyInt Syntax.w64)) 3) (Row.setRow 6 (6, Mut.mslice (TReferent.rtF (TReferent.fInt Syntax.w64)) (Syntax.tyRef (Syntax.named 2) Syntax.mut (Syntax.tyInt Syntax.w64)) 2) (T25 .locals)))))))))))))))) (Row.set 31 (31, Rows'.any-gone (Syntax.tyRef Syntax.erased Syntax.mut (Syntax.tyInt Syntax.w64))) tt (Row.setRow 30 (30, Rows'.any-gone τ7) (Row.setRow 29 (29, Rows'.any-gone (Syntax.tyRef Syntax.erased Syntax.mut (Syntax.tyInt Syntax.w64))) (Row.setRow 28 (28, Rows'.any-gone (Syntax.tyInt Syntax.w64)) (Row.setRow 24 (24, Rows'.any-gone ExpectationElem.ty) (Row.setRow 23 (23, Rows'.any-gone τ5) (Row.setRow 22 (22, Rows'.any-gone τ4) (Row.setRow 20 (20, Rows'.any-gone τ3) (Row.setRow 17 (17, Rows'.sc-here (Row.sInt Syntax.w64)) (Row.setRow 16 (16, Rows'.sc-here (Row.sInt Syntax.w64)) (Row.setRow 14 (14, Rows'.any-gone (Syntax.tyInt Syntax.w64)) (Row.setRow 11 (11, Mut.mslice ExpectationElem.R (Syntax.tyRef (Syntax.named 5) Syntax.mut ExpectationElem.behind) 5) (Row.setRow 9 (9, Mut.mslice (DArray.Array (TReferent.rtF (TReferent.fInt Syntax.w64)) 2) (Syntax.tyRef (Syntax.named 4) Syntax.mut (Syntax.tyArray (Syntax.tyInt Syntax.w64) 2)) 4) (Row.setRow 7 (7, Mut.mslice (TReferent.rtF (TReferent.fInt Syntax.w64)) (Syntax.tyRef (Syntax.named 3) Syntax.mut (Syntax.tyInt Syntax.w64)) 3) (Row.setRow 6 (6, Mut.mslice (TReferent.rtF (TReferent.fInt Syntax.w64)) (Syntax.tyRef (Syntax.named 2) Syntax.mut (Syntax.tyInt Syntax.w64)) 2) (T25 .locals))))))))))))))) (Row.set 30 (30, Rows'.any-gone τ7) tt (Row.setRow 29 (29, Rows'.any-gone (Syntax.tyRef Syntax.erased Syntax.mut (Syntax.tyInt Syntax.w64))) (Row.setRow 28 (28, Rows'.any-gone (Syntax.tyInt Syntax.w64)) (Row.setRow 24 (24, Rows'.any-gone ExpectationElem.ty) (Row.setRow 23 (23, Rows'.any-gone τ5) (Row.setRow 22 (22, Rows'.any-gone τ4) (Row.setRow 20 (20, Rows'.any-gone τ3) (Row.setRow 17 (17, Rows'.sc-here (Row.sInt Syntax.w64)) (Row.setRow 16 (16, Rows'.sc-here (Row.sInt Syntax.w64)) (Row.setRow 14 (14, Rows'.any-gone (Syntax.tyInt Syntax.w64)) (Row.setRow 11 (11, Mut.mslice ExpectationElem.R (Syntax.tyRef (Syntax.named 5) Syntax.mut ExpectationElem.behind) 5) (Row.setRow 9 (9, Mut.mslice (DArray.Array (TReferent.rtF (TReferent.fInt Syntax.w64)) 2) (Syntax.tyRef (Syntax.named 4) Syntax.mut (Syntax.tyArray (Syntax.tyInt Syntax.w64) 2)) 4) (Row.setRow 7 (7, Mut.mslice (TReferent.rtF (TReferent.fInt Syntax.w64)) (Syntax.tyRef (Syntax.named 3) Syntax.mut (Syntax.tyInt Syntax.w64)) 3) (Row.setRow 6 (6, Mut.mslice (TReferent.rtF (TReferent.fInt Syntax.w64)) (Syntax.tyRef (Syntax.named 2) Syntax.mut (Syntax.tyInt Syntax.w64)) 2) (T25 .locals)))))))))))))) (Row.set 29 (29, Rows'.any-gone (Syntax.tyRef Syntax.erased Syntax.mut (Syntax.tyInt Syntax.w64))) tt (Row.setRow 28 (28, Rows'.any-gone (Syntax.tyInt Syntax.w64)) (Row.setRow 24 (24, Rows'.any-gone ExpectationElem.ty) (Row.setRow 23 (23, Rows'.any-gone τ5) (Row.setRow 22 (22, Rows'.any-gone τ4) (Row.setRow 20 (20, Rows'.any-gone τ3) (Row.setRow 17 (17, Rows'.sc-here (Row.sInt Syntax.w64)) (Row.setRow 16 (16, Rows'.sc-here (Row.sInt Syntax.w64)) (Row.setRow 14 (14, Rows'.any-gone (Syntax.tyInt Syntax.w64)) (Row.setRow 11 (11, Mut.mslice ExpectationElem.R (Syntax.tyRef (Syntax.named 5) Syntax.mut ExpectationElem.behind) 5) (Row.setRow 9 (9, Mut.mslice (DArray.Array (TReferent.rtF (TReferent.fInt Syntax.w64)) 2) (Syntax.tyRef (Syntax.named 4) Syntax.mut (Syntax.tyArray (Syntax.tyInt Syntax.w64) 2)) 4) (Row.setRow 7 (7, Mut.mslice (TReferent.rtF (TReferent.fInt Syntax.w64)) (Syntax.tyRef (Syntax.named 3) Syntax.mut (Syntax.tyInt Syntax.w64)) 3) (Row.setRow 6 (6, Mut.mslice (TReferent.rtF (TReferent.fInt Syntax.w64)) (Syntax.tyRef (Syntax.named 2) Syntax.mut (Syntax.tyInt Syntax.w64)) 2) (T25 .locals))))))))))))) (Row.set 28 (28, Rows'.any-gone (Syntax.tyInt Syntax.w64)) tt (Row.setRow 24 (24, Rows'.any-gone ExpectationElem.ty) (Row.setRow 23 (23, Rows'.any-gone τ5) (Row.setRow 22 (22, Rows'.any-gone τ4) (Row.setRow 20 (20, Rows'.any-gone τ3) (Row.setRow 17 (17, Rows'.sc-here (Row.sInt Syntax.w64)) (Row.setRow 16 (16, Rows'.sc-here (Row.sInt Syntax.w64)) (Row.setRow 14 (14, Rows'.any-gone (Syntax.tyInt Syntax.w64)) (Row.setRow 11 (11, Mut.mslice ExpectationElem.R (Syntax.tyRef (Syntax.named 5) Syntax.mut ExpectationElem.behind) 5) (Row.setRow 9 (9, Mut.mslice (DArray.Array (TReferent.rtF (TReferent.fInt Syntax.w64)) 2) (Syntax.tyRef (Syntax.named 4) Syntax.mut (Syntax.tyArray (Syntax.tyInt Syntax.w64) 2)) 4) (Row.setRow 7 (7, Mut.mslice (TReferent.rtF (TReferent.fInt Syntax.w64)) (Syntax.tyRef (Syntax.named 3) Syntax.mut (Syntax.tyInt Syntax.w64)) 3) (Row.setRow 6 (6, Mut.mslice (TReferent.rtF (TReferent.fInt Syntax.w64)) (Syntax.tyRef (Syntax.named 2) Syntax.mut (Syntax.tyInt Syntax.w64)) 2) (T25 .locals)))))))))))) (Row.set 24 (24, Rows'.any-gone ExpectationElem.ty) tt (Row.setRow 23 (23, Rows'.any-gone τ5) (Row.setRow 22 (22, Rows'.any-gone τ4) (Row.setRow 20 (20, Rows'.any-gone τ3) (Row.setRow 17 (17, Rows'.sc-here (Row.sInt Syntax.w64)) (Row.setRow 16 (16, Rows'.sc-here (Row.sInt Syntax.w64)) (Row.setRow 14 (14, Rows'.any-gone (Syntax.tyInt Syntax.w64)) (Row.setRow 11 (11, Mut.mslice ExpectationElem.R (Syntax.tyRef (Syntax.named 5) Syntax.mut ExpectationElem.behind) 5) (Row.setRow 9 (9, Mut.mslice (DArray.Array (TReferent.rtF (TReferent.fInt Syntax.w64)) 2) (Syntax.tyRef (Syntax.named 4) Syntax.mut (Syntax.tyArray (Syntax.tyInt Syntax.w64) 2)) 4) (Row.setRow 7 (7, Mut.mslice (TReferent.rtF (TReferent.fInt Syntax.w64)) (Syntax.tyRef (Syntax.named 3) Syntax.mut (Syntax.tyInt Syntax.w64)) 3) (Row.setRow 6 (6, Mut.mslice (TReferent.rtF (TReferent.fInt Syntax.w64)) (Syntax.tyRef (Syntax.named 2) Syntax.mut (Syntax.tyInt Syntax.w64)) 2) (T25 .locals))))))))))) (Row.set 23 (23, Rows'.any-gone τ5) tt (Row.setRow 22 (22, Rows'.any-gone τ4) (Row.setRow 20 (20, Rows'.any-gone τ3) (Row.setRow 17 (17, Rows'.sc-here (Row.sInt Syntax.w64)) (Row.setRow 16 (16, Rows'.sc-here (Row.sInt Syntax.w64)) (Row.setRow 14 (14, Rows'.any-gone (Syntax.tyInt Syntax.w64)) (Row.setRow 11 (11, Mut.mslice ExpectationElem.R (Syntax.tyRef (Syntax.named 5) Syntax.mut ExpectationElem.behind) 5) (Row.setRow 9 (9, Mut.mslice (DArray.Array (TReferent.rtF (TReferent.fInt Syntax.w64)) 2) (Syntax.tyRef (Syntax.named 4) Syntax.mut (Syntax.tyArray (Syntax.tyInt Syntax.w64) 2)) 4) (Row.setRow 7 (7, Mut.mslice (TReferent.rtF (TReferent.fInt Syntax.w64)) (Syntax.tyRef (Syntax.named 3) Syntax.mut (Syntax.tyInt Syntax.w64)) 3) (Row.setRow 6 (6, Mut.mslice (TReferent.rtF (TReferent.fInt Syntax.w64)) (Syntax.tyRef (Syntax.named 2) Syntax.mut (Syntax.tyInt Syntax.w64)) 2) (T25 .locals)))))))))) (Row.set 22 (22, Rows'.any-gone τ4) tt (Row.setRow 20 (20, Rows'.any-gone τ3) (Row.setRow 17 (17, Rows'.sc-here (Row.sInt Syntax.w64)) (Row.setRow 16 (16, Rows'.sc-here (Row.sInt Syntax.w64)) (Row.setRow 14 (14, Rows'.any-gone (Syntax.tyInt Syntax.w64)) (Row.setRow 11 (11, Mut.mslice ExpectationElem.R (Syntax.tyRef (Syntax.named 5) Syntax.mut ExpectationElem.behind) 5) (Row.setRow 9 (9, Mut.mslice (DArray.Array (TReferent.rtF (TReferent.fInt Syntax.w64)) 2) (Syntax.tyRef (Syntax.named 4) Syntax.mut (Syntax.tyArray (Syntax.tyInt Syntax.w64) 2)) 4) (Row.setRow 7 (7, Mut.mslice (TReferent.rtF (TReferent.fInt Syntax.w64)) (Syntax.tyRef (Syntax.named 3) Syntax.mut (Syntax.tyInt Syntax.w64)) 3) (Row.setRow 6 (6, Mut.mslice (TReferent.rtF (TReferent.fInt Syntax.w64)) (Syntax.tyRef (Syntax.named 2) Syntax.mut (Syntax.tyInt Syntax.w64)) 2) (T25 .locals))))))))) (Row.set 20 (20, Rows'.any-gone τ3) tt (Row.setRow 17 (17, Rows'.sc-here (Row.sInt Syntax.w64)) (Row.setRow 16 (16, Rows'.sc-here (Row.sInt Syntax.w64)) (Row.setRow 14 (14, Rows'.any-gone (Syntax.tyInt Syntax.w64)) (Row.setRow 11 (11, Mut.mslice ExpectationElem.R (Syntax.tyRef (Syntax.named 5) Syntax.mut ExpectationElem.behind) 5) (Row.setRow 9 (9, Mut.mslice (DArray.Array (TReferent.rtF (TReferent.fInt Syntax.w64)) 2) (Syntax.tyRef (Syntax.named 4) Syntax.mut (Syntax.tyArray (Syntax.tyInt Syntax.w64) 2)) 4) (Row.setRow 7 (7, Mut.mslice (TReferent.rtF (TReferent.fInt Syntax.w64)) (Syntax.tyRef (Syntax.named 3) Syntax.mut (Syntax.tyInt Syntax.w64)) 3) (Row.setRow 6 (6, Mut.mslice (TReferent.rtF (TReferent.fInt Syntax.w64)) (Syntax.tyRef (Syntax.named 2) Syntax.mut (Syntax.tyInt Syntax.w64)) 2) (T25 .locals)))))))) (Row.set 17 (17, Rows'.sc-here (Row.sInt Syntax.w64)) expects (Row.setRow 16 (16, Rows'.sc-here (Row.sInt Syntax.w64)) (Row.setRow 14 (14, Rows'.any-gone (Syntax.tyInt Syntax.w64)) (Row.setRow 11 (11, Mut.mslice ExpectationElem.R (Syntax.tyRef (Syntax.named 5) Syntax.mut ExpectationElem.behind) 5) (Row.setRow 9 (9, Mut.mslice (DArray.Array (TReferent.rtF (TReferent.fInt Syntax.w64)) 2) (Syntax.tyRef (Syntax.named 4) Syntax.mut (Syntax.tyArray (Syntax.tyInt Syntax.w64) 2)) 4) (Row.setRow 7 (7, Mut.mslice (TReferent.rtF (TReferent.fInt Syntax.w64)) (Syntax.tyRef (Syntax.named 3) Syntax.mut (Syntax.tyInt Syntax.w64)) 3) (Row.setRow 6 (6, Mut.mslice (TReferent.rtF (TReferent.fInt Syntax.w64)) (Syntax.tyRef (Syntax.named 2) Syntax.mut (Syntax.tyInt Syntax.w64)) 2) (T25 .locals))))))) (Row.set 16 (16, Rows'.sc-here (Row.sInt Syntax.w64)) pairs (Row.setRow 14 (14, Rows'.any-gone (Syntax.tyInt Syntax.w64)) (Row.setRow 11 (11, Mut.mslice ExpectationElem.R (Syntax.tyRef (Syntax.named 5) Syntax.mut ExpectationElem.behind) 5) (Row.setRow 9 (9, Mut.mslice (DArray.Array (TReferent.rtF (TReferent.fInt Syntax.w64)) 2) (Syntax.tyRef (Syntax.named 4) Syntax.mut (Syntax.tyArray (Syntax.tyInt Syntax.w64) 2)) 4) (Row.setRow 7 (7, Mut.mslice (TReferent.rtF (TReferent.fInt Syntax.w64)) (Syntax.tyRef (Syntax.named 3) Syntax.mut (Syntax.tyInt Syntax.w64)) 3) (Row.setRow 6 (6, Mut.mslice (TReferent.rtF (TReferent.fInt Syntax.w64)) (Syntax.tyRef (Syntax.named 2) Syntax.mut (Syntax.tyInt Syntax.w64)) 2) (T25 .locals)))))) (Row.set 14 (14, Rows'.any-gone (Syntax.tyInt Syntax.w64)) tt (Row.setRow 11 (11, Mut.mslice ExpectationElem.R (Syntax.tyRef (Syntax.named 5) Syntax.mut ExpectationElem.behind) 5) (Row.setRow 9 (9, Mut.mslice (DArray.Array (TReferent.rtF (TReferent.fInt Syntax.w64)) 2) (Syntax.tyRef (Syntax.named 4) Syntax.mut (Syntax.tyArray (Syntax.tyInt Syntax.w64) 2)) 4) (Row.setRow 7 (7, Mut.mslice (TReferent.rtF (TReferent.fInt Syntax.w64)) (Syntax.tyRef (Syntax.named 3) Syntax.mut (Syntax.tyInt Syntax.w64)) 3) (Row.setRow 6 (6, Mut.mslice (TReferent.rtF (TReferent.fInt Syntax.w64)) (Syntax.tyRef (Syntax.named 2) Syntax.mut (Syntax.tyInt Syntax.w64)) 2) (T25 .locals))))) (Row.set 11 (11, Mut.mslice ExpectationElem.R (Syntax.tyRef (Syntax.named 5) Syntax.mut ExpectationElem.behind) 5) record { ptr = Row.get 11 (T25 .locals) (m22 (before .before) (before .step .given)) .ptr; name = Row.get 11 (T25 .locals) (m22 (before .before) (before .step .given)) .name; now = expectations } (Row.setRow 9 (9, Mut.mslice (DArray.Array (TReferent.rtF (TReferent.fInt Syntax.w64)) 2) (Syntax.tyRef (Syntax.named 4) Syntax.mut (Syntax.tyArray (Syntax.tyInt Syntax.w64) 2)) 4) (Row.setRow 7 (7, Mut.mslice (TReferent.rtF (TReferent.fInt Syntax.w64)) (Syntax.tyRef (Syntax.named 3) Syntax.mut (Syntax.tyInt Syntax.w64)) 3) (Row.setRow 6 (6, Mut.mslice (TReferent.rtF (TReferent.fInt Syntax.w64)) (Syntax.tyRef (Syntax.named 2) Syntax.mut (Syntax.tyInt Syntax.w64)) 2) (T25 .locals)))) (Row.set 9 (9, Mut.mslice (DArray.Array (TReferent.rtF (TReferent.fInt Syntax.w64)) 2) (Syntax.tyRef (Syntax.named 4) Syntax.mut (Syntax.tyArray (Syntax.tyInt Syntax.w64) 2)) 4) record { ptr = Row.get 9 (T25 .locals) (m22 (before .before) (before .step .given)) .ptr; name = Row.get 9 (T25 .locals) (m22 (before .before) (before .step .given)) .name; now = items } (Row.setRow 7 (7, Mut.mslice (TReferent.rtF (TReferent.fInt Syntax.w64)) (Syntax.tyRef (Syntax.named 3) Syntax.mut (Syntax.tyInt Syntax.w64)) 3) (Row.setRow 6 (6, Mut.mslice (TReferent.rtF (TReferent.fInt Syntax.w64)) (Syntax.tyRef (Syntax.named 2) Syntax.mut (Syntax.tyInt Syntax.w64)) 2) (T25 .locals))) (Row.set 7 (7, Mut.mslice (TReferent.rtF (TReferent.fInt Syntax.w64)) (Syntax.tyRef (Syntax.named 3) Syntax.mut (Syntax.tyInt Syntax.w64)) 3) record { ptr = Row.get 7 (T25 .locals) (m22 (before .before) (before .step .given)) .ptr; name = Row.get 7 (T25 .locals) (m22 (before .before) (before .step .given)) .name; now = ends } (Row.setRow 6 (6, Mut.mslice (TReferent.rtF (TReferent.fInt Syntax.w64)) (Syntax.tyRef (Syntax.named 2) Syntax.mut (Syntax.tyInt Syntax.w64)) 2) (T25 .locals)) (Row.set 6 (6, Mut.mslice (TReferent.rtF (TReferent.fInt Syntax.w64)) (Syntax.tyRef (Syntax.named 2) Syntax.mut (Syntax.tyInt Syntax.w64)) 2) record { ptr = Row.get 6 (T25 .locals) (m22 (before .before) (before .step .given)) .ptr; name = Row.get 6 (T25 .locals) (m22 (before .before) (before .step .given)) .name; now = starts } (T25 .locals) (m22 (before .before) (before .step .given))))))))))))))))))))))))
 
       module _ (before· : After-step) where
         pub record At-match-came·own : Type 0 where
@@ -3101,7 +3101,7 @@ module _ (claims· : Claims) where
           pub expectations : List.List (ExpectationElem.R .Denot)
           pub pairs : Rows'.sc-here (Row.sInt Syntax.w64) .Mod
           pub expects : Rows'.sc-here (Row.sInt Syntax.w64) .Mod
-          pub came : Logic._⊎_ ((match : At-match-keys1·own before·) × (enum-told : After-enum-told·own record { before = before·; match = match; }) × Path'._≡_ starts (Row.get 6 (T24 .locals) (m25 record { before = before·; match = match; } (enum-told .given)) .now) × Path'._≡_ ends (Row.get 7 (T24 .locals) (m25 record { before = before·; match = match; } (enum-told .given)) .now) × Path'._≡_ items (Row.get 9 (T24 .locals) (m25 record { before = before·; match = match; } (enum-told .given)) .now) × Path'._≡_ expectations (Row.get 11 (T24 .locals) (m25 record { before = before·; match = match; } (enum-told .given)) .now) × Path'._≡_ pairs (Row.get 16 (T24 .locals) (m25 record { before = before·; match = match; } (enum-told .given))) × Path'._≡_ expects (Row.get 17 (T24 .locals) (m25 record { before = before·; match = match; } (enum-told .given)))) (Logic._⊎_ ((match : At-match-keys2·own before·) × (role : After-role·own record { before = before·; match = match; }) × (known-told : After-known-told·own record { before = record { before = before·; match = match }; role = role; }) × (say-arg : After-say-arg·own record { before = record { before = record { before = before·; match = match }; role = role; }; known-told = known-told; }) × (say-arg2 : After-say-arg2·own record { before = record { before = record { before = record { before = before·; match = match }; role = role; }; known-told = known-told; }; say-arg = say-arg; }) × (say-arg3 : After-say-arg3·own record { before = record { before = record { before = record { before = record { before = before·; match = match }; role = role; }; known-told = known-told; }; say-arg = say-arg; }; say-arg2 = say-arg2; }) × (say : After-say·own record { before = record { before = record { before = record { before = record { before = record { before = before·; match = match }; role = role; }; known-told = known-told; }; say-arg = say-arg; }; say-arg2 = say-arg2; }; say-arg3 = say-arg3; }) × (starts' : After-starts·own record { before = record { before = record { before = record { before = record { before = record { before = record { before = before·; match = match }; role = role; }; known-told = known-told; }; say-arg = say-arg; }; say-arg2 = say-arg2; }; say-arg3 = say-arg3; }; say = say; }) × (slice-known3 : After-slice-known3·own record { before = record { before = record { before = record { before = record { before = record { before = record { before = record { before = before·; match = match }; role = role; }; known-told = known-told; }; say-arg = say-arg; }; say-arg2 = say-arg2; }; say-arg3 = say-arg3; }; say = say; }; starts = starts'; }) × (ends' : After-ends·own record { before = record { before = record { before = record { before = record { before = record { before = record { before = record { before = record { before = before·; match = match }; role = role; }; known-told = known-told; }; say-arg = say-arg; }; say-arg2 = say-arg2; }; say-arg3 = say-arg3; }; say = say; }; starts = starts'; }; slice-known3 = slice-known3; }) × (slice-known4 : After-slice-known4·own record { before = record { before = record { before = record { before = record { before = record { before = record { before = record { before = record { before = record { before = before·; match = match }; role = role; }; known-told = known-told; }; say-arg = say-arg; }; say-arg2 = say-arg2; }; say-arg3 = say-arg3; }; say = say; }; starts = starts'; }; slice-known3 = slice-known3; }; ends = ends'; }) × (items' : After-items·own record { before = record { before = record { before = record { before = record { before = record { before = record { before = record { before = record { before = record { before = record { before = before·; match = match }; role = role; }; known-told = known-told; }; say-arg = say-arg; }; say-arg2 = say-arg2; }; say-arg3 = say-arg3; }; say = say; }; starts = starts'; }; slice-known3 = slice-known3; }; ends = ends'; }; slice-known4 = slice-known4; }) × Path'._≡_ starts (Row.get 6 (T24 .locals) (m47 record { before = record { before = record { before = record { before = record { before = record { before = record { before = record { before = record { before = record { before = record { before = before·; match = match }; role = role; }; known-told = known-told; }; say-arg = say-arg; }; say-arg2 = say-arg2; }; say-arg3 = say-arg3; }; say = say; }; starts = starts'; }; slice-known3 = slice-known3; }; ends = ends'; }; slice-known4 = slice-known4; } (items' .given)) .now) × Path'._≡_ ends (Row.get 7 (T24 .locals) (m47 record { before = record { before = record { before = record { before = record { before = record { before = record { before = record { before = record { before = record { before = record { before = before·; match = match }; role = role; }; known-told = known-told; }; say-arg = say-arg; }; say-arg2 = say-arg2; }; say-arg3 = say-arg3; }; say = say; }; starts = starts'; }; slice-known3 = slice-known3; }; ends = ends'; }; slice-known4 = slice-known4; } (items' .given)) .now) × Path'._≡_ items (Row.get 9 (T24 .locals) (m47 record { before = record { before = record { before = record { before = record { before = record { before = record { before = record { before = record { before = record { before = record { before = before·; match = match }; role = role; }; known-told = known-told; }; say-arg = say-arg; }; say-arg2 = say-arg2; }; say-arg3 = say-arg3; }; say = say; }; starts = starts'; }; slice-known3 = slice-known3; }; ends = ends'; }; slice-known4 = slice-known4; } (items' .given)) .now) × Path'._≡_ expectations (Row.get 11 (T24 .locals) (m47 record { before = record { before = record { before = record { before = record { before = record { before = record { before = record { before = record { before = record { before = record { before = before·; match = match }; role = role; }; known-told = known-told; }; say-arg = say-arg; }; say-arg2 = say-arg2; }; say-arg3 = say-arg3; }; say = say; }; starts = starts'; }; slice-known3 = slice-known3; }; ends = ends'; }; slice-known4 = slice-known4; } (items' .given)) .now) × Path'._≡_ pairs (Row.get 16 (T24 .locals) (m47 record { before = record { before = record { before = record { before = record { before = record { before = record { before = record { before = record { before = record { before = record { before = before·; match = match }; role = role; }; known-told = known-told; }; say-arg = say-arg; }; say-arg2 = say-arg2; }; say-arg3 = say-arg3; }; say = say; }; starts = starts'; }; slice-known3 = slice-known3; }; ends = ends'; }; slice-known4 = slice-known4; } (items' .given))) × Path'._≡_ expects (Row.get 17 (T24 .locals) (m47 record { before = record { before = record { before = record { before = record { before = record { before = record { before = record { before = record { before = record { before = record { before = before·; match = match }; role = role; }; known-told = known-told; }; say-arg = say-arg; }; say-arg2 = say-arg2; }; say-arg3 = say-arg3; }; say = say; }; starts = starts'; }; slice-known3 = slice-known3; }; ends = ends'; }; slice-known4 = slice-known4; } (items' .given)))) (Logic._⊎_ ((match : At-match-keys3·own before·) × (role2 : After-role2·own record { before = before·; match = match; }) × (known-told2 : After-known-told2·own record { before = record { before = before·; match = match }; role2 = role2; }) × (expectation-of : After-expectation-of·own record { before = record { before = record { before = before·; match = match }; role2 = role2; }; known-told2 = known-told2; }) × (put-expectation-arg : After-put-expectation-arg·own record { before = record { before = record { before = record { before = before·; match = match }; role2 = role2; }; known-told2 = known-told2; }; expectation-of = expectation-of; }) × (put-expectation : After-put-expectation·own record { before = record { before = record { before = record { before = record { before = before·; match = match }; role2 = role2; }; known-told2 = known-told2; }; expectation-of = expectation-of; }; put-expectation-arg = put-expectation-arg; }) × (expectations' : After-expectations·own record { before = record { before = record { before = record { before = record { before = record { before = before·; match = match }; role2 = role2; }; known-told2 = known-told2; }; expectation-of = expectation-of; }; put-expectation-arg = put-expectation-arg; }; put-expectation = put-expectation; }) × Path'._≡_ starts (Row.get 6 (T24 .locals) (m63 record { before = record { before = record { before = record { before = record { before = record { before = before·; match = match }; role2 = role2; }; known-told2 = known-told2; }; expectation-of = expectation-of; }; put-expectation-arg = put-expectation-arg; }; put-expectation = put-expectation; } (expectations' .given)) .now) × Path'._≡_ ends (Row.get 7 (T24 .locals) (m63 record { before = record { before = record { before = record { before = record { before = record { before = before·; match = match }; role2 = role2; }; known-told2 = known-told2; }; expectation-of = expectation-of; }; put-expectation-arg = put-expectation-arg; }; put-expectation = put-expectation; } (expectations' .given)) .now) × Path'._≡_ items (Row.get 9 (T24 .locals) (m63 record { before = record { before = record { before = record { before = record { before = record { before = before·; match = match }; role2 = role2; }; known-told2 = known-told2; }; expectation-of = expectation-of; }; put-expectation-arg = put-expectation-arg; }; put-expectation = put-expectation; } (expectations' .given)) .now) × Path'._≡_ expectations (Row.get 11 (T24 .locals) (m63 record { before = record { before = record { before = record { before = record { before = record { before = before·; match = match }; role2 = role2; }; known-told2 = known-told2; }; expectation-of = expectation-of; }; put-expectation-arg = put-expectation-arg; }; put-expectation = put-expectation; } (expectations' .given)) .now) × Path'._≡_ pairs (Row.get 16 (T24 .locals) (m63 record { before = record { before = record { before = record { before = record { before = record { before = before·; match = match }; role2 = role2; }; known-told2 = known-told2; }; expectation-of = expectation-of; }; put-expectation-arg = put-expectation-arg; }; put-expectation = put-expectation; } (expectations' .given))) × Path'._≡_ expects (Row.get 17 (T24 .locals) (m63 record { before = record { before = record { before = record { before = record { before = record { before = before·; match = match }; role2 = role2; }; known-told2 = known-told2; }; expectation-of = expectation-of; }; put-expectation-arg = put-expectation-arg; }; put-expectation = put-expectation; } (expectations' .given)))) ((match : At-match-keys5·own before·) × (enum-told2 : After-enum-told2·own record { before = before·; match = match; }) × Path'._≡_ starts (Row.get 6 (T24 .locals) (m83 record { before = before·; match = match; } (enum-told2 .given)) .now) × Path'._≡_ ends (Row.get 7 (T24 .locals) (m83 record { before = before·; match = match; } (enum-told2 .given)) .now) × Path'._≡_ items (Row.get 9 (T24 .locals) (m83 record { before = before·; match = match; } (enum-told2 .given)) .now) × Path'._≡_ expectations (Row.get 11 (T24 .locals) (m83 record { before = before·; match = match; } (enum-told2 .given)) .now) × Path'._≡_ pairs (Row.get 16 (T24 .locals) (m83 record { before = before·; match = match; } (enum-told2 .given))) × Path'._≡_ expects (Row.get 17 (T24 .locals) (m83 record { before = before·; match = match; } (enum-told2 .given))))))
+          pub came : Logic._⊎_ ((match : At-match-keys1·own before·) × (enum-told : After-enum-told·own record { before = before·; match = match }) × Path'._≡_ starts (Row.get 6 (T24 .locals) (m25 record { before = before·; match = match } (enum-told .given)) .now) × Path'._≡_ ends (Row.get 7 (T24 .locals) (m25 record { before = before·; match = match } (enum-told .given)) .now) × Path'._≡_ items (Row.get 9 (T24 .locals) (m25 record { before = before·; match = match } (enum-told .given)) .now) × Path'._≡_ expectations (Row.get 11 (T24 .locals) (m25 record { before = before·; match = match } (enum-told .given)) .now) × Path'._≡_ pairs (Row.get 16 (T24 .locals) (m25 record { before = before·; match = match } (enum-told .given))) × Path'._≡_ expects (Row.get 17 (T24 .locals) (m25 record { before = before·; match = match } (enum-told .given)))) (Logic._⊎_ ((match : At-match-keys2·own before·) × (role : After-role·own record { before = before·; match = match }) × (known-told : After-known-told·own record { before = record { before = before·; match = match }; role = role }) × (say-arg : After-say-arg·own record { before = record { before = record { before = before·; match = match }; role = role }; known-told = known-told }) × (say-arg2 : After-say-arg2·own record { before = record { before = record { before = record { before = before·; match = match }; role = role }; known-told = known-told }; say-arg = say-arg }) × (say-arg3 : After-say-arg3·own record { before = record { before = record { before = record { before = record { before = before·; match = match }; role = role }; known-told = known-told }; say-arg = say-arg }; say-arg2 = say-arg2 }) × (say : After-say·own record { before = record { before = record { before = record { before = record { before = record { before = before·; match = match }; role = role }; known-told = known-told }; say-arg = say-arg }; say-arg2 = say-arg2 }; say-arg3 = say-arg3 }) × (starts' : After-starts·own record { before = record { before = record { before = record { before = record { before = record { before = record { before = before·; match = match }; role = role }; known-told = known-told }; say-arg = say-arg }; say-arg2 = say-arg2 }; say-arg3 = say-arg3 }; say = say }) × (slice-known3 : After-slice-known3·own record { before = record { before = record { before = record { before = record { before = record { before = record { before = record { before = before·; match = match }; role = role }; known-told = known-told }; say-arg = say-arg }; say-arg2 = say-arg2 }; say-arg3 = say-arg3 }; say = say }; starts = starts' }) × (ends' : After-ends·own record { before = record { before = record { before = record { before = record { before = record { before = record { before = record { before = record { before = before·; match = match }; role = role }; known-told = known-told }; say-arg = say-arg }; say-arg2 = say-arg2 }; say-arg3 = say-arg3 }; say = say }; starts = starts' }; slice-known3 = slice-known3 }) × (slice-known4 : After-slice-known4·own record { before = record { before = record { before = record { before = record { before = record { before = record { before = record { before = record { before = record { before = before·; match = match }; role = role }; known-told = known-told }; say-arg = say-arg }; say-arg2 = say-arg2 }; say-arg3 = say-arg3 }; say = say }; starts = starts' }; slice-known3 = slice-known3 }; ends = ends' }) × (items' : After-items·own record { before = record { before = record { before = record { before = record { before = record { before = record { before = record { before = record { before = record { before = record { before = before·; match = match }; role = role }; known-told = known-told }; say-arg = say-arg }; say-arg2 = say-arg2 }; say-arg3 = say-arg3 }; say = say }; starts = starts' }; slice-known3 = slice-known3 }; ends = ends' }; slice-known4 = slice-known4 }) × Path'._≡_ starts (Row.get 6 (T24 .locals) (m47 record { before = record { before = record { before = record { before = record { before = record { before = record { before = record { before = record { before = record { before = record { before = before·; match = match }; role = role }; known-told = known-told }; say-arg = say-arg }; say-arg2 = say-arg2 }; say-arg3 = say-arg3 }; say = say }; starts = starts' }; slice-known3 = slice-known3 }; ends = ends' }; slice-known4 = slice-known4 } (items' .given)) .now) × Path'._≡_ ends (Row.get 7 (T24 .locals) (m47 record { before = record { before = record { before = record { before = record { before = record { before = record { before = record { before = record { before = record { before = record { before = before·; match = match }; role = role }; known-told = known-told }; say-arg = say-arg }; say-arg2 = say-arg2 }; say-arg3 = say-arg3 }; say = say }; starts = starts' }; slice-known3 = slice-known3 }; ends = ends' }; slice-known4 = slice-known4 } (items' .given)) .now) × Path'._≡_ items (Row.get 9 (T24 .locals) (m47 record { before = record { before = record { before = record { before = record { before = record { before = record { before = record { before = record { before = record { before = record { before = before·; match = match }; role = role }; known-told = known-told }; say-arg = say-arg }; say-arg2 = say-arg2 }; say-arg3 = say-arg3 }; say = say }; starts = starts' }; slice-known3 = slice-known3 }; ends = ends' }; slice-known4 = slice-known4 } (items' .given)) .now) × Path'._≡_ expectations (Row.get 11 (T24 .locals) (m47 record { before = record { before = record { before = record { before = record { before = record { before = record { before = record { before = record { before = record { before = record { before = before·; match = match }; role = role }; known-told = known-told }; say-arg = say-arg }; say-arg2 = say-arg2 }; say-arg3 = say-arg3 }; say = say }; starts = starts' }; slice-known3 = slice-known3 }; ends = ends' }; slice-known4 = slice-known4 } (items' .given)) .now) × Path'._≡_ pairs (Row.get 16 (T24 .locals) (m47 record { before = record { before = record { before = record { before = record { before = record { before = record { before = record { before = record { before = record { before = record { before = before·; match = match }; role = role }; known-told = known-told }; say-arg = say-arg }; say-arg2 = say-arg2 }; say-arg3 = say-arg3 }; say = say }; starts = starts' }; slice-known3 = slice-known3 }; ends = ends' }; slice-known4 = slice-known4 } (items' .given))) × Path'._≡_ expects (Row.get 17 (T24 .locals) (m47 record { before = record { before = record { before = record { before = record { before = record { before = record { before = record { before = record { before = record { before = record { before = before·; match = match }; role = role }; known-told = known-told }; say-arg = say-arg }; say-arg2 = say-arg2 }; say-arg3 = say-arg3 }; say = say }; starts = starts' }; slice-known3 = slice-known3 }; ends = ends' }; slice-known4 = slice-known4 } (items' .given)))) (Logic._⊎_ ((match : At-match-keys3·own before·) × (role2 : After-role2·own record { before = before·; match = match }) × (known-told2 : After-known-told2·own record { before = record { before = before·; match = match }; role2 = role2 }) × (expectation-of : After-expectation-of·own record { before = record { before = record { before = before·; match = match }; role2 = role2 }; known-told2 = known-told2 }) × (put-expectation-arg : After-put-expectation-arg·own record { before = record { before = record { before = record { before = before·; match = match }; role2 = role2 }; known-told2 = known-told2 }; expectation-of = expectation-of }) × (put-expectation : After-put-expectation·own record { before = record { before = record { before = record { before = record { before = before·; match = match }; role2 = role2 }; known-told2 = known-told2 }; expectation-of = expectation-of }; put-expectation-arg = put-expectation-arg }) × (expectations' : After-expectations·own record { before = record { before = record { before = record { before = record { before = record { before = before·; match = match }; role2 = role2 }; known-told2 = known-told2 }; expectation-of = expectation-of }; put-expectation-arg = put-expectation-arg }; put-expectation = put-expectation }) × Path'._≡_ starts (Row.get 6 (T24 .locals) (m63 record { before = record { before = record { before = record { before = record { before = record { before = before·; match = match }; role2 = role2 }; known-told2 = known-told2 }; expectation-of = expectation-of }; put-expectation-arg = put-expectation-arg }; put-expectation = put-expectation } (expectations' .given)) .now) × Path'._≡_ ends (Row.get 7 (T24 .locals) (m63 record { before = record { before = record { before = record { before = record { before = record { before = before·; match = match }; role2 = role2 }; known-told2 = known-told2 }; expectation-of = expectation-of }; put-expectation-arg = put-expectation-arg }; put-expectation = put-expectation } (expectations' .given)) .now) × Path'._≡_ items (Row.get 9 (T24 .locals) (m63 record { before = record { before = record { before = record { before = record { before = record { before = before·; match = match }; role2 = role2 }; known-told2 = known-told2 }; expectation-of = expectation-of }; put-expectation-arg = put-expectation-arg }; put-expectation = put-expectation } (expectations' .given)) .now) × Path'._≡_ expectations (Row.get 11 (T24 .locals) (m63 record { before = record { before = record { before = record { before = record { before = record { before = before·; match = match }; role2 = role2 }; known-told2 = known-told2 }; expectation-of = expectation-of }; put-expectation-arg = put-expectation-arg }; put-expectation = put-expectation } (expectations' .given)) .now) × Path'._≡_ pairs (Row.get 16 (T24 .locals) (m63 record { before = record { before = record { before = record { before = record { before = record { before = before·; match = match }; role2 = role2 }; known-told2 = known-told2 }; expectation-of = expectation-of }; put-expectation-arg = put-expectation-arg }; put-expectation = put-expectation } (expectations' .given))) × Path'._≡_ expects (Row.get 17 (T24 .locals) (m63 record { before = record { before = record { before = record { before = record { before = record { before = before·; match = match }; role2 = role2 }; known-told2 = known-told2 }; expectation-of = expectation-of }; put-expectation-arg = put-expectation-arg }; put-expectation = put-expectation } (expectations' .given)))) ((match : At-match-keys5·own before·) × (enum-told2 : After-enum-told2·own record { before = before·; match = match }) × Path'._≡_ starts (Row.get 6 (T24 .locals) (m83 record { before = before·; match = match } (enum-told2 .given)) .now) × Path'._≡_ ends (Row.get 7 (T24 .locals) (m83 record { before = before·; match = match } (enum-told2 .given)) .now) × Path'._≡_ items (Row.get 9 (T24 .locals) (m83 record { before = before·; match = match } (enum-told2 .given)) .now) × Path'._≡_ expectations (Row.get 11 (T24 .locals) (m83 record { before = before·; match = match } (enum-told2 .given)) .now) × Path'._≡_ pairs (Row.get 16 (T24 .locals) (m83 record { before = before·; match = match } (enum-told2 .given))) × Path'._≡_ expects (Row.get 17 (T24 .locals) (m83 record { before = before·; match = match } (enum-told2 .given))))))
 
       pub record At-match-came : Type 0 where
         pub before : After-step
@@ -3209,32 +3209,32 @@ module _ (claims· : Claims) where
         lay12 = λ c. ((Path'.refl, (Path'.refl, (tt, (tt, (tt, (MutSlice.fix-len (Row.get 6 (T113 .locals) (m99 (c .before) (After-at-end·gave c)) .ptr) (Row.get 6 (T113 .locals) (m99 (c .before) (After-at-end·gave c)) .name) (Row.get 6 (T113 .locals) (m99 (c .before) (After-at-end·gave c)) .now) (dens (c .before .before .before .before .before .before .κs) (c .before .before .before .before .before .before .args) .1 .1 .1 .1 .1 .0 .now) (same-length-5 record { before = c .before; at-end = c .at-end }), (MutSlice.fix-len (Row.get 7 (T113 .locals) (m99 (c .before) (After-at-end·gave c)) .ptr) (Row.get 7 (T113 .locals) (m99 (c .before) (After-at-end·gave c)) .name) (Row.get 7 (T113 .locals) (m99 (c .before) (After-at-end·gave c)) .now) (dens (c .before .before .before .before .before .before .κs) (c .before .before .before .before .before .before .args) .1 .1 .1 .1 .1 .1 .0 .now) (same-length-6 record { before = c .before; at-end = c .at-end }), (tt, (MutSlice.fix-len (Row.get 9 (T113 .locals) (m99 (c .before) (After-at-end·gave c)) .ptr) (Row.get 9 (T113 .locals) (m99 (c .before) (After-at-end·gave c)) .name) (Row.get 9 (T113 .locals) (m99 (c .before) (After-at-end·gave c)) .now) (dens (c .before .before .before .before .before .before .κs) (c .before .before .before .before .before .before .args) .1 .1 .1 .1 .1 .1 .1 .1 .0 .now) (same-length-7 record { before = c .before; at-end = c .at-end }), (tt, (MutSlice.fix-len (Row.get 11 (T113 .locals) (m99 (c .before) (After-at-end·gave c)) .ptr) (Row.get 11 (T113 .locals) (m99 (c .before) (After-at-end·gave c)) .name) (Row.get 11 (T113 .locals) (m99 (c .before) (After-at-end·gave c)) .now) (dens (c .before .before .before .before .before .before .κs) (c .before .before .before .before .before .before .args) .1 .1 .1 .1 .1 .1 .1 .1 .1 .1 .0 .now) (same-length-8 record { before = c .before; at-end = c .at-end }), (tt, tt)))))))))))), returns-2 record { before = c .before; at-end = c .at-end })
 
         lay11 : (c : After-loop) → at110 (c .before .before .before .before .before .blocks) (W0 (c .before .before .before .before .before .κs) (c .before .before .before .before .before .args) (c .before .before .before .before .before .blocks)) (m16 (c .before))
-        lay11 = λ c. (at-end-requires record { before = c .before; loop-test = c .loop-test }, λ g. lay12 record { before = record { before = c .before; loop-test = c .loop-test }; at-end = Called.called ps·6 r·6 (claims· .13) T11 (Num.vAt 16 λ x. x, (Num.vAt 17 λ x. x, tt)) (m16 (c .before)) g; })
+        lay11 = λ c. (at-end-requires record { before = c .before; loop-test = c .loop-test }, λ g. lay12 record { before = record { before = c .before; loop-test = c .loop-test }; at-end = Called.called ps·6 r·6 (claims· .13) T11 (Num.vAt 16 λ x. x, (Num.vAt 17 λ x. x, tt)) (m16 (c .before)) g })
 
         lay10 : (c : After-same-place) → at87 (c .before .before .before .before .before .before .before .before .before .blocks) (W3 (c .before .before .before .before .before .before) (c .before .before .before .before .before .loop .starts) (c .before .before .before .before .before .loop .ends) (c .before .before .before .before .before .loop .items) (c .before .before .before .before .before .loop .expectations) (c .before .before .before .before .before .loop .w) (c .before .before .before .before .before .loop .at) (c .before .before .before .before .before .loop .number) (c .before .before .before .before .before .loop .pairs) (c .before .before .before .before .before .loop .expects)) (m85 (c .before) (After-same-place·gave c))
         lay10 = λ c. (add-number record { before = c .before; same-place = c .same-place }, (μ·0 (Row.get 1 (T10 .locals) (m9 (c .before .before .before .before .before .before .before) (c .before .before .before .before .before .before .slice-known2 .given)) .now) (Row.get 2 (T10 .locals) (m9 (c .before .before .before .before .before .before .before) (c .before .before .before .before .before .before .slice-known2 .given)) .now) (Row.get 3 (T10 .locals) (m9 (c .before .before .before .before .before .before .before) (c .before .before .before .before .before .before .slice-known2 .given))) (Row.get 4 (T10 .locals) (m9 (c .before .before .before .before .before .before .before) (c .before .before .before .before .before .before .slice-known2 .given))) (Row.get 6 (T10 .locals) (m9 (c .before .before .before .before .before .before .before) (c .before .before .before .before .before .before .slice-known2 .given)) .now) (Row.get 7 (T10 .locals) (m9 (c .before .before .before .before .before .before .before) (c .before .before .before .before .before .before .slice-known2 .given)) .now) (Row.get 8 (T10 .locals) (m9 (c .before .before .before .before .before .before .before) (c .before .before .before .before .before .before .slice-known2 .given))) (Row.get 9 (T10 .locals) (m9 (c .before .before .before .before .before .before .before) (c .before .before .before .before .before .before .slice-known2 .given)) .now) (Row.get 10 (T10 .locals) (m9 (c .before .before .before .before .before .before .before) (c .before .before .before .before .before .before .slice-known2 .given))) (Row.get 11 (T10 .locals) (m9 (c .before .before .before .before .before .before .before) (c .before .before .before .before .before .before .slice-known2 .given)) .now) (Row.get 12 (T10 .locals) (m9 (c .before .before .before .before .before .before .before) (c .before .before .before .before .before .before .slice-known2 .given))) (Row.get 13 (T10 .locals) (m9 (c .before .before .before .before .before .before .before) (c .before .before .before .before .before .before .slice-known2 .given))) (Row.get 14 (T10 .locals) (m9 (c .before .before .before .before .before .before .before) (c .before .before .before .before .before .before .slice-known2 .given))) (Row.get 15 (T10 .locals) (m9 (c .before .before .before .before .before .before .before) (c .before .before .before .before .before .before .slice-known2 .given))) (Row.get 16 (T10 .locals) (m9 (c .before .before .before .before .before .before .before) (c .before .before .before .before .before .before .slice-known2 .given))) (Row.get 17 (T10 .locals) (m9 (c .before .before .before .before .before .before .before) (c .before .before .before .before .before .before .slice-known2 .given))) (Row.get 6 (T10 .locals) (m89 (c .before) (After-same-place·gave c)) .now) (Row.get 7 (T10 .locals) (m89 (c .before) (After-same-place·gave c)) .now) (Row.get 9 (T10 .locals) (m89 (c .before) (After-same-place·gave c)) .now) (Row.get 11 (T10 .locals) (m89 (c .before) (After-same-place·gave c)) .now) (Row.get 13 (T10 .locals) (m89 (c .before) (After-same-place·gave c))) (Row.get 14 (T10 .locals) (m89 (c .before) (After-same-place·gave c))) (Row.get 15 (T10 .locals) (m89 (c .before) (After-same-place·gave c))) (Row.get 16 (T10 .locals) (m89 (c .before) (After-same-place·gave c))) (Row.get 17 (T10 .locals) (m89 (c .before) (After-same-place·gave c))), loop-less record { before = c .before; same-place = c .same-place }, ((Row.get 6 (T10 .locals) (m89 (c .before) (After-same-place·gave c)) .now, Row.get 7 (T10 .locals) (m89 (c .before) (After-same-place·gave c)) .now, Row.get 9 (T10 .locals) (m89 (c .before) (After-same-place·gave c)) .now, Row.get 11 (T10 .locals) (m89 (c .before) (After-same-place·gave c)) .now, Row.get 13 (T10 .locals) (m89 (c .before) (After-same-place·gave c)), Row.get 14 (T10 .locals) (m89 (c .before) (After-same-place·gave c)), Row.get 15 (T10 .locals) (m89 (c .before) (After-same-place·gave c)), Row.get 16 (T10 .locals) (m89 (c .before) (After-same-place·gave c)), Row.get 17 (T10 .locals) (m89 (c .before) (After-same-place·gave c))), Path'.refl {a = m89 (c .before) (After-same-place·gave c)}, loop-again record { before = c .before; same-place = c .same-place }, Path'.refl {a = μ·0 (Row.get 1 (T10 .locals) (m9 (c .before .before .before .before .before .before .before) (c .before .before .before .before .before .before .slice-known2 .given)) .now) (Row.get 2 (T10 .locals) (m9 (c .before .before .before .before .before .before .before) (c .before .before .before .before .before .before .slice-known2 .given)) .now) (Row.get 3 (T10 .locals) (m9 (c .before .before .before .before .before .before .before) (c .before .before .before .before .before .before .slice-known2 .given))) (Row.get 4 (T10 .locals) (m9 (c .before .before .before .before .before .before .before) (c .before .before .before .before .before .before .slice-known2 .given))) (Row.get 6 (T10 .locals) (m9 (c .before .before .before .before .before .before .before) (c .before .before .before .before .before .before .slice-known2 .given)) .now) (Row.get 7 (T10 .locals) (m9 (c .before .before .before .before .before .before .before) (c .before .before .before .before .before .before .slice-known2 .given)) .now) (Row.get 8 (T10 .locals) (m9 (c .before .before .before .before .before .before .before) (c .before .before .before .before .before .before .slice-known2 .given))) (Row.get 9 (T10 .locals) (m9 (c .before .before .before .before .before .before .before) (c .before .before .before .before .before .before .slice-known2 .given)) .now) (Row.get 10 (T10 .locals) (m9 (c .before .before .before .before .before .before .before) (c .before .before .before .before .before .before .slice-known2 .given))) (Row.get 11 (T10 .locals) (m9 (c .before .before .before .before .before .before .before) (c .before .before .before .before .before .before .slice-known2 .given)) .now) (Row.get 12 (T10 .locals) (m9 (c .before .before .before .before .before .before .before) (c .before .before .before .before .before .before .slice-known2 .given))) (Row.get 13 (T10 .locals) (m9 (c .before .before .before .before .before .before .before) (c .before .before .before .before .before .before .slice-known2 .given))) (Row.get 14 (T10 .locals) (m9 (c .before .before .before .before .before .before .before) (c .before .before .before .before .before .before .slice-known2 .given))) (Row.get 15 (T10 .locals) (m9 (c .before .before .before .before .before .before .before) (c .before .before .before .before .before .before .slice-known2 .given))) (Row.get 16 (T10 .locals) (m9 (c .before .before .before .before .before .before .before) (c .before .before .before .before .before .before .slice-known2 .given))) (Row.get 17 (T10 .locals) (m9 (c .before .before .before .before .before .before .before) (c .before .before .before .before .before .before .slice-known2 .given))) (Row.get 6 (T10 .locals) (m89 (c .before) (After-same-place·gave c)) .now) (Row.get 7 (T10 .locals) (m89 (c .before) (After-same-place·gave c)) .now) (Row.get 9 (T10 .locals) (m89 (c .before) (After-same-place·gave c)) .now) (Row.get 11 (T10 .locals) (m89 (c .before) (After-same-place·gave c)) .now) (Row.get 13 (T10 .locals) (m89 (c .before) (After-same-place·gave c))) (Row.get 14 (T10 .locals) (m89 (c .before) (After-same-place·gave c))) (Row.get 15 (T10 .locals) (m89 (c .before) (After-same-place·gave c))) (Row.get 16 (T10 .locals) (m89 (c .before) (After-same-place·gave c))) (Row.get 17 (T10 .locals) (m89 (c .before) (After-same-place·gave c)))})))
 
         lay9 : (c : At-match-came) → at88 (c .before .before .before .before .before .before .before .before .blocks) (W3 (c .before .before .before .before .before) (c .before .before .before .before .loop .starts) (c .before .before .before .before .loop .ends) (c .before .before .before .before .loop .items) (c .before .before .before .before .loop .expectations) (c .before .before .before .before .loop .w) (c .before .before .before .before .loop .at) (c .before .before .before .before .loop .number) (c .before .before .before .before .loop .pairs) (c .before .before .before .before .loop .expects)) (m84 (c .before) (c .match .starts) (c .match .ends) (c .match .items) (c .match .expectations) (c .match .pairs) (c .match .expects))
         unfolding at88
-        lay9 = λ c. (same-place-requires record { before = c .before; match = c .match }, λ g. lay10 record { before = record { before = c .before; match = c .match }; same-place = Called.called ps·5 r·5 (claims· .11) T24 (record { pos = 21; st = List.[]; d = 0; at = λ x. x }, tt) (m84 (c .before) (c .match .starts) (c .match .ends) (c .match .items) (c .match .expectations) (c .match .pairs) (c .match .expects)) g; })
+        lay9 = λ c. (same-place-requires record { before = c .before; match = c .match }, λ g. lay10 record { before = record { before = c .before; match = c .match }; same-place = Called.called ps·5 r·5 (claims· .11) T24 (record { pos = 21; st = List.[]; d = 0; at = λ x. x }, tt) (m84 (c .before) (c .match .starts) (c .match .ends) (c .match .items) (c .match .expectations) (c .match .pairs) (c .match .expects)) g })
 
         lay8 : (c : After-at-opening) → at72 (c .before .before .before .before .before .before .before .before .before .before .before .blocks) (W5 (c .before .before .before .before .before) (c .before .before .before .before .step .given)) (m68 (c .before) (After-at-opening·gave c))
         lay8 = λ c. ((Path'.refl, (Path'.refl, (tt, (tt, (tt, (MutSlice.fix-len (Row.get 6 (T95 .locals) (m80 (c .before) (After-at-opening·gave c)) .ptr) (Row.get 6 (T95 .locals) (m80 (c .before) (After-at-opening·gave c)) .name) (Row.get 6 (T95 .locals) (m80 (c .before) (After-at-opening·gave c)) .now) (dens (c .before .before .before .before .before .before .before .before .before .before .before .κs) (c .before .before .before .before .before .before .before .before .before .before .before .args) .1 .1 .1 .1 .1 .0 .now) (same-length record { before = c .before; at-opening = c .at-opening }), (MutSlice.fix-len (Row.get 7 (T95 .locals) (m80 (c .before) (After-at-opening·gave c)) .ptr) (Row.get 7 (T95 .locals) (m80 (c .before) (After-at-opening·gave c)) .name) (Row.get 7 (T95 .locals) (m80 (c .before) (After-at-opening·gave c)) .now) (dens (c .before .before .before .before .before .before .before .before .before .before .before .κs) (c .before .before .before .before .before .before .before .before .before .before .before .args) .1 .1 .1 .1 .1 .1 .0 .now) (same-length-2 record { before = c .before; at-opening = c .at-opening }), (tt, (MutSlice.fix-len (Row.get 9 (T95 .locals) (m80 (c .before) (After-at-opening·gave c)) .ptr) (Row.get 9 (T95 .locals) (m80 (c .before) (After-at-opening·gave c)) .name) (Row.get 9 (T95 .locals) (m80 (c .before) (After-at-opening·gave c)) .now) (dens (c .before .before .before .before .before .before .before .before .before .before .before .κs) (c .before .before .before .before .before .before .before .before .before .before .before .args) .1 .1 .1 .1 .1 .1 .1 .1 .0 .now) (same-length-3 record { before = c .before; at-opening = c .at-opening }), (tt, (MutSlice.fix-len (Row.get 11 (T95 .locals) (m80 (c .before) (After-at-opening·gave c)) .ptr) (Row.get 11 (T95 .locals) (m80 (c .before) (After-at-opening·gave c)) .name) (Row.get 11 (T95 .locals) (m80 (c .before) (After-at-opening·gave c)) .now) (dens (c .before .before .before .before .before .before .before .before .before .before .before .κs) (c .before .before .before .before .before .before .before .before .before .before .before .args) .1 .1 .1 .1 .1 .1 .1 .1 .1 .1 .0 .now) (same-length-4 record { before = c .before; at-opening = c .at-opening }), (tt, tt)))))))))))), returns record { before = c .before; at-opening = c .at-opening })
 
         lay7 : (c : After-put-expectation) → at47 (c .before .before .before .before .before .before .before .before .before .before .before .before .before .blocks) (W5 (c .before .before .before .before .before .before .before) (c .before .before .before .before .before .before .step .given)) (m58 (c .before) (After-put-expectation·gave c))
-        lay7 = λ c. (Path'.refl, λ g. (add-expects record { before = record { before = c .before; put-expectation = c .put-expectation }; expectations = record { given = g }; }, lay9 record { before = record { before = c .before .before .before .before .before .before .before; step = c .before .before .before .before .before .before .step; }; match = record { starts = Row.get 6 (T24 .locals) (m63 record { before = c .before; put-expectation = c .put-expectation; } g) .now; ends = Row.get 7 (T24 .locals) (m63 record { before = c .before; put-expectation = c .put-expectation; } g) .now; items = Row.get 9 (T24 .locals) (m63 record { before = c .before; put-expectation = c .put-expectation; } g) .now; expectations = Row.get 11 (T24 .locals) (m63 record { before = c .before; put-expectation = c .put-expectation; } g) .now; pairs = Row.get 16 (T24 .locals) (m63 record { before = c .before; put-expectation = c .put-expectation; } g); expects = Row.get 17 (T24 .locals) (m63 record { before = c .before; put-expectation = c .put-expectation; } g); came = Logic.inr (Logic.inr (Logic.inl (c .before .before .before .before .before .match, c .before .before .before .before .role2, c .before .before .before .known-told2, c .before .before .expectation-of, c .before .put-expectation-arg, c .put-expectation, record { given = g }, Path'.refl {a = Row.get 6 (T24 .locals) (m63 record { before = c .before; put-expectation = c .put-expectation; } g) .now}, Path'.refl {a = Row.get 7 (T24 .locals) (m63 record { before = c .before; put-expectation = c .put-expectation; } g) .now}, Path'.refl {a = Row.get 9 (T24 .locals) (m63 record { before = c .before; put-expectation = c .put-expectation; } g) .now}, Path'.refl {a = Row.get 11 (T24 .locals) (m63 record { before = c .before; put-expectation = c .put-expectation; } g) .now}, Path'.refl {a = Row.get 16 (T24 .locals) (m63 record { before = c .before; put-expectation = c .put-expectation; } g)}, Path'.refl {a = Row.get 17 (T24 .locals) (m63 record { before = c .before; put-expectation = c .put-expectation; } g)}))); }; }))
+        lay7 = λ c. (Path'.refl, λ g. (add-expects record { before = record { before = c .before; put-expectation = c .put-expectation }; expectations = record { given = g } }, lay9 record { before = record { before = c .before .before .before .before .before .before .before; step = c .before .before .before .before .before .before .step }; match = record { starts = Row.get 6 (T24 .locals) (m63 record { before = c .before; put-expectation = c .put-expectation } g) .now; ends = Row.get 7 (T24 .locals) (m63 record { before = c .before; put-expectation = c .put-expectation } g) .now; items = Row.get 9 (T24 .locals) (m63 record { before = c .before; put-expectation = c .put-expectation } g) .now; expectations = Row.get 11 (T24 .locals) (m63 record { before = c .before; put-expectation = c .put-expectation } g) .now; pairs = Row.get 16 (T24 .locals) (m63 record { before = c .before; put-expectation = c .put-expectation } g); expects = Row.get 17 (T24 .locals) (m63 record { before = c .before; put-expectation = c .put-expectation } g); came = Logic.inr (Logic.inr (Logic.inl (c .before .before .before .before .before .match, c .before .before .before .before .role2, c .before .before .before .known-told2, c .before .before .expectation-of, c .before .put-expectation-arg, c .put-expectation, record { given = g }, Path'.refl {a = Row.get 6 (T24 .locals) (m63 record { before = c .before; put-expectation = c .put-expectation } g) .now}, Path'.refl {a = Row.get 7 (T24 .locals) (m63 record { before = c .before; put-expectation = c .put-expectation } g) .now}, Path'.refl {a = Row.get 9 (T24 .locals) (m63 record { before = c .before; put-expectation = c .put-expectation } g) .now}, Path'.refl {a = Row.get 11 (T24 .locals) (m63 record { before = c .before; put-expectation = c .put-expectation } g) .now}, Path'.refl {a = Row.get 16 (T24 .locals) (m63 record { before = c .before; put-expectation = c .put-expectation } g)}, Path'.refl {a = Row.get 17 (T24 .locals) (m63 record { before = c .before; put-expectation = c .put-expectation } g)}))) } }))
 
         lay6 : (c : After-expectation-of) → at53 (c .before .before .before .before .before .before .before .before .before .before .before .blocks) (W5 (c .before .before .before .before .before) (c .before .before .before .before .step .given)) (m53 (c .before) (After-expectation-of·gave c))
-        lay6 = λ c. λ g. (Path'.refl, (add-put-expectation record { before = record { before = c .before; expectation-of = c .expectation-of }; put-expectation-arg = record { given = g }; }, (put-expectation-requires record { before = record { before = c .before; expectation-of = c .expectation-of }; put-expectation-arg = record { given = g }; }, λ g'. lay7 record { before = record { before = record { before = c .before; expectation-of = c .expectation-of }; put-expectation-arg = record { given = g }; }; put-expectation = Called.called ps·3 r·3 (claims· .7) T70 (record { pos = 38; ty = Syntax.tyRef Syntax.erased Syntax.mut ExpectationElem.behind; ref = λ x. x; }, (Num.vAt 39 λ x. x, (record { pos = 24; st = List.[]; d = 0; at = λ x. x }, tt))) (m57 record { before = c .before; expectation-of = c .expectation-of } g) g'; })))
+        lay6 = λ c. λ g. (Path'.refl, (add-put-expectation record { before = record { before = c .before; expectation-of = c .expectation-of }; put-expectation-arg = record { given = g } }, (put-expectation-requires record { before = record { before = c .before; expectation-of = c .expectation-of }; put-expectation-arg = record { given = g } }, λ g'. lay7 record { before = record { before = record { before = c .before; expectation-of = c .expectation-of }; put-expectation-arg = record { given = g } }; put-expectation = Called.called ps·3 r·3 (claims· .7) T70 (record { pos = 38; ty = Syntax.tyRef Syntax.erased Syntax.mut ExpectationElem.behind; ref = λ x. x }, (Num.vAt 39 λ x. x, (record { pos = 24; st = List.[]; d = 0; at = λ x. x }, tt))) (m57 record { before = c .before; expectation-of = c .expectation-of } g) g' })))
 
         lay5 : (c : After-say) → at24 (c .before .before .before .before .before .before .before .before .before .before .before .before .before .before .blocks) (W5 (c .before .before .before .before .before .before .before .before) (c .before .before .before .before .before .before .before .step .given)) (m38 (c .before) (After-say·gave c))
-        lay5 = λ c. (Path'.refl, λ g. λ g'. (Path'.refl, λ g''. λ g'3. (Path'.refl, λ g'4. (add-pairs record { before = record { before = record { before = record { before = record { before = record { before = c .before; say = c .say }; starts = record { given = g }; }; slice-known3 = record { given = g' }; }; ends = record { given = g'' }; }; slice-known4 = record { given = g'3 }; }; items = record { given = g'4 }; }, lay9 record { before = record { before = c .before .before .before .before .before .before .before .before; step = c .before .before .before .before .before .before .before .step; }; match = record { starts = Row.get 6 (T24 .locals) (m47 record { before = record { before = record { before = record { before = record { before = c .before; say = c .say }; starts = record { given = g }; }; slice-known3 = record { given = g' }; }; ends = record { given = g'' }; }; slice-known4 = record { given = g'3 }; } g'4) .now; ends = Row.get 7 (T24 .locals) (m47 record { before = record { before = record { before = record { before = record { before = c .before; say = c .say }; starts = record { given = g }; }; slice-known3 = record { given = g' }; }; ends = record { given = g'' }; }; slice-known4 = record { given = g'3 }; } g'4) .now; items = Row.get 9 (T24 .locals) (m47 record { before = record { before = record { before = record { before = record { before = c .before; say = c .say }; starts = record { given = g }; }; slice-known3 = record { given = g' }; }; ends = record { given = g'' }; }; slice-known4 = record { given = g'3 }; } g'4) .now; expectations = Row.get 11 (T24 .locals) (m47 record { before = record { before = record { before = record { before = record { before = c .before; say = c .say }; starts = record { given = g }; }; slice-known3 = record { given = g' }; }; ends = record { given = g'' }; }; slice-known4 = record { given = g'3 }; } g'4) .now; pairs = Row.get 16 (T24 .locals) (m47 record { before = record { before = record { before = record { before = record { before = c .before; say = c .say }; starts = record { given = g }; }; slice-known3 = record { given = g' }; }; ends = record { given = g'' }; }; slice-known4 = record { given = g'3 }; } g'4); expects = Row.get 17 (T24 .locals) (m47 record { before = record { before = record { before = record { before = record { before = c .before; say = c .say }; starts = record { given = g }; }; slice-known3 = record { given = g' }; }; ends = record { given = g'' }; }; slice-known4 = record { given = g'3 }; } g'4); came = Logic.inr (Logic.inl (c .before .before .before .before .before .before .match, c .before .before .before .before .before .role, c .before .before .before .before .known-told, c .before .before .before .say-arg, c .before .before .say-arg2, c .before .say-arg3, c .say, record { given = g }, record { given = g' }, record { given = g'' }, record { given = g'3 }, record { given = g'4 }, Path'.refl {a = Row.get 6 (T24 .locals) (m47 record { before = record { before = record { before = record { before = record { before = c .before; say = c .say }; starts = record { given = g }; }; slice-known3 = record { given = g' }; }; ends = record { given = g'' }; }; slice-known4 = record { given = g'3 }; } g'4) .now}, Path'.refl {a = Row.get 7 (T24 .locals) (m47 record { before = record { before = record { before = record { before = record { before = c .before; say = c .say }; starts = record { given = g }; }; slice-known3 = record { given = g' }; }; ends = record { given = g'' }; }; slice-known4 = record { given = g'3 }; } g'4) .now}, Path'.refl {a = Row.get 9 (T24 .locals) (m47 record { before = record { before = record { before = record { before = record { before = c .before; say = c .say }; starts = record { given = g }; }; slice-known3 = record { given = g' }; }; ends = record { given = g'' }; }; slice-known4 = record { given = g'3 }; } g'4) .now}, Path'.refl {a = Row.get 11 (T24 .locals) (m47 record { before = record { before = record { before = record { before = record { before = c .before; say = c .say }; starts = record { given = g }; }; slice-known3 = record { given = g' }; }; ends = record { given = g'' }; }; slice-known4 = record { given = g'3 }; } g'4) .now}, Path'.refl {a = Row.get 16 (T24 .locals) (m47 record { before = record { before = record { before = record { before = record { before = c .before; say = c .say }; starts = record { given = g }; }; slice-known3 = record { given = g' }; }; ends = record { given = g'' }; }; slice-known4 = record { given = g'3 }; } g'4)}, Path'.refl {a = Row.get 17 (T24 .locals) (m47 record { before = record { before = record { before = record { before = record { before = c .before; say = c .say }; starts = record { given = g }; }; slice-known3 = record { given = g' }; }; ends = record { given = g'' }; }; slice-known4 = record { given = g'3 }; } g'4)})); }; }))))
+        lay5 = λ c. (Path'.refl, λ g. λ g'. (Path'.refl, λ g''. λ g'3. (Path'.refl, λ g'4. (add-pairs record { before = record { before = record { before = record { before = record { before = record { before = c .before; say = c .say }; starts = record { given = g } }; slice-known3 = record { given = g' } }; ends = record { given = g'' } }; slice-known4 = record { given = g'3 } }; items = record { given = g'4 } }, lay9 record { before = record { before = c .before .before .before .before .before .before .before .before; step = c .before .before .before .before .before .before .before .step }; match = record { starts = Row.get 6 (T24 .locals) (m47 record { before = record { before = record { before = record { before = record { before = c .before; say = c .say }; starts = record { given = g } }; slice-known3 = record { given = g' } }; ends = record { given = g'' } }; slice-known4 = record { given = g'3 } } g'4) .now; ends = Row.get 7 (T24 .locals) (m47 record { before = record { before = record { before = record { before = record { before = c .before; say = c .say }; starts = record { given = g } }; slice-known3 = record { given = g' } }; ends = record { given = g'' } }; slice-known4 = record { given = g'3 } } g'4) .now; items = Row.get 9 (T24 .locals) (m47 record { before = record { before = record { before = record { before = record { before = c .before; say = c .say }; starts = record { given = g } }; slice-known3 = record { given = g' } }; ends = record { given = g'' } }; slice-known4 = record { given = g'3 } } g'4) .now; expectations = Row.get 11 (T24 .locals) (m47 record { before = record { before = record { before = record { before = record { before = c .before; say = c .say }; starts = record { given = g } }; slice-known3 = record { given = g' } }; ends = record { given = g'' } }; slice-known4 = record { given = g'3 } } g'4) .now; pairs = Row.get 16 (T24 .locals) (m47 record { before = record { before = record { before = record { before = record { before = c .before; say = c .say }; starts = record { given = g } }; slice-known3 = record { given = g' } }; ends = record { given = g'' } }; slice-known4 = record { given = g'3 } } g'4); expects = Row.get 17 (T24 .locals) (m47 record { before = record { before = record { before = record { before = record { before = c .before; say = c .say }; starts = record { given = g } }; slice-known3 = record { given = g' } }; ends = record { given = g'' } }; slice-known4 = record { given = g'3 } } g'4); came = Logic.inr (Logic.inl (c .before .before .before .before .before .before .match, c .before .before .before .before .before .role, c .before .before .before .before .known-told, c .before .before .before .say-arg, c .before .before .say-arg2, c .before .say-arg3, c .say, record { given = g }, record { given = g' }, record { given = g'' }, record { given = g'3 }, record { given = g'4 }, Path'.refl {a = Row.get 6 (T24 .locals) (m47 record { before = record { before = record { before = record { before = record { before = c .before; say = c .say }; starts = record { given = g } }; slice-known3 = record { given = g' } }; ends = record { given = g'' } }; slice-known4 = record { given = g'3 } } g'4) .now}, Path'.refl {a = Row.get 7 (T24 .locals) (m47 record { before = record { before = record { before = record { before = record { before = c .before; say = c .say }; starts = record { given = g } }; slice-known3 = record { given = g' } }; ends = record { given = g'' } }; slice-known4 = record { given = g'3 } } g'4) .now}, Path'.refl {a = Row.get 9 (T24 .locals) (m47 record { before = record { before = record { before = record { before = record { before = c .before; say = c .say }; starts = record { given = g } }; slice-known3 = record { given = g' } }; ends = record { given = g'' } }; slice-known4 = record { given = g'3 } } g'4) .now}, Path'.refl {a = Row.get 11 (T24 .locals) (m47 record { before = record { before = record { before = record { before = record { before = c .before; say = c .say }; starts = record { given = g } }; slice-known3 = record { given = g' } }; ends = record { given = g'' } }; slice-known4 = record { given = g'3 } } g'4) .now}, Path'.refl {a = Row.get 16 (T24 .locals) (m47 record { before = record { before = record { before = record { before = record { before = c .before; say = c .say }; starts = record { given = g } }; slice-known3 = record { given = g' } }; ends = record { given = g'' } }; slice-known4 = record { given = g'3 } } g'4)}, Path'.refl {a = Row.get 17 (T24 .locals) (m47 record { before = record { before = record { before = record { before = record { before = c .before; say = c .say }; starts = record { given = g } }; slice-known3 = record { given = g' } }; ends = record { given = g'' } }; slice-known4 = record { given = g'3 } } g'4)})) } }))))
 
         lay4 : (c : After-look) → at93 (c .before .before .before .before .before .before .blocks) (W3 (c .before .before .before) (c .before .before .loop .starts) (c .before .before .loop .ends) (c .before .before .loop .items) (c .before .before .loop .expectations) (c .before .before .loop .w) (c .before .before .loop .at) (c .before .before .loop .number) (c .before .before .loop .pairs) (c .before .before .loop .expects)) (m17 (c .before) (After-look·gave c))
-        lay4 = λ c. (tt, λ g. (λ k. (enum-told record { before = record { before = record { before = c .before; look = c .look }; step = record { given = g }; }; match = record { keys1 = k }; }, λ g'. lay9 record { before = record { before = record { before = c .before; look = c .look }; step = record { given = g }; }; match = record { starts = Row.get 6 (T24 .locals) (m25 record { before = record { before = record { before = c .before; look = c .look }; step = record { given = g }; }; match = record { keys1 = k }; } g') .now; ends = Row.get 7 (T24 .locals) (m25 record { before = record { before = record { before = c .before; look = c .look }; step = record { given = g }; }; match = record { keys1 = k }; } g') .now; items = Row.get 9 (T24 .locals) (m25 record { before = record { before = record { before = c .before; look = c .look }; step = record { given = g }; }; match = record { keys1 = k }; } g') .now; expectations = Row.get 11 (T24 .locals) (m25 record { before = record { before = record { before = c .before; look = c .look }; step = record { given = g }; }; match = record { keys1 = k }; } g') .now; pairs = Row.get 16 (T24 .locals) (m25 record { before = record { before = record { before = c .before; look = c .look }; step = record { given = g }; }; match = record { keys1 = k }; } g'); expects = Row.get 17 (T24 .locals) (m25 record { before = record { before = record { before = c .before; look = c .look }; step = record { given = g }; }; match = record { keys1 = k }; } g'); came = Logic.inl (record { keys1 = k }, record { given = g' }, Path'.refl {a = Row.get 6 (T24 .locals) (m25 record { before = record { before = record { before = c .before; look = c .look }; step = record { given = g }; }; match = record { keys1 = k }; } g') .now}, Path'.refl {a = Row.get 7 (T24 .locals) (m25 record { before = record { before = record { before = c .before; look = c .look }; step = record { given = g }; }; match = record { keys1 = k }; } g') .now}, Path'.refl {a = Row.get 9 (T24 .locals) (m25 record { before = record { before = record { before = c .before; look = c .look }; step = record { given = g }; }; match = record { keys1 = k }; } g') .now}, Path'.refl {a = Row.get 11 (T24 .locals) (m25 record { before = record { before = record { before = c .before; look = c .look }; step = record { given = g }; }; match = record { keys1 = k }; } g') .now}, Path'.refl {a = Row.get 16 (T24 .locals) (m25 record { before = record { before = record { before = c .before; look = c .look }; step = record { given = g }; }; match = record { keys1 = k }; } g')}, Path'.refl {a = Row.get 17 (T24 .locals) (m25 record { before = record { before = record { before = c .before; look = c .look }; step = record { given = g }; }; match = record { keys1 = k }; } g')}); }; }), (λ k. (enum-known-role record { before = record { before = record { before = c .before; look = c .look }; step = record { given = g }; }; match = record { keys2 = k }; }, λ g''. λ g'3. λ g'4. (Path'.refl, λ g'5. (Path'.refl, λ g'6. (Path'.refl, (add-say record { before = record { before = record { before = record { before = record { before = record { before = record { before = record { before = c .before; look = c .look }; step = record { given = g }; }; match = record { keys2 = k }; }; role = record { given = g'' }; }; known-told = record { given = g'3 }; }; say-arg = record { given = g'4 }; }; say-arg2 = record { given = g'5 }; }; say-arg3 = record { given = g'6 }; }, (say-requires record { before = record { before = record { before = record { before = record { before = record { before = record { before = record { before = c .before; look = c .look }; step = record { given = g }; }; match = record { keys2 = k }; }; role = record { given = g'' }; }; known-told = record { given = g'3 }; }; say-arg = record { given = g'4 }; }; say-arg2 = record { given = g'5 }; }; say-arg3 = record { given = g'6 }; }, λ g'7. lay5 record { before = record { before = record { before = record { before = record { before = record { before = record { before = record { before = record { before = c .before; look = c .look }; step = record { given = g }; }; match = record { keys2 = k }; }; role = record { given = g'' }; }; known-told = record { given = g'3 }; }; say-arg = record { given = g'4 }; }; say-arg2 = record { given = g'5 }; }; say-arg3 = record { given = g'6 }; }; say = Called.called ps·1 r·1 (claims· .3) T43 (record { pos = 22; st = List.[]; d = 0; at = λ x. x }, (record { pos = 30; ty = Syntax.tyRef Syntax.erased Syntax.mut (Syntax.tyInt Syntax.w64); ref = λ x. x; }, (record { pos = 32; ty = Syntax.tyRef Syntax.erased Syntax.mut (Syntax.tyInt Syntax.w64); ref = λ x. x; }, (Bool.bAt 8 λ x. x, (record { pos = 34; ty = Syntax.tyRef Syntax.erased Syntax.mut (Syntax.tyArray (Syntax.tyInt Syntax.w64) 2); ref = λ x. x; }, (Num.vAt 35 λ x. x, tt)))))) (m37 record { before = record { before = record { before = record { before = record { before = record { before = record { before = c .before; look = c .look }; step = record { given = g }; }; match = record { keys2 = k }; }; role = record { given = g'' }; }; known-told = record { given = g'3 }; }; say-arg = record { given = g'4 }; }; say-arg2 = record { given = g'5 }; } g'6) g'7; })))))), (λ k. (enum-known-role-2 record { before = record { before = record { before = c .before; look = c .look }; step = record { given = g }; }; match = record { keys3 = k }; }, λ g'8. λ g'9. (expectation-of-requires record { before = record { before = record { before = record { before = record { before = c .before; look = c .look }; step = record { given = g }; }; match = record { keys3 = k }; }; role2 = record { given = g'8 }; }; known-told2 = record { given = g'9 }; }, λ g'10. lay6 record { before = record { before = record { before = record { before = record { before = record { before = c .before; look = c .look }; step = record { given = g }; }; match = record { keys3 = k }; }; role2 = record { given = g'8 }; }; known-told2 = record { given = g'9 }; }; expectation-of = Called.called ps·2 r·2 (claims· .5) T64 (Num.vAt 15 λ x. x, (record { pos = 23; st = List.[]; d = 0; at = λ x. x }, tt)) (m52 record { before = record { before = record { before = record { before = c .before; look = c .look }; step = record { given = g }; }; match = record { keys3 = k }; }; role2 = record { given = g'8 }; } g'9) g'10; })), (λ k. (enum-known-role-3 record { before = record { before = record { before = c .before; look = c .look }; step = record { given = g }; }; match = record { keys4 = k }; }, λ g'11. λ g'12. (at-opening-requires record { before = record { before = record { before = record { before = record { before = c .before; look = c .look }; step = record { given = g }; }; match = record { keys4 = k }; }; role3 = record { given = g'11 }; }; known-told3 = record { given = g'12 }; }, λ g'13. lay8 record { before = record { before = record { before = record { before = record { before = record { before = c .before; look = c .look }; step = record { given = g }; }; match = record { keys4 = k }; }; role3 = record { given = g'11 }; }; known-told3 = record { given = g'12 }; }; at-opening = Called.called ps·4 r·4 (claims· .9) T82 (Num.vAt 16 λ x. x, (Num.vAt 17 λ x. x, (Num.vAt 15 λ x. x, (record { pos = 25; st = List.[]; d = 0; at = λ x. x }, (Num.vFld 18 (List._∷_ (Syntax.field 1) List.[]) 72 λ x. Turn.struct .as-values x .1 .0, (record { pos = 21; st = List.[]; d = 0; at = λ x. x }, tt)))))) (m67 record { before = record { before = record { before = record { before = c .before; look = c .look }; step = record { given = g }; }; match = record { keys4 = k }; }; role3 = record { given = g'11 }; } g'12) g'13; })), (λ k. (enum-told-2 record { before = record { before = record { before = c .before; look = c .look }; step = record { given = g }; }; match = record { keys5 = k }; }, λ g'14. lay9 record { before = record { before = record { before = c .before; look = c .look }; step = record { given = g }; }; match = record { starts = Row.get 6 (T24 .locals) (m83 record { before = record { before = record { before = c .before; look = c .look }; step = record { given = g }; }; match = record { keys5 = k }; } g'14) .now; ends = Row.get 7 (T24 .locals) (m83 record { before = record { before = record { before = c .before; look = c .look }; step = record { given = g }; }; match = record { keys5 = k }; } g'14) .now; items = Row.get 9 (T24 .locals) (m83 record { before = record { before = record { before = c .before; look = c .look }; step = record { given = g }; }; match = record { keys5 = k }; } g'14) .now; expectations = Row.get 11 (T24 .locals) (m83 record { before = record { before = record { before = c .before; look = c .look }; step = record { given = g }; }; match = record { keys5 = k }; } g'14) .now; pairs = Row.get 16 (T24 .locals) (m83 record { before = record { before = record { before = c .before; look = c .look }; step = record { given = g }; }; match = record { keys5 = k }; } g'14); expects = Row.get 17 (T24 .locals) (m83 record { before = record { before = record { before = c .before; look = c .look }; step = record { given = g }; }; match = record { keys5 = k }; } g'14); came = Logic.inr (Logic.inr (Logic.inr (record { keys5 = k }, record { given = g'14 }, Path'.refl {a = Row.get 6 (T24 .locals) (m83 record { before = record { before = record { before = c .before; look = c .look }; step = record { given = g }; }; match = record { keys5 = k }; } g'14) .now}, Path'.refl {a = Row.get 7 (T24 .locals) (m83 record { before = record { before = record { before = c .before; look = c .look }; step = record { given = g }; }; match = record { keys5 = k }; } g'14) .now}, Path'.refl {a = Row.get 9 (T24 .locals) (m83 record { before = record { before = record { before = c .before; look = c .look }; step = record { given = g }; }; match = record { keys5 = k }; } g'14) .now}, Path'.refl {a = Row.get 11 (T24 .locals) (m83 record { before = record { before = record { before = c .before; look = c .look }; step = record { given = g }; }; match = record { keys5 = k }; } g'14) .now}, Path'.refl {a = Row.get 16 (T24 .locals) (m83 record { before = record { before = record { before = c .before; look = c .look }; step = record { given = g }; }; match = record { keys5 = k }; } g'14)}, Path'.refl {a = Row.get 17 (T24 .locals) (m83 record { before = record { before = record { before = c .before; look = c .look }; step = record { given = g }; }; match = record { keys5 = k }; } g'14)}))); }; }), Match.each-below 5 (λ j. ((((Unit {0} × (Run.OneOf (List._∷_ 0 List.[]) j → ⊥)) × (Run.OneOf (List._∷_ 1 List.[]) j → ⊥)) × (Run.OneOf (List._∷_ 2 List.[]) j → ⊥)) × (Run.OneOf (List._∷_ 3 List.[]) j → ⊥)) × (Run.OneOf (List._∷_ 4 List.[]) j → ⊥) → ⊥) (λ n. n .1 Path'.refl, (λ n. n .0 .1 Path'.refl, (λ n. n .0 .0 .1 Path'.refl, (λ n. n .0 .0 .0 .1 Path'.refl, (λ n. n .0 .0 .0 .0 .1 Path'.refl, tt))))) (Declared.tagOf Role.the-type (Row.get 20 (T25 .locals) (m22 record { before = c .before; look = c .look; } g))) (Match.tag-small Role.the-type (Row.get 20 (T25 .locals) (m22 record { before = c .before; look = c .look; } g)))))))))
+        lay4 = λ c. (tt, λ g. (λ k. (enum-told record { before = record { before = record { before = c .before; look = c .look }; step = record { given = g } }; match = record { keys1 = k } }, λ g'. lay9 record { before = record { before = record { before = c .before; look = c .look }; step = record { given = g } }; match = record { starts = Row.get 6 (T24 .locals) (m25 record { before = record { before = record { before = c .before; look = c .look }; step = record { given = g } }; match = record { keys1 = k } } g') .now; ends = Row.get 7 (T24 .locals) (m25 record { before = record { before = record { before = c .before; look = c .look }; step = record { given = g } }; match = record { keys1 = k } } g') .now; items = Row.get 9 (T24 .locals) (m25 record { before = record { before = record { before = c .before; look = c .look }; step = record { given = g } }; match = record { keys1 = k } } g') .now; expectations = Row.get 11 (T24 .locals) (m25 record { before = record { before = record { before = c .before; look = c .look }; step = record { given = g } }; match = record { keys1 = k } } g') .now; pairs = Row.get 16 (T24 .locals) (m25 record { before = record { before = record { before = c .before; look = c .look }; step = record { given = g } }; match = record { keys1 = k } } g'); expects = Row.get 17 (T24 .locals) (m25 record { before = record { before = record { before = c .before; look = c .look }; step = record { given = g } }; match = record { keys1 = k } } g'); came = Logic.inl (record { keys1 = k }, record { given = g' }, Path'.refl {a = Row.get 6 (T24 .locals) (m25 record { before = record { before = record { before = c .before; look = c .look }; step = record { given = g } }; match = record { keys1 = k } } g') .now}, Path'.refl {a = Row.get 7 (T24 .locals) (m25 record { before = record { before = record { before = c .before; look = c .look }; step = record { given = g } }; match = record { keys1 = k } } g') .now}, Path'.refl {a = Row.get 9 (T24 .locals) (m25 record { before = record { before = record { before = c .before; look = c .look }; step = record { given = g } }; match = record { keys1 = k } } g') .now}, Path'.refl {a = Row.get 11 (T24 .locals) (m25 record { before = record { before = record { before = c .before; look = c .look }; step = record { given = g } }; match = record { keys1 = k } } g') .now}, Path'.refl {a = Row.get 16 (T24 .locals) (m25 record { before = record { before = record { before = c .before; look = c .look }; step = record { given = g } }; match = record { keys1 = k } } g')}, Path'.refl {a = Row.get 17 (T24 .locals) (m25 record { before = record { before = record { before = c .before; look = c .look }; step = record { given = g } }; match = record { keys1 = k } } g')}) } }), (λ k. (enum-known-role record { before = record { before = record { before = c .before; look = c .look }; step = record { given = g } }; match = record { keys2 = k } }, λ g''. λ g'3. λ g'4. (Path'.refl, λ g'5. (Path'.refl, λ g'6. (Path'.refl, (add-say record { before = record { before = record { before = record { before = record { before = record { before = record { before = record { before = c .before; look = c .look }; step = record { given = g } }; match = record { keys2 = k } }; role = record { given = g'' } }; known-told = record { given = g'3 } }; say-arg = record { given = g'4 } }; say-arg2 = record { given = g'5 } }; say-arg3 = record { given = g'6 } }, (say-requires record { before = record { before = record { before = record { before = record { before = record { before = record { before = record { before = c .before; look = c .look }; step = record { given = g } }; match = record { keys2 = k } }; role = record { given = g'' } }; known-told = record { given = g'3 } }; say-arg = record { given = g'4 } }; say-arg2 = record { given = g'5 } }; say-arg3 = record { given = g'6 } }, λ g'7. lay5 record { before = record { before = record { before = record { before = record { before = record { before = record { before = record { before = record { before = c .before; look = c .look }; step = record { given = g } }; match = record { keys2 = k } }; role = record { given = g'' } }; known-told = record { given = g'3 } }; say-arg = record { given = g'4 } }; say-arg2 = record { given = g'5 } }; say-arg3 = record { given = g'6 } }; say = Called.called ps·1 r·1 (claims· .3) T43 (record { pos = 22; st = List.[]; d = 0; at = λ x. x }, (record { pos = 30; ty = Syntax.tyRef Syntax.erased Syntax.mut (Syntax.tyInt Syntax.w64); ref = λ x. x }, (record { pos = 32; ty = Syntax.tyRef Syntax.erased Syntax.mut (Syntax.tyInt Syntax.w64); ref = λ x. x }, (Bool.bAt 8 λ x. x, (record { pos = 34; ty = Syntax.tyRef Syntax.erased Syntax.mut (Syntax.tyArray (Syntax.tyInt Syntax.w64) 2); ref = λ x. x }, (Num.vAt 35 λ x. x, tt)))))) (m37 record { before = record { before = record { before = record { before = record { before = record { before = record { before = c .before; look = c .look }; step = record { given = g } }; match = record { keys2 = k } }; role = record { given = g'' } }; known-told = record { given = g'3 } }; say-arg = record { given = g'4 } }; say-arg2 = record { given = g'5 } } g'6) g'7 })))))), (λ k. (enum-known-role-2 record { before = record { before = record { before = c .before; look = c .look }; step = record { given = g } }; match = record { keys3 = k } }, λ g'8. λ g'9. (expectation-of-requires record { before = record { before = record { before = record { before = record { before = c .before; look = c .look }; step = record { given = g } }; match = record { keys3 = k } }; role2 = record { given = g'8 } }; known-told2 = record { given = g'9 } }, λ g'10. lay6 record { before = record { before = record { before = record { before = record { before = record { before = c .before; look = c .look }; step = record { given = g } }; match = record { keys3 = k } }; role2 = record { given = g'8 } }; known-told2 = record { given = g'9 } }; expectation-of = Called.called ps·2 r·2 (claims· .5) T64 (Num.vAt 15 λ x. x, (record { pos = 23; st = List.[]; d = 0; at = λ x. x }, tt)) (m52 record { before = record { before = record { before = record { before = c .before; look = c .look }; step = record { given = g } }; match = record { keys3 = k } }; role2 = record { given = g'8 } } g'9) g'10 })), (λ k. (enum-known-role-3 record { before = record { before = record { before = c .before; look = c .look }; step = record { given = g } }; match = record { keys4 = k } }, λ g'11. λ g'12. (at-opening-requires record { before = record { before = record { before = record { before = record { before = c .before; look = c .look }; step = record { given = g } }; match = record { keys4 = k } }; role3 = record { given = g'11 } }; known-told3 = record { given = g'12 } }, λ g'13. lay8 record { before = record { before = record { before = record { before = record { before = record { before = c .before; look = c .look }; step = record { given = g } }; match = record { keys4 = k } }; role3 = record { given = g'11 } }; known-told3 = record { given = g'12 } }; at-opening = Called.called ps·4 r·4 (claims· .9) T82 (Num.vAt 16 λ x. x, (Num.vAt 17 λ x. x, (Num.vAt 15 λ x. x, (record { pos = 25; st = List.[]; d = 0; at = λ x. x }, (Num.vFld 18 (List._∷_ (Syntax.field 1) List.[]) 72 λ x. Turn.struct .as-values x .1 .0, (record { pos = 21; st = List.[]; d = 0; at = λ x. x }, tt)))))) (m67 record { before = record { before = record { before = record { before = c .before; look = c .look }; step = record { given = g } }; match = record { keys4 = k } }; role3 = record { given = g'11 } } g'12) g'13 })), (λ k. (enum-told-2 record { before = record { before = record { before = c .before; look = c .look }; step = record { given = g } }; match = record { keys5 = k } }, λ g'14. lay9 record { before = record { before = record { before = c .before; look = c .look }; step = record { given = g } }; match = record { starts = Row.get 6 (T24 .locals) (m83 record { before = record { before = record { before = c .before; look = c .look }; step = record { given = g } }; match = record { keys5 = k } } g'14) .now; ends = Row.get 7 (T24 .locals) (m83 record { before = record { before = record { before = c .before; look = c .look }; step = record { given = g } }; match = record { keys5 = k } } g'14) .now; items = Row.get 9 (T24 .locals) (m83 record { before = record { before = record { before = c .before; look = c .look }; step = record { given = g } }; match = record { keys5 = k } } g'14) .now; expectations = Row.get 11 (T24 .locals) (m83 record { before = record { before = record { before = c .before; look = c .look }; step = record { given = g } }; match = record { keys5 = k } } g'14) .now; pairs = Row.get 16 (T24 .locals) (m83 record { before = record { before = record { before = c .before; look = c .look }; step = record { given = g } }; match = record { keys5 = k } } g'14); expects = Row.get 17 (T24 .locals) (m83 record { before = record { before = record { before = c .before; look = c .look }; step = record { given = g } }; match = record { keys5 = k } } g'14); came = Logic.inr (Logic.inr (Logic.inr (record { keys5 = k }, record { given = g'14 }, Path'.refl {a = Row.get 6 (T24 .locals) (m83 record { before = record { before = record { before = c .before; look = c .look }; step = record { given = g } }; match = record { keys5 = k } } g'14) .now}, Path'.refl {a = Row.get 7 (T24 .locals) (m83 record { before = record { before = record { before = c .before; look = c .look }; step = record { given = g } }; match = record { keys5 = k } } g'14) .now}, Path'.refl {a = Row.get 9 (T24 .locals) (m83 record { before = record { before = record { before = c .before; look = c .look }; step = record { given = g } }; match = record { keys5 = k } } g'14) .now}, Path'.refl {a = Row.get 11 (T24 .locals) (m83 record { before = record { before = record { before = c .before; look = c .look }; step = record { given = g } }; match = record { keys5 = k } } g'14) .now}, Path'.refl {a = Row.get 16 (T24 .locals) (m83 record { before = record { before = record { before = c .before; look = c .look }; step = record { given = g } }; match = record { keys5 = k } } g'14)}, Path'.refl {a = Row.get 17 (T24 .locals) (m83 record { before = record { before = record { before = c .before; look = c .look }; step = record { given = g } }; match = record { keys5 = k } } g'14)}))) } }), Match.each-below 5 (λ j. ((((Unit {0} × (Run.OneOf (List._∷_ 0 List.[]) j → ⊥)) × (Run.OneOf (List._∷_ 1 List.[]) j → ⊥)) × (Run.OneOf (List._∷_ 2 List.[]) j → ⊥)) × (Run.OneOf (List._∷_ 3 List.[]) j → ⊥)) × (Run.OneOf (List._∷_ 4 List.[]) j → ⊥) → ⊥) (λ n. n .1 Path'.refl, (λ n. n .0 .1 Path'.refl, (λ n. n .0 .0 .1 Path'.refl, (λ n. n .0 .0 .0 .1 Path'.refl, (λ n. n .0 .0 .0 .0 .1 Path'.refl, tt))))) (Declared.tagOf Role.the-type (Row.get 20 (T25 .locals) (m22 record { before = c .before; look = c .look } g))) (Match.tag-small Role.the-type (Row.get 20 (T25 .locals) (m22 record { before = c .before; look = c .look } g)))))))))
 
         lay3 : (c : In-loop) → at94 (c .before .before .before .before .before .blocks) (W3 (c .before .before) (c .before .loop .starts) (c .before .loop .ends) (c .before .loop .items) (c .before .loop .expectations) (c .before .loop .w) (c .before .loop .at) (c .before .loop .number) (c .before .loop .pairs) (c .before .loop .expects)) (m14 (c .before))
-        lay3 = λ c. (look-requires record { before = c .before; loop-test = c .loop-test }, λ g. lay4 record { before = record { before = c .before; loop-test = c .loop-test }; look = Called.called ps·0 r·0 (claims· .1) T14 (record { pos = 1; ty = Syntax.tyRef (Syntax.named 0) Syntax.imm (Syntax.tyInt Syntax.w8); ref = λ x. x; }, (record { pos = 2; ty = Syntax.tyRef (Syntax.named 1) Syntax.imm KeptElem.behind; ref = λ x. x; }, (record { pos = 13; st = List.[]; d = 0; at = λ x. x }, (Num.vAt 14 λ x. x, (Num.vAt 15 λ x. x, tt))))) (m14 (c .before)) g; })
+        lay3 = λ c. (look-requires record { before = c .before; loop-test = c .loop-test }, λ g. lay4 record { before = record { before = c .before; loop-test = c .loop-test }; look = Called.called ps·0 r·0 (claims· .1) T14 (record { pos = 1; ty = Syntax.tyRef (Syntax.named 0) Syntax.imm (Syntax.tyInt Syntax.w8); ref = λ x. x }, (record { pos = 2; ty = Syntax.tyRef (Syntax.named 1) Syntax.imm KeptElem.behind; ref = λ x. x }, (record { pos = 13; st = List.[]; d = 0; at = λ x. x }, (Num.vAt 14 λ x. x, (Num.vAt 15 λ x. x, tt))))) (m14 (c .before)) g })
 
         lay2 : (c : After-loop) → at4 (c .before .before .before .before .before .blocks) (W4 (c .before .before) (c .before .loop .starts) (c .before .loop .ends) (c .before .loop .items) (c .before .loop .expectations) (c .before .loop .w) (c .before .loop .at) (c .before .loop .number) (c .before .loop .pairs) (c .before .loop .expects)) (m13 (c .before .before) (c .before .loop .starts) (c .before .loop .ends) (c .before .loop .items) (c .before .loop .expectations) (c .before .loop .w) (c .before .loop .at) (c .before .loop .number) (c .before .loop .pairs) (c .before .loop .expects))
         lay2 = λ c. lay11 record { before = c .before; loop-test = c .loop-test }
@@ -3243,11 +3243,11 @@ module _ (claims· : Claims) where
         lay1 = λ c. lay3 record { before = c .before; loop-test = c .loop-test }
 
         pub laid : (c : Start) → at120 (c .blocks) (W0 (c .κs) (c .args) (c .blocks)) (m0 (c .κs) (c .args) (c .blocks))
-        laid = λ c. λ g. λ g'. λ g''. (((Row.get 6 (T10 .locals) (m9 record { before = record { before = c; shared-slice-known = record { given = g } }; slice-known = record { given = g' }; } g'') .now, Row.get 7 (T10 .locals) (m9 record { before = record { before = c; shared-slice-known = record { given = g } }; slice-known = record { given = g' }; } g'') .now, Row.get 9 (T10 .locals) (m9 record { before = record { before = c; shared-slice-known = record { given = g } }; slice-known = record { given = g' }; } g'') .now, Row.get 11 (T10 .locals) (m9 record { before = record { before = c; shared-slice-known = record { given = g } }; slice-known = record { given = g' }; } g'') .now, Row.get 13 (T10 .locals) (m9 record { before = record { before = c; shared-slice-known = record { given = g } }; slice-known = record { given = g' }; } g''), Row.get 14 (T10 .locals) (m9 record { before = record { before = c; shared-slice-known = record { given = g } }; slice-known = record { given = g' }; } g''), Row.get 15 (T10 .locals) (m9 record { before = record { before = c; shared-slice-known = record { given = g } }; slice-known = record { given = g' }; } g''), Row.get 16 (T10 .locals) (m9 record { before = record { before = c; shared-slice-known = record { given = g } }; slice-known = record { given = g' }; } g''), Row.get 17 (T10 .locals) (m9 record { before = record { before = c; shared-slice-known = record { given = g } }; slice-known = record { given = g' }; } g'')), Path'.refl {a = m9 record { before = record { before = c; shared-slice-known = record { given = g } }; slice-known = record { given = g' }; } g''}, loop-holds record { before = record { before = record { before = c; shared-slice-known = record { given = g } }; slice-known = record { given = g' }; }; slice-known2 = record { given = g'' }; }), λ vs inv. (tt, (λ taken. lay1 record { before = record { before = record { before = record { before = record { before = c; shared-slice-known = record { given = g } }; slice-known = record { given = g' }; }; slice-known2 = record { given = g'' }; }; loop = record { starts = vs .0; ends = vs .1; items = vs .2; expectations = vs .3; w = vs .4; at = vs .5; number = vs .6; pairs = vs .7; expects = vs .8; inv = inv; }; }; loop-test = record { taken = Tests.ltb-true (Row.get 14 (T12 .locals) (m11 record { before = record { before = record { before = c; shared-slice-known = record { given = g } }; slice-known = record { given = g' }; }; slice-known2 = record { given = g'' }; } (vs .0) (vs .1) (vs .2) (vs .3) (vs .4) (vs .5) (vs .6) (vs .7) (vs .8))) (Row.get 26 (T12 .locals) (m11 record { before = record { before = record { before = c; shared-slice-known = record { given = g }; }; slice-known = record { given = g' }; }; slice-known2 = record { given = g'' }; } (vs .0) (vs .1) (vs .2) (vs .3) (vs .4) (vs .5) (vs .6) (vs .7) (vs .8))) taken; }; }, λ left. lay2 record { before = record { before = record { before = record { before = record { before = c; shared-slice-known = record { given = g } }; slice-known = record { given = g' }; }; slice-known2 = record { given = g'' }; }; loop = record { starts = vs .0; ends = vs .1; items = vs .2; expectations = vs .3; w = vs .4; at = vs .5; number = vs .6; pairs = vs .7; expects = vs .8; inv = inv; }; }; loop-test = record { left = Tests.ltb-false (Row.get 14 (T12 .locals) (m11 record { before = record { before = record { before = c; shared-slice-known = record { given = g } }; slice-known = record { given = g' }; }; slice-known2 = record { given = g'' }; } (vs .0) (vs .1) (vs .2) (vs .3) (vs .4) (vs .5) (vs .6) (vs .7) (vs .8))) (Row.get 26 (T12 .locals) (m11 record { before = record { before = record { before = c; shared-slice-known = record { given = g }; }; slice-known = record { given = g' }; }; slice-known2 = record { given = g'' }; } (vs .0) (vs .1) (vs .2) (vs .3) (vs .4) (vs .5) (vs .6) (vs .7) (vs .8))) left; }; })))
+        laid = λ c. λ g. λ g'. λ g''. (((Row.get 6 (T10 .locals) (m9 record { before = record { before = c; shared-slice-known = record { given = g } }; slice-known = record { given = g' } } g'') .now, Row.get 7 (T10 .locals) (m9 record { before = record { before = c; shared-slice-known = record { given = g } }; slice-known = record { given = g' } } g'') .now, Row.get 9 (T10 .locals) (m9 record { before = record { before = c; shared-slice-known = record { given = g } }; slice-known = record { given = g' } } g'') .now, Row.get 11 (T10 .locals) (m9 record { before = record { before = c; shared-slice-known = record { given = g } }; slice-known = record { given = g' } } g'') .now, Row.get 13 (T10 .locals) (m9 record { before = record { before = c; shared-slice-known = record { given = g } }; slice-known = record { given = g' } } g''), Row.get 14 (T10 .locals) (m9 record { before = record { before = c; shared-slice-known = record { given = g } }; slice-known = record { given = g' } } g''), Row.get 15 (T10 .locals) (m9 record { before = record { before = c; shared-slice-known = record { given = g } }; slice-known = record { given = g' } } g''), Row.get 16 (T10 .locals) (m9 record { before = record { before = c; shared-slice-known = record { given = g } }; slice-known = record { given = g' } } g''), Row.get 17 (T10 .locals) (m9 record { before = record { before = c; shared-slice-known = record { given = g } }; slice-known = record { given = g' } } g'')), Path'.refl {a = m9 record { before = record { before = c; shared-slice-known = record { given = g } }; slice-known = record { given = g' } } g''}, loop-holds record { before = record { before = record { before = c; shared-slice-known = record { given = g } }; slice-known = record { given = g' } }; slice-known2 = record { given = g'' } }), λ vs inv. (tt, (λ taken. lay1 record { before = record { before = record { before = record { before = record { before = c; shared-slice-known = record { given = g } }; slice-known = record { given = g' } }; slice-known2 = record { given = g'' } }; loop = record { starts = vs .0; ends = vs .1; items = vs .2; expectations = vs .3; w = vs .4; at = vs .5; number = vs .6; pairs = vs .7; expects = vs .8; inv = inv } }; loop-test = record { taken = Tests.ltb-true (Row.get 14 (T12 .locals) (m11 record { before = record { before = record { before = c; shared-slice-known = record { given = g } }; slice-known = record { given = g' } }; slice-known2 = record { given = g'' } } (vs .0) (vs .1) (vs .2) (vs .3) (vs .4) (vs .5) (vs .6) (vs .7) (vs .8))) (Row.get 26 (T12 .locals) (m11 record { before = record { before = record { before = c; shared-slice-known = record { given = g } }; slice-known = record { given = g' } }; slice-known2 = record { given = g'' } } (vs .0) (vs .1) (vs .2) (vs .3) (vs .4) (vs .5) (vs .6) (vs .7) (vs .8))) taken } }, λ left. lay2 record { before = record { before = record { before = record { before = record { before = c; shared-slice-known = record { given = g } }; slice-known = record { given = g' } }; slice-known2 = record { given = g'' } }; loop = record { starts = vs .0; ends = vs .1; items = vs .2; expectations = vs .3; w = vs .4; at = vs .5; number = vs .6; pairs = vs .7; expects = vs .8; inv = inv } }; loop-test = record { left = Tests.ltb-false (Row.get 14 (T12 .locals) (m11 record { before = record { before = record { before = c; shared-slice-known = record { given = g } }; slice-known = record { given = g' } }; slice-known2 = record { given = g'' } } (vs .0) (vs .1) (vs .2) (vs .3) (vs .4) (vs .5) (vs .6) (vs .7) (vs .8))) (Row.get 26 (T12 .locals) (m11 record { before = record { before = record { before = c; shared-slice-known = record { given = g } }; slice-known = record { given = g' } }; slice-known2 = record { given = g'' } } (vs .0) (vs .1) (vs .2) (vs .3) (vs .4) (vs .5) (vs .6) (vs .7) (vs .8))) left } })))
 
         module _ (κs : Lifetimes.Lfts 6) (qs : Lifetimes.Shares 6) where
           pub asked : (a : Kinds.Dens κs ps) → (good : Kinds.GoodsP κs ps a) → (pre : Pre· κs a) → (bs : List.List Nat.ℕ) → Φ bs (Any.wantQ 6 ps r xs m κs qs a (Post· κs a)) (Function.init 6 ps r xs m κs qs a)
-          asked = λ a good pre bs. laid record { κs = κs; args = record { text = a .0; kept = a .1 .0; from = a .1 .1 .0; first = a .1 .1 .1 .0; stands = a .1 .1 .1 .1 .0; starts = a .1 .1 .1 .1 .1 .0; ends = a .1 .1 .1 .1 .1 .1 .0; options = a .1 .1 .1 .1 .1 .1 .1 .0; items = a .1 .1 .1 .1 .1 .1 .1 .1 .0; i = a .1 .1 .1 .1 .1 .1 .1 .1 .1 .0; expectations = a .1 .1 .1 .1 .1 .1 .1 .1 .1 .1 .0; x = a .1 .1 .1 .1 .1 .1 .1 .1 .1 .1 .1 .0; }; blocks = bs; good = good; fits = record { from = record { fits = good .1 .1 .0 .1 }; first = record { fits = good .1 .1 .1 .0 .1 }; i = record { fits = good .1 .1 .1 .1 .1 .1 .1 .1 .1 .0 .1 }; x = record { fits = good .1 .1 .1 .1 .1 .1 .1 .1 .1 .1 .1 .0 .1 }; }; pre = pre; }
+          asked = λ a good pre bs. laid record { κs = κs; args = record { text = a .0; kept = a .1 .0; from = a .1 .1 .0; first = a .1 .1 .1 .0; stands = a .1 .1 .1 .1 .0; starts = a .1 .1 .1 .1 .1 .0; ends = a .1 .1 .1 .1 .1 .1 .0; options = a .1 .1 .1 .1 .1 .1 .1 .0; items = a .1 .1 .1 .1 .1 .1 .1 .1 .0; i = a .1 .1 .1 .1 .1 .1 .1 .1 .1 .0; expectations = a .1 .1 .1 .1 .1 .1 .1 .1 .1 .1 .0; x = a .1 .1 .1 .1 .1 .1 .1 .1 .1 .1 .1 .0 }; blocks = bs; good = good; fits = record { from = record { fits = good .1 .1 .0 .1 }; first = record { fits = good .1 .1 .1 .0 .1 }; i = record { fits = good .1 .1 .1 .1 .1 .1 .1 .1 .1 .0 .1 }; x = record { fits = good .1 .1 .1 .1 .1 .1 .1 .1 .1 .1 .1 .0 .1 } }; pre = pre }
 
         module _ {M : Type 1} (𝓤 : URA.URA M) (H : Wp.Heap 𝓤) (A : Atoms.Atoms 𝓤) (W : Kit.Given 𝓤 H A) (𝓣 : Wp.Tables 𝓤 H) (known0 : Plain.Known 𝓤 H A W 𝓣 2 ps·0 r·0 (claims· .0) (claims· .1) "kept::look") (known1 : Plain.Known 𝓤 H A W 𝓣 3 ps·1 r·1 (claims· .2) (claims· .3) "below::says::say") (known2 : Plain.Known 𝓤 H A W 𝓣 0 ps·2 r·2 (claims· .4) (claims· .5) "below::says::expectation_of") (known3 : Plain.Known 𝓤 H A W 𝓣 1 ps·3 r·3 (claims· .6) (claims· .7) "slots::put_expectation") (known4 : Plain.Known 𝓤 H A W 𝓣 0 ps·4 r·4 (claims· .8) (claims· .9) "below::lines::at_opening") (known5 : Plain.Known 𝓤 H A W 𝓣 0 ps·5 r·5 (claims· .10) (claims· .11) "roles::steps::same_place") (known6 : Plain.Known 𝓤 H A W 𝓣 0 ps·6 r·6 (claims· .12) (claims· .13) "below::lines::at_end") where
           pub spec : Statement.Triple 𝓤 (Wp.WpFn 𝓤 H (𝓣 .C) (𝓣 .Λ) (Function.fnOf 6 ps r xs m hs body)) (Function.plainOf 𝓤 H A 6 ps r Pre· Post·)

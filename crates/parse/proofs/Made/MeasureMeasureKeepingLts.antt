@@ -65,10 +65,10 @@ abbrev τ1 : Syntax.Ty
 τ1 = Syntax.tyEnum (List._∷_ 112 (List._∷_ 97 (List._∷_ 114 (List._∷_ 115 (List._∷_ 101 (List._∷_ 58 (List._∷_ 58 (List._∷_ 109 (List._∷_ 101 (List._∷_ 97 (List._∷_ 115 (List._∷_ 117 (List._∷_ 114 (List._∷_ 101 (List._∷_ 58 (List._∷_ 58 (List._∷_ 77 (List._∷_ 101 (List._∷_ 97 (List._∷_ 115 (List._∷_ 117 (List._∷_ 114 (List._∷_ 101 (List._∷_ 100 List.[])))))))))))))))))))))))) (Syntax.ttcons (Syntax.tcons (Syntax.tyStruct (List._∷_ 115 (List._∷_ 99 (List._∷_ 114 (List._∷_ 105 (List._∷_ 112 (List._∷_ 116 (List._∷_ 58 (List._∷_ 58 (List._∷_ 114 (List._∷_ 101 (List._∷_ 99 (List._∷_ 111 (List._∷_ 114 (List._∷_ 100 (List._∷_ 115 (List._∷_ 58 (List._∷_ 58 (List._∷_ 82 (List._∷_ 101 (List._∷_ 102 (List._∷_ 117 (List._∷_ 115 (List._∷_ 97 (List._∷_ 108 List.[])))))))))))))))))))))))) (Syntax.tcons (Syntax.tyInt Syntax.w64) (Syntax.tcons (Syntax.tyInt Syntax.w64) Syntax.tnil))) Syntax.tnil) (Syntax.ttcons (Syntax.tcons (Syntax.tyStruct (List._∷_ 115 (List._∷_ 99 (List._∷_ 114 (List._∷_ 105 (List._∷_ 112 (List._∷_ 116 (List._∷_ 58 (List._∷_ 58 (List._∷_ 114 (List._∷_ 101 (List._∷_ 99 (List._∷_ 111 (List._∷_ 114 (List._∷_ 100 (List._∷_ 115 (List._∷_ 58 (List._∷_ 58 (List._∷_ 67 (List._∷_ 111 (List._∷_ 117 (List._∷_ 110 (List._∷_ 116 (List._∷_ 115 List.[]))))))))))))))))))))))) (Syntax.tcons (Syntax.tyInt Syntax.w64) (Syntax.tcons (Syntax.tyInt Syntax.w64) (Syntax.tcons (Syntax.tyInt Syntax.w64) (Syntax.tcons (Syntax.tyInt Syntax.w64) Syntax.tnil))))) Syntax.tnil) Syntax.ttnil))
 
 abbrev kind0 : KValue.Valued
-kind0 = record { ty = Declared.row Measured.the-type; one = Path'.refl; val = Laws''.val Measured.the-type Laws.the-laws; tells = Laws''.tells Measured.the-type Laws.the-laws; still = Laws''.still Measured.the-type Laws.the-copy Exit.yes; row = Rows.whole (Declared.row Measured.the-type); rd = λ x. x; mk = λ x. x; }
+kind0 = record { ty = Declared.row Measured.the-type; one = Path'.refl; val = Laws''.val Measured.the-type Laws.the-laws; tells = Laws''.tells Measured.the-type Laws.the-laws; still = Laws''.still Measured.the-type Laws.the-copy Exit.yes; row = Rows.whole (Declared.row Measured.the-type); rd = λ x. x; mk = λ x. x }
 
 abbrev kind0-laws : (M : Type 1) (𝓤 : URA.URA M) (H : Wp.Heap 𝓤) (A : Atoms.Atoms 𝓤) → Kit.Given 𝓤 H A → KValue.ValuedLaws 𝓤 H A kind0
-kind0-laws = λ M 𝓤 H A W. record { copies = Laws''.copy Measured.the-type Laws.the-copy 𝓤 H A W; lawful = Laws''.lawful Measured.the-type Laws.the-laws 𝓤 H A W tt; makes = Laws''.makes Measured.the-type Laws.the-plain 𝓤 H A; in-mem = RLocal.mem-whole 𝓤 H A W (Declared.row Measured.the-type); of-mem = RLocal.whole-mem 𝓤 H A W (Declared.row Measured.the-type); }
+kind0-laws = λ M 𝓤 H A W. record { copies = Laws''.copy Measured.the-type Laws.the-copy 𝓤 H A W; lawful = Laws''.lawful Measured.the-type Laws.the-laws 𝓤 H A W tt; makes = Laws''.makes Measured.the-type Laws.the-plain 𝓤 H A; in-mem = RLocal.mem-whole 𝓤 H A W (Declared.row Measured.the-type); of-mem = RLocal.whole-mem 𝓤 H A W (Declared.row Measured.the-type) }
 
 abbrev pub ps : List.List (Kinds.PK 2)
 ps = List._∷_ (ShrSlice.pShrS (TReferent.rtF (TReferent.fInt Syntax.w8)) 0 tt) (List._∷_ (MutSlice.pMutS KeptElem.R 1 tt) List.[])
@@ -366,7 +366,7 @@ module _ (claims· : Claims) where
   s9 = RScalar.n-room T6 4 Syntax.tyBool
 
   abbrev s10 : Typed.Both T5 T13
-  s10 = Call.callB ps·0 r·0 (claims· .0) (claims· .1) T5 (record { pos = 1; ty = Syntax.tyRef (Syntax.named 0) Syntax.imm (Syntax.tyInt Syntax.w8); ref = λ x. x; }, tt) 4 (List._∷_ 0 List.[]) Syntax.tyBool
+  s10 = Call.callB ps·0 r·0 (claims· .0) (claims· .1) T5 (record { pos = 1; ty = Syntax.tyRef (Syntax.named 0) Syntax.imm (Syntax.tyInt Syntax.w8); ref = λ x. x }, tt) 4 (List._∷_ 0 List.[]) Syntax.tyBool
 
   abbrev s11 : Typed.Asks T13 T14
   s11 = RScalar.k-op1 T13 Syntax.bitNot (RScalar.oAt 4 Syntax.tyBool (Row.valS Row.sBool)) 6 (Rows.sc-here Row.sBool) (Row.sBool .of)
@@ -399,7 +399,7 @@ module _ (claims· : Claims) where
   s21 = Relend.k-sl-aggregate KeptElem.R (Relend.asMut KeptElem.R) T24 8 9 2 (Syntax.tyRef Syntax.erased Syntax.mut KeptElem.behind) (Syntax.tyRef Syntax.erased Syntax.mut KeptElem.behind) (λ x. x) (RScalar.oFld 2 (List._∷_ (Syntax.field 1) List.[]) (Syntax.tyInt Syntax.w64) 8 λ v. SShared.lenV (v .0))
 
   abbrev s22 : Typed.Both T25 T26
-  s22 = Call.callB ps·1 r·1 (claims· .2) (claims· .3) T25 (record { pos = 1; ty = Syntax.tyRef (Syntax.named 0) Syntax.imm (Syntax.tyInt Syntax.w8); ref = λ x. x; }, (record { pos = 9; ty = Syntax.tyRef Syntax.erased Syntax.mut KeptElem.behind; ref = λ x. x; }, tt)) 0 (List._∷_ 0 (List._∷_ 2 List.[])) τ1
+  s22 = Call.callB ps·1 r·1 (claims· .2) (claims· .3) T25 (record { pos = 1; ty = Syntax.tyRef (Syntax.named 0) Syntax.imm (Syntax.tyInt Syntax.w8); ref = λ x. x }, (record { pos = 9; ty = Syntax.tyRef Syntax.erased Syntax.mut KeptElem.behind; ref = λ x. x }, tt)) 0 (List._∷_ 0 (List._∷_ 2 List.[])) τ1
 
   abbrev s24 : Typed.Both T26 T28
   s24 = Relend.k-back-sl KeptElem.R T26 9 2 1 2 (Syntax.tyRef (Syntax.named 1) Syntax.mut KeptElem.behind) (Syntax.tyRef Syntax.erased Syntax.mut KeptElem.behind) Row.off (λ x. x) λ x. x
@@ -533,94 +533,94 @@ module _ (claims· : Claims) where
         g15 = List._∷_ (0, Rows.whole (Declared.row Measured.the-type)) (List._∷_ (1, Rows.sslice (TReferent.rtF (TReferent.fInt Syntax.w8)) (Syntax.tyRef (Syntax.named 0) Syntax.imm (Syntax.tyInt Syntax.w8)) 0) (List._∷_ (2, Relend.mslice-owed KeptElem.R (Syntax.tyRef (Syntax.named 1) Syntax.mut KeptElem.behind) 1 2 (Row.lease (κs .1 .0) (qs .1 .0))) (List._∷_ (3, Rows.any-gone (Syntax.tyInt Syntax.w64)) (List._∷_ (4, Rows.any-gone Syntax.tyBool) (List._∷_ (5, Rows.any-gone τ0) (List._∷_ (6, Rows.any-gone Syntax.tyBool) (List._∷_ (7, Rows.any-gone τ0) (List._∷_ (8, Rows.any-gone (Syntax.tyRef Syntax.erased Syntax.mut KeptElem.behind)) (List._∷_ (9, Mut.msleft KeptElem.R (Syntax.tyRef Syntax.erased Syntax.mut KeptElem.behind)) List.[])))))))))
 
         abbrev G0 : Row.Cx
-        G0 = record { locals = t0; slots = List._∷_ (Row.lease (κs .0) (qs .0)) (List._∷_ (Row.lease (κs .1 .0) (qs .1 .0)) (List._∷_ Row.off List.[])); }
+        G0 = record { locals = t0; slots = List._∷_ (Row.lease (κs .0) (qs .0)) (List._∷_ (Row.lease (κs .1 .0) (qs .1 .0)) (List._∷_ Row.off List.[])) }
 
         abbrev G1 : Row.Cx
-        G1 = record { locals = t1; slots = List._∷_ (Row.lease (κs .0) (qs .0)) (List._∷_ (Row.lease (κs .1 .0) (qs .1 .0)) (List._∷_ Row.off List.[])); }
+        G1 = record { locals = t1; slots = List._∷_ (Row.lease (κs .0) (qs .0)) (List._∷_ (Row.lease (κs .1 .0) (qs .1 .0)) (List._∷_ Row.off List.[])) }
 
         abbrev G2 : Row.Cx
-        G2 = record { locals = t0; slots = List._∷_ (Row.lease (κs .0) (qs .0)) (List._∷_ (Row.lease (κs .1 .0) (qs .1 .0)) (List._∷_ Row.off List.[])); }
+        G2 = record { locals = t0; slots = List._∷_ (Row.lease (κs .0) (qs .0)) (List._∷_ (Row.lease (κs .1 .0) (qs .1 .0)) (List._∷_ Row.off List.[])) }
 
         abbrev G3 : Row.Cx
-        G3 = record { locals = t2; slots = List._∷_ (Row.lease (κs .0) (qs .0)) (List._∷_ (Row.lease (κs .1 .0) (qs .1 .0)) (List._∷_ Row.off List.[])); }
+        G3 = record { locals = t2; slots = List._∷_ (Row.lease (κs .0) (qs .0)) (List._∷_ (Row.lease (κs .1 .0) (qs .1 .0)) (List._∷_ Row.off List.[])) }
 
         abbrev G4 : Row.Cx
-        G4 = record { locals = t3; slots = List._∷_ (Row.lease (κs .0) (qs .0)) (List._∷_ (Row.lease (κs .1 .0) (qs .1 .0)) (List._∷_ Row.off List.[])); }
+        G4 = record { locals = t3; slots = List._∷_ (Row.lease (κs .0) (qs .0)) (List._∷_ (Row.lease (κs .1 .0) (qs .1 .0)) (List._∷_ Row.off List.[])) }
 
         abbrev G5 : Row.Cx
-        G5 = record { locals = t0; slots = List._∷_ (Row.lease (κs .0) (qs .0)) (List._∷_ (Row.lease (κs .1 .0) (qs .1 .0)) (List._∷_ Row.off List.[])); }
+        G5 = record { locals = t0; slots = List._∷_ (Row.lease (κs .0) (qs .0)) (List._∷_ (Row.lease (κs .1 .0) (qs .1 .0)) (List._∷_ Row.off List.[])) }
 
         abbrev G6 : Row.Cx
-        G6 = record { locals = t4; slots = List._∷_ (Row.lease (κs .0) (qs .0)) (List._∷_ (Row.lease (κs .1 .0) (qs .1 .0)) (List._∷_ Row.off List.[])); }
+        G6 = record { locals = t4; slots = List._∷_ (Row.lease (κs .0) (qs .0)) (List._∷_ (Row.lease (κs .1 .0) (qs .1 .0)) (List._∷_ Row.off List.[])) }
 
         abbrev G7 : Row.Cx
-        G7 = record { locals = t0; slots = List._∷_ (Row.lease (κs .0) (qs .0)) (List._∷_ (Row.lease (κs .1 .0) (qs .1 .0)) (List._∷_ Row.off List.[])); }
+        G7 = record { locals = t0; slots = List._∷_ (Row.lease (κs .0) (qs .0)) (List._∷_ (Row.lease (κs .1 .0) (qs .1 .0)) (List._∷_ Row.off List.[])) }
 
         abbrev G8 : Row.Cx
-        G8 = record { locals = t5; slots = List._∷_ (Row.lease (κs .0) (qs .0)) (List._∷_ (Row.lease (κs .1 .0) (qs .1 .0)) (List._∷_ Row.off List.[])); }
+        G8 = record { locals = t5; slots = List._∷_ (Row.lease (κs .0) (qs .0)) (List._∷_ (Row.lease (κs .1 .0) (qs .1 .0)) (List._∷_ Row.off List.[])) }
 
         abbrev G9 : Row.Cx
-        G9 = record { locals = t6; slots = List._∷_ (Row.lease (κs .0) (qs .0)) (List._∷_ (Row.lease (κs .1 .0) (qs .1 .0)) (List._∷_ Row.off List.[])); }
+        G9 = record { locals = t6; slots = List._∷_ (Row.lease (κs .0) (qs .0)) (List._∷_ (Row.lease (κs .1 .0) (qs .1 .0)) (List._∷_ Row.off List.[])) }
 
         abbrev G10 : Row.Cx
-        G10 = record { locals = t7; slots = List._∷_ (Row.lease (κs .0) (qs .0)) (List._∷_ (Row.lease (κs .1 .0) (qs .1 .0)) (List._∷_ Row.off List.[])); }
+        G10 = record { locals = t7; slots = List._∷_ (Row.lease (κs .0) (qs .0)) (List._∷_ (Row.lease (κs .1 .0) (qs .1 .0)) (List._∷_ Row.off List.[])) }
 
         abbrev G11 : Row.Cx
-        G11 = record { locals = t1; slots = List._∷_ (Row.lease (κs .0) (qs .0)) (List._∷_ (Row.lease (κs .1 .0) (qs .1 .0)) (List._∷_ Row.off List.[])); }
+        G11 = record { locals = t1; slots = List._∷_ (Row.lease (κs .0) (qs .0)) (List._∷_ (Row.lease (κs .1 .0) (qs .1 .0)) (List._∷_ Row.off List.[])) }
 
         abbrev G12 : Row.Cx
-        G12 = record { locals = t0; slots = List._∷_ (Row.lease (κs .0) (qs .0)) (List._∷_ (Row.lease (κs .1 .0) (qs .1 .0)) (List._∷_ Row.off List.[])); }
+        G12 = record { locals = t0; slots = List._∷_ (Row.lease (κs .0) (qs .0)) (List._∷_ (Row.lease (κs .1 .0) (qs .1 .0)) (List._∷_ Row.off List.[])) }
 
         abbrev G13 : Row.Cx
-        G13 = record { locals = t4; slots = List._∷_ (Row.lease (κs .0) (qs .0)) (List._∷_ (Row.lease (κs .1 .0) (qs .1 .0)) (List._∷_ Row.off List.[])); }
+        G13 = record { locals = t4; slots = List._∷_ (Row.lease (κs .0) (qs .0)) (List._∷_ (Row.lease (κs .1 .0) (qs .1 .0)) (List._∷_ Row.off List.[])) }
 
         abbrev G14 : Row.Cx
-        G14 = record { locals = t8; slots = List._∷_ (Row.lease (κs .0) (qs .0)) (List._∷_ (Row.lease (κs .1 .0) (qs .1 .0)) (List._∷_ Row.off List.[])); }
+        G14 = record { locals = t8; slots = List._∷_ (Row.lease (κs .0) (qs .0)) (List._∷_ (Row.lease (κs .1 .0) (qs .1 .0)) (List._∷_ Row.off List.[])) }
 
         abbrev G15 : Row.Cx
-        G15 = record { locals = t0; slots = List._∷_ (Row.lease (κs .0) (qs .0)) (List._∷_ (Row.lease (κs .1 .0) (qs .1 .0)) (List._∷_ Row.off List.[])); }
+        G15 = record { locals = t0; slots = List._∷_ (Row.lease (κs .0) (qs .0)) (List._∷_ (Row.lease (κs .1 .0) (qs .1 .0)) (List._∷_ Row.off List.[])) }
 
         abbrev G16 : Row.Cx
-        G16 = record { locals = t9; slots = List._∷_ (Row.lease (κs .0) (qs .0)) (List._∷_ (Row.lease (κs .1 .0) (qs .1 .0)) (List._∷_ Row.off List.[])); }
+        G16 = record { locals = t9; slots = List._∷_ (Row.lease (κs .0) (qs .0)) (List._∷_ (Row.lease (κs .1 .0) (qs .1 .0)) (List._∷_ Row.off List.[])) }
 
         abbrev G17 : Row.Cx
-        G17 = record { locals = t0; slots = List._∷_ (Row.lease (κs .0) (qs .0)) (List._∷_ (Row.lease (κs .1 .0) (qs .1 .0)) (List._∷_ Row.off List.[])); }
+        G17 = record { locals = t0; slots = List._∷_ (Row.lease (κs .0) (qs .0)) (List._∷_ (Row.lease (κs .1 .0) (qs .1 .0)) (List._∷_ Row.off List.[])) }
 
         abbrev G18 : Row.Cx
-        G18 = record { locals = t10; slots = List._∷_ (Row.lease (κs .0) (qs .0)) (List._∷_ (Row.lease (κs .1 .0) (qs .1 .0)) (List._∷_ Row.off List.[])); }
+        G18 = record { locals = t10; slots = List._∷_ (Row.lease (κs .0) (qs .0)) (List._∷_ (Row.lease (κs .1 .0) (qs .1 .0)) (List._∷_ Row.off List.[])) }
 
         abbrev G19 : Row.Cx
-        G19 = record { locals = t11; slots = List._∷_ (Row.lease (κs .0) (qs .0)) (List._∷_ (Row.lease (κs .1 .0) (qs .1 .0)) (List._∷_ Row.off List.[])); }
+        G19 = record { locals = t11; slots = List._∷_ (Row.lease (κs .0) (qs .0)) (List._∷_ (Row.lease (κs .1 .0) (qs .1 .0)) (List._∷_ Row.off List.[])) }
 
         abbrev G20 : Row.Cx
-        G20 = record { locals = t12; slots = List._∷_ (Row.lease (κs .0) (qs .0)) (List._∷_ (Row.lease (κs .1 .0) (qs .1 .0)) (List._∷_ Row.off List.[])); }
+        G20 = record { locals = t12; slots = List._∷_ (Row.lease (κs .0) (qs .0)) (List._∷_ (Row.lease (κs .1 .0) (qs .1 .0)) (List._∷_ Row.off List.[])) }
 
         abbrev G21 : Row.Cx
-        G21 = record { locals = t1; slots = List._∷_ (Row.lease (κs .0) (qs .0)) (List._∷_ (Row.lease (κs .1 .0) (qs .1 .0)) (List._∷_ Row.off List.[])); }
+        G21 = record { locals = t1; slots = List._∷_ (Row.lease (κs .0) (qs .0)) (List._∷_ (Row.lease (κs .1 .0) (qs .1 .0)) (List._∷_ Row.off List.[])) }
 
         abbrev G22 : Row.Cx
-        G22 = record { locals = t0; slots = List._∷_ (Row.lease (κs .0) (qs .0)) (List._∷_ (Row.lease (κs .1 .0) (qs .1 .0)) (List._∷_ Row.off List.[])); }
+        G22 = record { locals = t0; slots = List._∷_ (Row.lease (κs .0) (qs .0)) (List._∷_ (Row.lease (κs .1 .0) (qs .1 .0)) (List._∷_ Row.off List.[])) }
 
         abbrev G23 : Row.Cx
-        G23 = record { locals = t0; slots = List._∷_ (Row.lease (κs .0) (qs .0)) (List._∷_ (Row.lease (κs .1 .0) (qs .1 .0)) (List._∷_ Row.alive List.[])); }
+        G23 = record { locals = t0; slots = List._∷_ (Row.lease (κs .0) (qs .0)) (List._∷_ (Row.lease (κs .1 .0) (qs .1 .0)) (List._∷_ Row.alive List.[])) }
 
         abbrev G24 : Row.Cx
-        G24 = record { locals = g13; slots = List._∷_ (Row.lease (κs .0) (qs .0)) (List._∷_ Row.off (List._∷_ Row.alive List.[])); }
+        G24 = record { locals = g13; slots = List._∷_ (Row.lease (κs .0) (qs .0)) (List._∷_ Row.off (List._∷_ Row.alive List.[])) }
 
         abbrev G25 : Row.Cx
-        G25 = record { locals = g14; slots = List._∷_ (Row.lease (κs .0) (qs .0)) (List._∷_ Row.off (List._∷_ Row.alive List.[])); }
+        G25 = record { locals = g14; slots = List._∷_ (Row.lease (κs .0) (qs .0)) (List._∷_ Row.off (List._∷_ Row.alive List.[])) }
 
         abbrev G26 : Row.Cx
-        G26 = record { locals = g15; slots = List._∷_ (Row.lease (κs .0) (qs .0)) (List._∷_ Row.off (List._∷_ Row.alive List.[])); }
+        G26 = record { locals = g15; slots = List._∷_ (Row.lease (κs .0) (qs .0)) (List._∷_ Row.off (List._∷_ Row.alive List.[])) }
 
         abbrev G27 : Row.Cx
-        G27 = record { locals = g15; slots = List._∷_ (Row.lease (κs .0) (qs .0)) (List._∷_ Row.off (List._∷_ Row.dead List.[])); }
+        G27 = record { locals = g15; slots = List._∷_ (Row.lease (κs .0) (qs .0)) (List._∷_ Row.off (List._∷_ Row.dead List.[])) }
 
         abbrev G28 : Row.Cx
-        G28 = record { locals = t1; slots = List._∷_ (Row.lease (κs .0) (qs .0)) (List._∷_ (Row.lease (κs .1 .0) (qs .1 .0)) (List._∷_ Row.dead List.[])); }
+        G28 = record { locals = t1; slots = List._∷_ (Row.lease (κs .0) (qs .0)) (List._∷_ (Row.lease (κs .1 .0) (qs .1 .0)) (List._∷_ Row.dead List.[])) }
 
         abbrev G29 : Row.Cx
-        G29 = record { locals = t1; slots = List._∷_ (Row.lease (κs .0) (qs .0)) (List._∷_ (Row.lease (κs .1 .0) (qs .1 .0)) (List._∷_ Row.off List.[])); }
+        G29 = record { locals = t1; slots = List._∷_ (Row.lease (κs .0) (qs .0)) (List._∷_ (Row.lease (κs .1 .0) (qs .1 .0)) (List._∷_ Row.off List.[])) }
 
         abbrev Δ0 : Typed.Outs
         Δ0 = record { next = Option.none; exits = List.[]; returns = Option.some G1 }
@@ -708,7 +708,7 @@ module _ (claims· : Claims) where
           d23 = Typed.g-pre 𝓤 H A W 𝓣 E G26 G27 b21 Δ0 (λ Ψ. Ψ) at22 (Lifetime.g-end 𝓤 H A W E G26 2 Path'.refl) d22
 
           d24 : Typed.Typed 𝓤 H A 𝓣 E G25 b22 Δ0 at24
-          d24 = Typed.s-seq 𝓤 H A W 𝓣 E G25 G26 b20 b21 Δ0 (Typed.both s22) at23 (Plain.t-call-plain 𝓤 H A W 𝓣 2 ps·1 r·1 (claims· .2) (claims· .3) "parse::measure::walk" (known .1) E (λ pos β. β) G25 (record { pos = 1; ty = Syntax.tyRef (Syntax.named 0) Syntax.imm (Syntax.tyInt Syntax.w8); ref = λ x. x; }, (record { pos = 9; ty = Syntax.tyRef Syntax.erased Syntax.mut KeptElem.behind; ref = λ x. x; }, tt)) 0 (List._∷_ 0 (List._∷_ 2 List.[])) (Call.sub-id 𝓤 H A W (G25 .slots)) (ShrSlice.spares-sslice 𝓤 H A W (TReferent.rtF (TReferent.fInt Syntax.w8)) (Syntax.tyRef (Syntax.named 0) Syntax.imm (Syntax.tyInt Syntax.w8)) 0, SShared.reads-sslice 𝓤 H A W (TReferent.rtF (TReferent.fInt Syntax.w8)) (Syntax.tyRef (Syntax.named 0) Syntax.imm (Syntax.tyInt Syntax.w8)) 0, Path'.refl, (Reads'.as-is 𝓤 H A (Mut.mslice KeptElem.R (Syntax.tyRef Syntax.erased Syntax.mut KeptElem.behind) 2), Mut.reads-mslice 𝓤 H A W KeptElem.R (Syntax.tyRef Syntax.erased Syntax.mut KeptElem.behind) 2, Path'.refl, tt)) (Reads'.room-gone 𝓤 H A τ1) (tt, (tt, tt)) Path'.refl) d23
+          d24 = Typed.s-seq 𝓤 H A W 𝓣 E G25 G26 b20 b21 Δ0 (Typed.both s22) at23 (Plain.t-call-plain 𝓤 H A W 𝓣 2 ps·1 r·1 (claims· .2) (claims· .3) "parse::measure::walk" (known .1) E (λ pos β. β) G25 (record { pos = 1; ty = Syntax.tyRef (Syntax.named 0) Syntax.imm (Syntax.tyInt Syntax.w8); ref = λ x. x }, (record { pos = 9; ty = Syntax.tyRef Syntax.erased Syntax.mut KeptElem.behind; ref = λ x. x }, tt)) 0 (List._∷_ 0 (List._∷_ 2 List.[])) (Call.sub-id 𝓤 H A W (G25 .slots)) (ShrSlice.spares-sslice 𝓤 H A W (TReferent.rtF (TReferent.fInt Syntax.w8)) (Syntax.tyRef (Syntax.named 0) Syntax.imm (Syntax.tyInt Syntax.w8)) 0, SShared.reads-sslice 𝓤 H A W (TReferent.rtF (TReferent.fInt Syntax.w8)) (Syntax.tyRef (Syntax.named 0) Syntax.imm (Syntax.tyInt Syntax.w8)) 0, Path'.refl, (Reads'.as-is 𝓤 H A (Mut.mslice KeptElem.R (Syntax.tyRef Syntax.erased Syntax.mut KeptElem.behind) 2), Mut.reads-mslice 𝓤 H A W KeptElem.R (Syntax.tyRef Syntax.erased Syntax.mut KeptElem.behind) 2, Path'.refl, tt)) (Reads'.room-gone 𝓤 H A τ1) (tt, (tt, tt)) Path'.refl) d23
 
           d25 : Typed.Typed 𝓤 H A 𝓣 E G24 b23 Δ0 at25
           d25 = Typed.s-seq 𝓤 H A W 𝓣 E G24 G25 b19 b22 Δ0 (Typed.ask s21) at24 (Relend.t-sl-aggregate 𝓤 H A W E KeptElem.R 𝓣 (Relend.asMut KeptElem.R) G24 8 9 2 (Syntax.tyRef Syntax.erased Syntax.mut KeptElem.behind) (Syntax.tyRef Syntax.erased Syntax.mut KeptElem.behind) (λ x. x) (RScalar.oFld 2 (List._∷_ (Syntax.field 1) List.[]) (Syntax.tyInt Syntax.w64) 8 λ v. SShared.lenV (v .0)) (Reads'.as-is 𝓤 H A (Relend.msptr KeptElem.R (Syntax.tyRef Syntax.erased Syntax.mut KeptElem.behind) 2)) (Reads'.room-gone 𝓤 H A (Syntax.tyStruct (List._∷_ 38 (List._∷_ 91 (List._∷_ 93 List.[]))) (Syntax.tcons (Syntax.tyRef Syntax.erased Syntax.mut KeptElem.behind) (Syntax.tcons (Syntax.tyInt Syntax.w64) Syntax.tnil)))) (Relend.reads-owed-len 𝓤 H A W KeptElem.R (Syntax.tyRef (Syntax.named 1) Syntax.mut KeptElem.behind) 1 2 (Row.lease (κs .1 .0) (qs .1 .0)) 8 Path'.refl, Path'.refl) Path'.refl Path'.refl λ b o k. tt) d24
@@ -726,7 +726,7 @@ module _ (claims· : Claims) where
           d29 = Typed.s-seq 𝓤 H A W 𝓣 E G13 G14 b10 b25 Δ0 (Typed.ask s11) at28 (RScalar.t-op1 𝓤 H A W E 𝓣 G13 Syntax.bitNot (RScalar.oAt 4 Syntax.tyBool (Row.valS Row.sBool)) 6 (Rows.sc-here Row.sBool) Syntax.tyBool (Row.valS Row.sBool) (Row.sBool .of) (RScalar.reads-sc 𝓤 H A W Row.sBool, Path'.refl) (Reads'.room-gone 𝓤 H A Syntax.tyBool) (RScalar.holds-sc 𝓤 H A W Row.sBool) Path'.refl (λ u. Path'.refl) λ u. tt) d28
 
           d30 : Typed.Typed 𝓤 H A 𝓣 E G5 b27 Δ0 at30
-          d30 = Typed.s-seq 𝓤 H A W 𝓣 E G5 G13 b9 b26 Δ0 (Typed.both s10) at29 (Plain.t-call-plain 𝓤 H A W 𝓣 1 ps·0 r·0 (claims· .0) (claims· .1) "text::utf8::well_formed" (known .0) E (λ pos β. β) G5 (record { pos = 1; ty = Syntax.tyRef (Syntax.named 0) Syntax.imm (Syntax.tyInt Syntax.w8); ref = λ x. x; }, tt) 4 (List._∷_ 0 List.[]) (Call.sub-id 𝓤 H A W (G5 .slots)) (ShrSlice.spares-sslice 𝓤 H A W (TReferent.rtF (TReferent.fInt Syntax.w8)) (Syntax.tyRef (Syntax.named 0) Syntax.imm (Syntax.tyInt Syntax.w8)) 0, SShared.reads-sslice 𝓤 H A W (TReferent.rtF (TReferent.fInt Syntax.w8)) (Syntax.tyRef (Syntax.named 0) Syntax.imm (Syntax.tyInt Syntax.w8)) 0, Path'.refl, tt) (Reads'.room-gone 𝓤 H A Syntax.tyBool) (tt, tt) Path'.refl) d29
+          d30 = Typed.s-seq 𝓤 H A W 𝓣 E G5 G13 b9 b26 Δ0 (Typed.both s10) at29 (Plain.t-call-plain 𝓤 H A W 𝓣 1 ps·0 r·0 (claims· .0) (claims· .1) "text::utf8::well_formed" (known .0) E (λ pos β. β) G5 (record { pos = 1; ty = Syntax.tyRef (Syntax.named 0) Syntax.imm (Syntax.tyInt Syntax.w8); ref = λ x. x }, tt) 4 (List._∷_ 0 List.[]) (Call.sub-id 𝓤 H A W (G5 .slots)) (ShrSlice.spares-sslice 𝓤 H A W (TReferent.rtF (TReferent.fInt Syntax.w8)) (Syntax.tyRef (Syntax.named 0) Syntax.imm (Syntax.tyInt Syntax.w8)) 0, SShared.reads-sslice 𝓤 H A W (TReferent.rtF (TReferent.fInt Syntax.w8)) (Syntax.tyRef (Syntax.named 0) Syntax.imm (Syntax.tyInt Syntax.w8)) 0, Path'.refl, tt) (Reads'.room-gone 𝓤 H A Syntax.tyBool) (tt, tt) Path'.refl) d29
 
           d31 : Typed.Typed 𝓤 H A 𝓣 E G4 b28 Δ0 at31
           d31 = Typed.t-seq 𝓤 H A W 𝓣 E G4 G5 b8 b27 Δ0 at9 at30 d9 d30
@@ -831,14 +831,14 @@ module _ (claims· : Claims) where
 
       module _ (before· : Else1) where
         abbrev pub After-well-formed·own : Type 0
-        After-well-formed·own = Called.Called ps·0 r·0 (claims· .1) T5 (record { pos = 1; ty = Syntax.tyRef (Syntax.named 0) Syntax.imm (Syntax.tyInt Syntax.w8); ref = λ x. x; }, tt) (m10 (before· .before))
+        After-well-formed·own = Called.Called ps·0 r·0 (claims· .1) T5 (record { pos = 1; ty = Syntax.tyRef (Syntax.named 0) Syntax.imm (Syntax.tyInt Syntax.w8); ref = λ x. x }, tt) (m10 (before· .before))
 
       pub record After-well-formed : Type 0 where
         pub before : Else1
         pub well-formed : After-well-formed·own before
 
       abbrev pub After-well-formed·gave : (c : After-well-formed) → s10 .gives (m10 (c .before .before))
-      After-well-formed·gave = λ c. Called.given ps·0 r·0 (claims· .1) T5 (record { pos = 1; ty = Syntax.tyRef (Syntax.named 0) Syntax.imm (Syntax.tyInt Syntax.w8); ref = λ x. x; }, tt) (m10 (c .before .before)) (c .well-formed)
+      After-well-formed·gave = λ c. Called.given ps·0 r·0 (claims· .1) T5 (record { pos = 1; ty = Syntax.tyRef (Syntax.named 0) Syntax.imm (Syntax.tyInt Syntax.w8); ref = λ x. x }, tt) (m10 (c .before .before)) (c .well-formed)
 
       abbrev pub m12 : (before : Else1) → (given : s10 .gives (m10 (before .before))) → Typed.Mo T14
       m12 = λ before given. s11 .next (m11 before given)
@@ -908,14 +908,14 @@ module _ (claims· : Claims) where
 
       module _ (before· : After-walk-arg) where
         abbrev pub After-walk·own : Type 0
-        After-walk·own = Called.Called ps·1 r·1 (claims· .3) T25 (record { pos = 1; ty = Syntax.tyRef (Syntax.named 0) Syntax.imm (Syntax.tyInt Syntax.w8); ref = λ x. x; }, (record { pos = 9; ty = Syntax.tyRef Syntax.erased Syntax.mut KeptElem.behind; ref = λ x. x; }, tt)) (m21 (before· .before) (before· .walk-arg .given))
+        After-walk·own = Called.Called ps·1 r·1 (claims· .3) T25 (record { pos = 1; ty = Syntax.tyRef (Syntax.named 0) Syntax.imm (Syntax.tyInt Syntax.w8); ref = λ x. x }, (record { pos = 9; ty = Syntax.tyRef Syntax.erased Syntax.mut KeptElem.behind; ref = λ x. x }, tt)) (m21 (before· .before) (before· .walk-arg .given))
 
       pub record After-walk : Type 0 where
         pub before : After-walk-arg
         pub walk : After-walk·own before
 
       abbrev pub After-walk·gave : (c : After-walk) → s22 .gives (m21 (c .before .before) (c .before .walk-arg .given))
-      After-walk·gave = λ c. Called.given ps·1 r·1 (claims· .3) T25 (record { pos = 1; ty = Syntax.tyRef (Syntax.named 0) Syntax.imm (Syntax.tyInt Syntax.w8); ref = λ x. x; }, (record { pos = 9; ty = Syntax.tyRef Syntax.erased Syntax.mut KeptElem.behind; ref = λ x. x; }, tt)) (m21 (c .before .before) (c .before .walk-arg .given)) (c .walk)
+      After-walk·gave = λ c. Called.given ps·1 r·1 (claims· .3) T25 (record { pos = 1; ty = Syntax.tyRef (Syntax.named 0) Syntax.imm (Syntax.tyInt Syntax.w8); ref = λ x. x }, (record { pos = 9; ty = Syntax.tyRef Syntax.erased Syntax.mut KeptElem.behind; ref = λ x. x }, tt)) (m21 (c .before .before) (c .before .walk-arg .given)) (c .walk)
 
       abbrev pub m23 : (before : After-walk) → (given : s24 .gives (m22 (before .before) (After-walk·gave before))) → Typed.Mo T28
       m23 = λ before given. s24 .next (m22 (before .before) (After-walk·gave before)) given
@@ -936,16 +936,16 @@ module _ (claims· : Claims) where
 
       module _ (returns : Need-returns) (well-formed-requires : Need-well-formed-requires) (returns-2 : Need-returns-2) (walk-requires : Need-walk-requires) (same-length : Need-same-length) (returns-3 : Need-returns-3) where
         lay6 : (c : After-walk) → at23 (W0 (c .before .before .before .before .before .before .κs) (c .before .before .before .before .before .before .args)) (m22 (c .before) (After-walk·gave c))
-        lay6 = λ c. (Path'.refl, λ g. ((Path'.refl, (MutSlice.fix-len (Row.get 2 (T28 .locals) (m23 record { before = c .before; walk = c .walk; } g) .ptr) (Row.get 2 (T28 .locals) (m23 record { before = c .before; walk = c .walk; } g) .name) (Row.get 2 (T28 .locals) (m23 record { before = c .before; walk = c .walk; } g) .now) (dens (c .before .before .before .before .before .before .κs) (c .before .before .before .before .before .before .args) .1 .0 .now) (same-length record { before = record { before = c .before; walk = c .walk }; kept = record { given = g }; }), tt)), returns-3 record { before = record { before = c .before; walk = c .walk }; kept = record { given = g }; }))
+        lay6 = λ c. (Path'.refl, λ g. ((Path'.refl, (MutSlice.fix-len (Row.get 2 (T28 .locals) (m23 record { before = c .before; walk = c .walk } g) .ptr) (Row.get 2 (T28 .locals) (m23 record { before = c .before; walk = c .walk } g) .name) (Row.get 2 (T28 .locals) (m23 record { before = c .before; walk = c .walk } g) .now) (dens (c .before .before .before .before .before .before .κs) (c .before .before .before .before .before .before .args) .1 .0 .now) (same-length record { before = record { before = c .before; walk = c .walk }; kept = record { given = g } }), tt)), returns-3 record { before = record { before = c .before; walk = c .walk }; kept = record { given = g } }))
 
         lay5 : (c : Else2) → at27 (W0 (c .before .before .before .before .κs) (c .before .before .before .before .args)) (m19 (c .before))
-        lay5 = λ c. λ g. (Path'.refl, (walk-requires record { before = record { before = c .before; if2 = c .if2 }; walk-arg = record { given = g }; }, λ g'. lay6 record { before = record { before = record { before = c .before; if2 = c .if2 }; walk-arg = record { given = g }; }; walk = Called.called ps·1 r·1 (claims· .3) T25 (record { pos = 1; ty = Syntax.tyRef (Syntax.named 0) Syntax.imm (Syntax.tyInt Syntax.w8); ref = λ x. x; }, (record { pos = 9; ty = Syntax.tyRef Syntax.erased Syntax.mut KeptElem.behind; ref = λ x. x; }, tt)) (m21 record { before = c .before; if2 = c .if2 } g) g'; }))
+        lay5 = λ c. λ g. (Path'.refl, (walk-requires record { before = record { before = c .before; if2 = c .if2 }; walk-arg = record { given = g } }, λ g'. lay6 record { before = record { before = record { before = c .before; if2 = c .if2 }; walk-arg = record { given = g } }; walk = Called.called ps·1 r·1 (claims· .3) T25 (record { pos = 1; ty = Syntax.tyRef (Syntax.named 0) Syntax.imm (Syntax.tyInt Syntax.w8); ref = λ x. x }, (record { pos = 9; ty = Syntax.tyRef Syntax.erased Syntax.mut KeptElem.behind; ref = λ x. x }, tt)) (m21 record { before = c .before; if2 = c .if2 } g) g' }))
 
         lay4 : (c : After-well-formed) → at29 (W0 (c .before .before .before .κs) (c .before .before .before .args)) (m11 (c .before) (After-well-formed·gave c))
-        lay4 = λ c. (tt, (λ taken. ((Path'.refl, (Path'.refl, tt)), returns-2 record { before = record { before = c .before; well-formed = c .well-formed }; if2 = record { taken = taken }; }), λ left. lay5 record { before = record { before = c .before; well-formed = c .well-formed }; if2 = record { left = left }; }))
+        lay4 = λ c. (tt, (λ taken. ((Path'.refl, (Path'.refl, tt)), returns-2 record { before = record { before = c .before; well-formed = c .well-formed }; if2 = record { taken = taken } }), λ left. lay5 record { before = record { before = c .before; well-formed = c .well-formed }; if2 = record { left = left } }))
 
         lay3 : (c : Else1) → at30 (W0 (c .before .before .κs) (c .before .before .args)) (m10 (c .before))
-        lay3 = λ c. (well-formed-requires record { before = c .before; if1 = c .if1 }, λ g. lay4 record { before = record { before = c .before; if1 = c .if1 }; well-formed = Called.called ps·0 r·0 (claims· .1) T5 (record { pos = 1; ty = Syntax.tyRef (Syntax.named 0) Syntax.imm (Syntax.tyInt Syntax.w8); ref = λ x. x; }, tt) (m10 (c .before)) g; })
+        lay3 = λ c. (well-formed-requires record { before = c .before; if1 = c .if1 }, λ g. lay4 record { before = record { before = c .before; if1 = c .if1 }; well-formed = Called.called ps·0 r·0 (claims· .1) T5 (record { pos = 1; ty = Syntax.tyRef (Syntax.named 0) Syntax.imm (Syntax.tyInt Syntax.w8); ref = λ x. x }, tt) (m10 (c .before)) g })
 
         lay2 : (c : Else1) → at7 (W1 (c .before .before) (c .before .shared-slice-known .given)) (m4 (c .before .before) (c .before .shared-slice-known .given))
         lay2 = λ c. lay3 record { before = c .before; if1 = c .if1 }
@@ -954,11 +954,11 @@ module _ (claims· : Claims) where
         lay1 = λ c. ((Path'.refl, (Path'.refl, tt)), returns record { before = c .before; if1 = c .if1 })
 
         pub laid : (c : Start) → at34 (W0 (c .κs) (c .args)) (m0 (c .κs) (c .args))
-        laid = λ c. λ g. (tt, (λ taken. lay1 record { before = record { before = c; shared-slice-known = record { given = g } }; if1 = record { taken = Tests.ltb-true 32768 (Row.get 3 (T3 .locals) (m2 c g)) taken; }; }, λ left. lay2 record { before = record { before = c; shared-slice-known = record { given = g } }; if1 = record { left = Tests.ltb-false 32768 (Row.get 3 (T3 .locals) (m2 c g)) left; }; }))
+        laid = λ c. λ g. (tt, (λ taken. lay1 record { before = record { before = c; shared-slice-known = record { given = g } }; if1 = record { taken = Tests.ltb-true 32768 (Row.get 3 (T3 .locals) (m2 c g)) taken } }, λ left. lay2 record { before = record { before = c; shared-slice-known = record { given = g } }; if1 = record { left = Tests.ltb-false 32768 (Row.get 3 (T3 .locals) (m2 c g)) left } }))
 
         module _ (κs : Lifetimes.Lfts 2) (qs : Lifetimes.Shares 2) where
           pub asked : (a : Kinds.Dens κs ps) → (good : Kinds.GoodsP κs ps a) → (pre : Pre· κs a) → (bs : List.List Nat.ℕ) → Φ (Any.wantQ 2 ps r xs m κs qs a (Post· κs a)) (Function.init 2 ps r xs m κs qs a)
-          asked = λ a good pre bs. laid record { κs = κs; args = record { text = a .0; kept = a .1 .0 }; good = good; pre = pre; }
+          asked = λ a good pre bs. laid record { κs = κs; args = record { text = a .0; kept = a .1 .0 }; good = good; pre = pre }
 
         module _ {M : Type 1} (𝓤 : URA.URA M) (H : Wp.Heap 𝓤) (A : Atoms.Atoms 𝓤) (W : Kit.Given 𝓤 H A) (𝓣 : Wp.Tables 𝓤 H) (known0 : Plain.Known 𝓤 H A W 𝓣 1 ps·0 r·0 (claims· .0) (claims· .1) "text::utf8::well_formed") (known1 : Plain.Known 𝓤 H A W 𝓣 2 ps·1 r·1 (claims· .2) (claims· .3) "parse::measure::walk") where
           pub spec : Statement.Triple 𝓤 (Wp.WpFn 𝓤 H (𝓣 .C) (𝓣 .Λ) (Function.fnOf 2 ps r xs m hs body)) (Function.plainOf 𝓤 H A 2 ps r Pre· Post·)

@@ -57,10 +57,10 @@ abbrev τ0 : Syntax.Ty
 τ0 = Syntax.tyEnum (List._∷_ 112 (List._∷_ 97 (List._∷_ 114 (List._∷_ 115 (List._∷_ 101 (List._∷_ 58 (List._∷_ 58 (List._∷_ 109 (List._∷_ 101 (List._∷_ 97 (List._∷_ 115 (List._∷_ 117 (List._∷_ 114 (List._∷_ 101 (List._∷_ 58 (List._∷_ 58 (List._∷_ 77 (List._∷_ 101 (List._∷_ 97 (List._∷_ 115 (List._∷_ 117 (List._∷_ 114 (List._∷_ 101 (List._∷_ 100 List.[])))))))))))))))))))))))) (Syntax.ttcons (Syntax.tcons (Syntax.tyStruct (List._∷_ 115 (List._∷_ 99 (List._∷_ 114 (List._∷_ 105 (List._∷_ 112 (List._∷_ 116 (List._∷_ 58 (List._∷_ 58 (List._∷_ 114 (List._∷_ 101 (List._∷_ 99 (List._∷_ 111 (List._∷_ 114 (List._∷_ 100 (List._∷_ 115 (List._∷_ 58 (List._∷_ 58 (List._∷_ 82 (List._∷_ 101 (List._∷_ 102 (List._∷_ 117 (List._∷_ 115 (List._∷_ 97 (List._∷_ 108 List.[])))))))))))))))))))))))) (Syntax.tcons (Syntax.tyInt Syntax.w64) (Syntax.tcons (Syntax.tyInt Syntax.w64) Syntax.tnil))) Syntax.tnil) (Syntax.ttcons (Syntax.tcons (Syntax.tyStruct (List._∷_ 115 (List._∷_ 99 (List._∷_ 114 (List._∷_ 105 (List._∷_ 112 (List._∷_ 116 (List._∷_ 58 (List._∷_ 58 (List._∷_ 114 (List._∷_ 101 (List._∷_ 99 (List._∷_ 111 (List._∷_ 114 (List._∷_ 100 (List._∷_ 115 (List._∷_ 58 (List._∷_ 58 (List._∷_ 67 (List._∷_ 111 (List._∷_ 117 (List._∷_ 110 (List._∷_ 116 (List._∷_ 115 List.[]))))))))))))))))))))))) (Syntax.tcons (Syntax.tyInt Syntax.w64) (Syntax.tcons (Syntax.tyInt Syntax.w64) (Syntax.tcons (Syntax.tyInt Syntax.w64) (Syntax.tcons (Syntax.tyInt Syntax.w64) Syntax.tnil))))) Syntax.tnil) Syntax.ttnil))
 
 abbrev kind0 : KValue.Valued
-kind0 = record { ty = Declared.row Measured.the-type; one = Path'.refl; val = Laws'.val Measured.the-type Laws.the-laws; tells = Laws'.tells Measured.the-type Laws.the-laws; still = Laws'.still Measured.the-type Laws.the-copy Exit.yes; row = Rows'.whole (Declared.row Measured.the-type); rd = λ x. x; mk = λ x. x; }
+kind0 = record { ty = Declared.row Measured.the-type; one = Path'.refl; val = Laws'.val Measured.the-type Laws.the-laws; tells = Laws'.tells Measured.the-type Laws.the-laws; still = Laws'.still Measured.the-type Laws.the-copy Exit.yes; row = Rows'.whole (Declared.row Measured.the-type); rd = λ x. x; mk = λ x. x }
 
 abbrev kind0-laws : (M : Type 1) (𝓤 : URA.URA M) (H : Wp.Heap 𝓤) (A : Atoms.Atoms 𝓤) → Kit.Given 𝓤 H A → KValue.ValuedLaws 𝓤 H A kind0
-kind0-laws = λ M 𝓤 H A W. record { copies = Laws'.copy Measured.the-type Laws.the-copy 𝓤 H A W; lawful = Laws'.lawful Measured.the-type Laws.the-laws 𝓤 H A W tt; makes = Laws'.makes Measured.the-type Laws.the-plain 𝓤 H A; in-mem = RLocal.mem-whole 𝓤 H A W (Declared.row Measured.the-type); of-mem = RLocal.whole-mem 𝓤 H A W (Declared.row Measured.the-type); }
+kind0-laws = λ M 𝓤 H A W. record { copies = Laws'.copy Measured.the-type Laws.the-copy 𝓤 H A W; lawful = Laws'.lawful Measured.the-type Laws.the-laws 𝓤 H A W tt; makes = Laws'.makes Measured.the-type Laws.the-plain 𝓤 H A; in-mem = RLocal.mem-whole 𝓤 H A W (Declared.row Measured.the-type); of-mem = RLocal.whole-mem 𝓤 H A W (Declared.row Measured.the-type) }
 
 abbrev pub ps : List.List (Kinds.PK 1)
 ps = List._∷_ (ShrSlice.pShrS (TReferent.rtF (TReferent.fInt Syntax.w8)) 0 tt) List.[]
@@ -211,7 +211,7 @@ module _ (claims· : Claims) where
   s6 = λ bs. Relend.k-sl-aggregate KeptElem.R (Relend.asMut KeptElem.R) T7 4 5 1 (Syntax.tyRef Syntax.erased Syntax.mut (Syntax.tyArray KeptElem.behind 1)) (Syntax.tyRef Syntax.erased Syntax.mut KeptElem.behind) (λ x. x) (RScalar.oInt Syntax.w64 1)
 
   abbrev s7 : (bs : List.List Nat.ℕ) → Typed.Both T8 T9
-  s7 = λ bs. Call.callB ps·1 r·1 (claims· .2) (claims· .3) T8 (record { pos = 1; ty = Syntax.tyRef (Syntax.named 0) Syntax.imm (Syntax.tyInt Syntax.w8); ref = λ x. x; }, (record { pos = 5; ty = Syntax.tyRef Syntax.erased Syntax.mut KeptElem.behind; ref = λ x. x; }, tt)) 0 (List._∷_ 0 (List._∷_ 1 List.[])) τ0
+  s7 = λ bs. Call.callB ps·1 r·1 (claims· .2) (claims· .3) T8 (record { pos = 1; ty = Syntax.tyRef (Syntax.named 0) Syntax.imm (Syntax.tyInt Syntax.w8); ref = λ x. x }, (record { pos = 5; ty = Syntax.tyRef Syntax.erased Syntax.mut KeptElem.behind; ref = λ x. x }, tt)) 0 (List._∷_ 0 (List._∷_ 1 List.[])) τ0
 
   abbrev s9 : (bs : List.List Nat.ℕ) → Typed.Both T9 T11
   s9 = λ bs. Borrow.k-back-arr KeptElem.R T9 5 2 1 1 (Syntax.tyRef Syntax.erased Syntax.mut KeptElem.behind) (λ x. x) λ x. x
@@ -273,46 +273,46 @@ module _ (claims· : Claims) where
 
       module _ (κs : Lifetimes.Lfts 1) (qs : Lifetimes.Shares 1) where
         abbrev G0 : Row.Cx
-        G0 = record { locals = t0; slots = List._∷_ (Row.lease (κs .0) (qs .0)) (List._∷_ Row.off List.[]); }
+        G0 = record { locals = t0; slots = List._∷_ (Row.lease (κs .0) (qs .0)) (List._∷_ Row.off List.[]) }
 
         abbrev G1 : Row.Cx
-        G1 = record { locals = t1; slots = List._∷_ (Row.lease (κs .0) (qs .0)) (List._∷_ Row.off List.[]); }
+        G1 = record { locals = t1; slots = List._∷_ (Row.lease (κs .0) (qs .0)) (List._∷_ Row.off List.[]) }
 
         abbrev G2 : Row.Cx
-        G2 = record { locals = t0; slots = List._∷_ (Row.lease (κs .0) (qs .0)) (List._∷_ Row.off List.[]); }
+        G2 = record { locals = t0; slots = List._∷_ (Row.lease (κs .0) (qs .0)) (List._∷_ Row.off List.[]) }
 
         abbrev G3 : Row.Cx
-        G3 = record { locals = t2; slots = List._∷_ (Row.lease (κs .0) (qs .0)) (List._∷_ Row.off List.[]); }
+        G3 = record { locals = t2; slots = List._∷_ (Row.lease (κs .0) (qs .0)) (List._∷_ Row.off List.[]) }
 
         abbrev G4 : Row.Cx
-        G4 = record { locals = t3; slots = List._∷_ (Row.lease (κs .0) (qs .0)) (List._∷_ Row.off List.[]); }
+        G4 = record { locals = t3; slots = List._∷_ (Row.lease (κs .0) (qs .0)) (List._∷_ Row.off List.[]) }
 
         abbrev G5 : Row.Cx
-        G5 = record { locals = t4; slots = List._∷_ (Row.lease (κs .0) (qs .0)) (List._∷_ Row.off List.[]); }
+        G5 = record { locals = t4; slots = List._∷_ (Row.lease (κs .0) (qs .0)) (List._∷_ Row.off List.[]) }
 
         abbrev G6 : Row.Cx
-        G6 = record { locals = t4; slots = List._∷_ (Row.lease (κs .0) (qs .0)) (List._∷_ Row.alive List.[]); }
+        G6 = record { locals = t4; slots = List._∷_ (Row.lease (κs .0) (qs .0)) (List._∷_ Row.alive List.[]) }
 
         abbrev G7 : Row.Cx
-        G7 = record { locals = t5; slots = List._∷_ (Row.lease (κs .0) (qs .0)) (List._∷_ Row.alive List.[]); }
+        G7 = record { locals = t5; slots = List._∷_ (Row.lease (κs .0) (qs .0)) (List._∷_ Row.alive List.[]) }
 
         abbrev G8 : Row.Cx
-        G8 = record { locals = t6; slots = List._∷_ (Row.lease (κs .0) (qs .0)) (List._∷_ Row.alive List.[]); }
+        G8 = record { locals = t6; slots = List._∷_ (Row.lease (κs .0) (qs .0)) (List._∷_ Row.alive List.[]) }
 
         abbrev G9 : Row.Cx
-        G9 = record { locals = t7; slots = List._∷_ (Row.lease (κs .0) (qs .0)) (List._∷_ Row.alive List.[]); }
+        G9 = record { locals = t7; slots = List._∷_ (Row.lease (κs .0) (qs .0)) (List._∷_ Row.alive List.[]) }
 
         abbrev G10 : Row.Cx
-        G10 = record { locals = t7; slots = List._∷_ (Row.lease (κs .0) (qs .0)) (List._∷_ Row.dead List.[]); }
+        G10 = record { locals = t7; slots = List._∷_ (Row.lease (κs .0) (qs .0)) (List._∷_ Row.dead List.[]) }
 
         abbrev G11 : Row.Cx
-        G11 = record { locals = t8; slots = List._∷_ (Row.lease (κs .0) (qs .0)) (List._∷_ Row.dead List.[]); }
+        G11 = record { locals = t8; slots = List._∷_ (Row.lease (κs .0) (qs .0)) (List._∷_ Row.dead List.[]) }
 
         abbrev G12 : Row.Cx
-        G12 = record { locals = t8; slots = List._∷_ (Row.lease (κs .0) (qs .0)) (List._∷_ Row.off List.[]); }
+        G12 = record { locals = t8; slots = List._∷_ (Row.lease (κs .0) (qs .0)) (List._∷_ Row.off List.[]) }
 
         abbrev G13 : Row.Cx
-        G13 = record { locals = t1; slots = List._∷_ (Row.lease (κs .0) (qs .0)) (List._∷_ Row.off List.[]); }
+        G13 = record { locals = t1; slots = List._∷_ (Row.lease (κs .0) (qs .0)) (List._∷_ Row.off List.[]) }
 
         abbrev Δ0 : Typed.Outs
         Δ0 = record { next = Option.none; exits = List.[]; returns = Option.some G1 }
@@ -337,7 +337,7 @@ module _ (claims· : Claims) where
           d4 = Typed.g-pre 𝓤 H A W 𝓣 E G9 G10 b5 Δ0 (λ Ψ. Ψ) (at3 bs) (Lifetime.g-end 𝓤 H A W E G9 1 Path'.refl) d3
 
           d5 : Typed.Typed 𝓤 H A 𝓣 E G8 b6 Δ0 (at5 bs)
-          d5 = Typed.s-seq 𝓤 H A W 𝓣 E G8 G9 b4 b5 Δ0 (Typed.both (s7 bs)) (at4 bs) (Plain.t-call-plain 𝓤 H A W 𝓣 2 ps·1 r·1 (claims· .2) (claims· .3) "parse::measure::measure_keeping" (known .1) E (λ pos β. β) G8 (record { pos = 1; ty = Syntax.tyRef (Syntax.named 0) Syntax.imm (Syntax.tyInt Syntax.w8); ref = λ x. x; }, (record { pos = 5; ty = Syntax.tyRef Syntax.erased Syntax.mut KeptElem.behind; ref = λ x. x; }, tt)) 0 (List._∷_ 0 (List._∷_ 1 List.[])) (Call.sub-id 𝓤 H A W (G8 .slots)) (ShrSlice.spares-sslice 𝓤 H A W (TReferent.rtF (TReferent.fInt Syntax.w8)) (Syntax.tyRef (Syntax.named 0) Syntax.imm (Syntax.tyInt Syntax.w8)) 0, SShared.reads-sslice 𝓤 H A W (TReferent.rtF (TReferent.fInt Syntax.w8)) (Syntax.tyRef (Syntax.named 0) Syntax.imm (Syntax.tyInt Syntax.w8)) 0, Path'.refl, (Reads.as-is 𝓤 H A (Mut.mslice KeptElem.R (Syntax.tyRef Syntax.erased Syntax.mut KeptElem.behind) 1), Mut.reads-mslice 𝓤 H A W KeptElem.R (Syntax.tyRef Syntax.erased Syntax.mut KeptElem.behind) 1, Path'.refl, tt)) (Reads.room-gone 𝓤 H A τ0) (tt, (tt, tt)) Path'.refl) d4
+          d5 = Typed.s-seq 𝓤 H A W 𝓣 E G8 G9 b4 b5 Δ0 (Typed.both (s7 bs)) (at4 bs) (Plain.t-call-plain 𝓤 H A W 𝓣 2 ps·1 r·1 (claims· .2) (claims· .3) "parse::measure::measure_keeping" (known .1) E (λ pos β. β) G8 (record { pos = 1; ty = Syntax.tyRef (Syntax.named 0) Syntax.imm (Syntax.tyInt Syntax.w8); ref = λ x. x }, (record { pos = 5; ty = Syntax.tyRef Syntax.erased Syntax.mut KeptElem.behind; ref = λ x. x }, tt)) 0 (List._∷_ 0 (List._∷_ 1 List.[])) (Call.sub-id 𝓤 H A W (G8 .slots)) (ShrSlice.spares-sslice 𝓤 H A W (TReferent.rtF (TReferent.fInt Syntax.w8)) (Syntax.tyRef (Syntax.named 0) Syntax.imm (Syntax.tyInt Syntax.w8)) 0, SShared.reads-sslice 𝓤 H A W (TReferent.rtF (TReferent.fInt Syntax.w8)) (Syntax.tyRef (Syntax.named 0) Syntax.imm (Syntax.tyInt Syntax.w8)) 0, Path'.refl, (Reads.as-is 𝓤 H A (Mut.mslice KeptElem.R (Syntax.tyRef Syntax.erased Syntax.mut KeptElem.behind) 1), Mut.reads-mslice 𝓤 H A W KeptElem.R (Syntax.tyRef Syntax.erased Syntax.mut KeptElem.behind) 1, Path'.refl, tt)) (Reads.room-gone 𝓤 H A τ0) (tt, (tt, tt)) Path'.refl) d4
 
           d6 : Typed.Typed 𝓤 H A 𝓣 E G7 b7 Δ0 (at6 bs)
           d6 = Typed.s-seq 𝓤 H A W 𝓣 E G7 G8 b3 b6 Δ0 (Typed.ask (s6 bs)) (at5 bs) (Relend.t-sl-aggregate 𝓤 H A W E KeptElem.R 𝓣 (Relend.asMut KeptElem.R) G7 4 5 1 (Syntax.tyRef Syntax.erased Syntax.mut (Syntax.tyArray KeptElem.behind 1)) (Syntax.tyRef Syntax.erased Syntax.mut KeptElem.behind) (λ x. x) (RScalar.oInt Syntax.w64 1) (Reads.as-is 𝓤 H A (Relend.msptr KeptElem.R (Syntax.tyRef Syntax.erased Syntax.mut (Syntax.tyArray KeptElem.behind 1)) 1)) (Reads.room-gone 𝓤 H A (Syntax.tyStruct (List._∷_ 38 (List._∷_ 91 (List._∷_ 93 List.[]))) (Syntax.tcons (Syntax.tyRef Syntax.erased Syntax.mut KeptElem.behind) (Syntax.tcons (Syntax.tyInt Syntax.w64) Syntax.tnil)))) tt Path'.refl Path'.refl λ b o k. tt) d5
@@ -442,14 +442,14 @@ module _ (claims· : Claims) where
 
       module _ (before· : After-kept) where
         abbrev pub After-measure-keeping·own : Type 0
-        After-measure-keeping·own = Called.Called ps·1 r·1 (claims· .3) T8 (record { pos = 1; ty = Syntax.tyRef (Syntax.named 0) Syntax.imm (Syntax.tyInt Syntax.w8); ref = λ x. x; }, (record { pos = 5; ty = Syntax.tyRef Syntax.erased Syntax.mut KeptElem.behind; ref = λ x. x; }, tt)) (m6 (before· .before) (before· .kept .given))
+        After-measure-keeping·own = Called.Called ps·1 r·1 (claims· .3) T8 (record { pos = 1; ty = Syntax.tyRef (Syntax.named 0) Syntax.imm (Syntax.tyInt Syntax.w8); ref = λ x. x }, (record { pos = 5; ty = Syntax.tyRef Syntax.erased Syntax.mut KeptElem.behind; ref = λ x. x }, tt)) (m6 (before· .before) (before· .kept .given))
 
       pub record After-measure-keeping : Type 0 where
         pub before : After-kept
         pub measure-keeping : After-measure-keeping·own before
 
       abbrev pub After-measure-keeping·gave : (c : After-measure-keeping) → s7 (c .before .before .before .before .blocks) .gives (m6 (c .before .before) (c .before .kept .given))
-      After-measure-keeping·gave = λ c. Called.given ps·1 r·1 (claims· .3) T8 (record { pos = 1; ty = Syntax.tyRef (Syntax.named 0) Syntax.imm (Syntax.tyInt Syntax.w8); ref = λ x. x; }, (record { pos = 5; ty = Syntax.tyRef Syntax.erased Syntax.mut KeptElem.behind; ref = λ x. x; }, tt)) (m6 (c .before .before) (c .before .kept .given)) (c .measure-keeping)
+      After-measure-keeping·gave = λ c. Called.given ps·1 r·1 (claims· .3) T8 (record { pos = 1; ty = Syntax.tyRef (Syntax.named 0) Syntax.imm (Syntax.tyInt Syntax.w8); ref = λ x. x }, (record { pos = 5; ty = Syntax.tyRef Syntax.erased Syntax.mut KeptElem.behind; ref = λ x. x }, tt)) (m6 (c .before .before) (c .before .kept .given)) (c .measure-keeping)
 
       abbrev pub m8 : (before : After-measure-keeping) → (given : s9 (before .before .before .before .before .blocks) .gives (m7 (before .before) (After-measure-keeping·gave before))) → Typed.Mo T11
       m8 = λ before given. s9 (before .before .before .before .before .blocks) .next (m7 (before .before) (After-measure-keeping·gave before)) given
@@ -470,17 +470,17 @@ module _ (claims· : Claims) where
 
       module _ (no-room-requires : Need-no-room-requires) (slice-aggregate-measure-keeping : Need-slice-aggregate-measure-keeping) (measure-keeping-requires : Need-measure-keeping-requires) (returns : Need-returns) where
         lay2 : (c : After-measure-keeping) → at4 (c .before .before .before .before .blocks) (W0 (c .before .before .before .before .κs) (c .before .before .before .before .args) (c .before .before .before .before .blocks)) (m7 (c .before) (After-measure-keeping·gave c))
-        lay2 = λ c. (Path'.refl, λ g. ((Path'.refl, tt), returns record { before = record { before = c .before; measure-keeping = c .measure-keeping }; kept2 = record { given = g }; }))
+        lay2 = λ c. (Path'.refl, λ g. ((Path'.refl, tt), returns record { before = record { before = c .before; measure-keeping = c .measure-keeping }; kept2 = record { given = g } }))
 
         lay1 : (c : After-no-room) → at10 (c .before .before .blocks) (W0 (c .before .before .κs) (c .before .before .args) (c .before .before .blocks)) (m2 (c .before) (After-no-room·gave c))
-        lay1 = λ c. λ g. (Relend.count-is T7 4 5 (λ x. x) (λ u. 1) (m5 record { before = c .before; no-room = c .no-room; } g) (slice-aggregate-measure-keeping record { before = record { before = c .before; no-room = c .no-room }; kept = record { given = g }; }), (measure-keeping-requires record { before = record { before = c .before; no-room = c .no-room }; kept = record { given = g }; }, λ g'. lay2 record { before = record { before = record { before = c .before; no-room = c .no-room }; kept = record { given = g }; }; measure-keeping = Called.called ps·1 r·1 (claims· .3) T8 (record { pos = 1; ty = Syntax.tyRef (Syntax.named 0) Syntax.imm (Syntax.tyInt Syntax.w8); ref = λ x. x; }, (record { pos = 5; ty = Syntax.tyRef Syntax.erased Syntax.mut KeptElem.behind; ref = λ x. x; }, tt)) (m6 record { before = c .before; no-room = c .no-room } g) g'; }))
+        lay1 = λ c. λ g. (Relend.count-is T7 4 5 (λ x. x) (λ u. 1) (m5 record { before = c .before; no-room = c .no-room } g) (slice-aggregate-measure-keeping record { before = record { before = c .before; no-room = c .no-room }; kept = record { given = g } }), (measure-keeping-requires record { before = record { before = c .before; no-room = c .no-room }; kept = record { given = g } }, λ g'. lay2 record { before = record { before = record { before = c .before; no-room = c .no-room }; kept = record { given = g } }; measure-keeping = Called.called ps·1 r·1 (claims· .3) T8 (record { pos = 1; ty = Syntax.tyRef (Syntax.named 0) Syntax.imm (Syntax.tyInt Syntax.w8); ref = λ x. x }, (record { pos = 5; ty = Syntax.tyRef Syntax.erased Syntax.mut KeptElem.behind; ref = λ x. x }, tt)) (m6 record { before = c .before; no-room = c .no-room } g) g' }))
 
         pub laid : (c : Start) → at12 (c .blocks) (W0 (c .κs) (c .args) (c .blocks)) (m0 (c .κs) (c .args) (c .blocks))
-        laid = λ c. λ g. (no-room-requires record { before = c; shared-slice-known = record { given = g } }, λ g'. lay1 record { before = record { before = c; shared-slice-known = record { given = g } }; no-room = Called.called ps·0 r·0 (claims· .1) T2 tt (m1 c g) g'; })
+        laid = λ c. λ g. (no-room-requires record { before = c; shared-slice-known = record { given = g } }, λ g'. lay1 record { before = record { before = c; shared-slice-known = record { given = g } }; no-room = Called.called ps·0 r·0 (claims· .1) T2 tt (m1 c g) g' })
 
         module _ (κs : Lifetimes.Lfts 1) (qs : Lifetimes.Shares 1) where
           pub asked : (a : Kinds.Dens κs ps) → (good : Kinds.GoodsP κs ps a) → (pre : Pre· κs a) → (bs : List.List Nat.ℕ) → Φ bs (Any.wantQ 1 ps r xs m κs qs a (Post· κs a)) (Function.init 1 ps r xs m κs qs a)
-          asked = λ a good pre bs. laid record { κs = κs; args = record { text = a .0 }; blocks = bs; good = good; pre = pre; }
+          asked = λ a good pre bs. laid record { κs = κs; args = record { text = a .0 }; blocks = bs; good = good; pre = pre }
 
         module _ {M : Type 1} (𝓤 : URA.URA M) (H : Wp.Heap 𝓤) (A : Atoms.Atoms 𝓤) (W : Kit.Given 𝓤 H A) (𝓣 : Wp.Tables 𝓤 H) (known0 : Plain.Known 𝓤 H A W 𝓣 0 ps·0 r·0 (claims· .0) (claims· .1) "kept::no_room") (known1 : Plain.Known 𝓤 H A W 𝓣 2 ps·1 r·1 (claims· .2) (claims· .3) "parse::measure::measure_keeping") where
           pub spec : Statement.Triple 𝓤 (Wp.WpFn 𝓤 H (𝓣 .C) (𝓣 .Λ) (Function.fnOf 1 ps r xs m hs body)) (Function.plainOf 𝓤 H A 1 ps r Pre· Post·)

@@ -21,4 +21,4 @@ abbrev pub ps : List.List (Kinds.PK 2)
 ps = List._∷_ (ShrSlice.pShrS (TReferent.rtF (TReferent.fInt Syntax.w8)) 0 tt) (List._∷_ (MutSlice.pMutS KeptElem.R 1 tt) List.[])
 
 abbrev pub r : Kinds.RK 2
-r = KValue.rVal record { ty = Declared.row Measured.the-type; one = Path'.refl; val = Laws'.val Measured.the-type Laws.the-laws; tells = Laws'.tells Measured.the-type Laws.the-laws; still = Laws'.still Measured.the-type Laws.the-copy Exit.yes; row = Rows.whole (Declared.row Measured.the-type); rd = λ x. x; mk = λ x. x; } λ M 𝓤 H A W. record { copies = Laws'.copy Measured.the-type Laws.the-copy 𝓤 H A W; lawful = Laws'.lawful Measured.the-type Laws.the-laws 𝓤 H A W tt; makes = Laws'.makes Measured.the-type Laws.the-plain 𝓤 H A; in-mem = RLocal.mem-whole 𝓤 H A W (Declared.row Measured.the-type); of-mem = RLocal.whole-mem 𝓤 H A W (Declared.row Measured.the-type); }
+r = KValue.rVal record { ty = Declared.row Measured.the-type; one = Path'.refl; val = Laws'.val Measured.the-type Laws.the-laws; tells = Laws'.tells Measured.the-type Laws.the-laws; still = Laws'.still Measured.the-type Laws.the-copy Exit.yes; row = Rows.whole (Declared.row Measured.the-type); rd = λ x. x; mk = λ x. x } λ M 𝓤 H A W. record { copies = Laws'.copy Measured.the-type Laws.the-copy 𝓤 H A W; lawful = Laws'.lawful Measured.the-type Laws.the-laws 𝓤 H A W tt; makes = Laws'.makes Measured.the-type Laws.the-plain 𝓤 H A; in-mem = RLocal.mem-whole 𝓤 H A W (Declared.row Measured.the-type); of-mem = RLocal.whole-mem 𝓤 H A W (Declared.row Measured.the-type) }

@@ -125,58 +125,58 @@ abbrev τ10 : Syntax.Ty
 τ10 = Syntax.tyEnum (List._∷_ 112 (List._∷_ 97 (List._∷_ 114 (List._∷_ 115 (List._∷_ 101 (List._∷_ 58 (List._∷_ 58 (List._∷_ 109 (List._∷_ 101 (List._∷_ 97 (List._∷_ 115 (List._∷_ 117 (List._∷_ 114 (List._∷_ 101 (List._∷_ 58 (List._∷_ 58 (List._∷_ 77 (List._∷_ 101 (List._∷_ 97 (List._∷_ 115 (List._∷_ 117 (List._∷_ 114 (List._∷_ 101 (List._∷_ 100 List.[])))))))))))))))))))))))) (Syntax.ttcons (Syntax.tcons (Syntax.tyStruct (List._∷_ 115 (List._∷_ 99 (List._∷_ 114 (List._∷_ 105 (List._∷_ 112 (List._∷_ 116 (List._∷_ 58 (List._∷_ 58 (List._∷_ 114 (List._∷_ 101 (List._∷_ 99 (List._∷_ 111 (List._∷_ 114 (List._∷_ 100 (List._∷_ 115 (List._∷_ 58 (List._∷_ 58 (List._∷_ 82 (List._∷_ 101 (List._∷_ 102 (List._∷_ 117 (List._∷_ 115 (List._∷_ 97 (List._∷_ 108 List.[])))))))))))))))))))))))) (Syntax.tcons (Syntax.tyInt Syntax.w64) (Syntax.tcons (Syntax.tyInt Syntax.w64) Syntax.tnil))) Syntax.tnil) (Syntax.ttcons (Syntax.tcons (Syntax.tyStruct (List._∷_ 115 (List._∷_ 99 (List._∷_ 114 (List._∷_ 105 (List._∷_ 112 (List._∷_ 116 (List._∷_ 58 (List._∷_ 58 (List._∷_ 114 (List._∷_ 101 (List._∷_ 99 (List._∷_ 111 (List._∷_ 114 (List._∷_ 100 (List._∷_ 115 (List._∷_ 58 (List._∷_ 58 (List._∷_ 67 (List._∷_ 111 (List._∷_ 117 (List._∷_ 110 (List._∷_ 116 (List._∷_ 115 List.[]))))))))))))))))))))))) (Syntax.tcons (Syntax.tyInt Syntax.w64) (Syntax.tcons (Syntax.tyInt Syntax.w64) (Syntax.tcons (Syntax.tyInt Syntax.w64) (Syntax.tcons (Syntax.tyInt Syntax.w64) Syntax.tnil))))) Syntax.tnil) Syntax.ttnil))
 
 abbrev kind0 : KValue.Valued
-kind0 = record { ty = Declared.row Measured.the-type; one = Path'.refl; val = Laws'11.val Measured.the-type Laws.the-laws; tells = Laws'11.tells Measured.the-type Laws.the-laws; still = Laws'11.still Measured.the-type Laws.the-copy Exit.yes; row = Rows.whole (Declared.row Measured.the-type); rd = λ x. x; mk = λ x. x; }
+kind0 = record { ty = Declared.row Measured.the-type; one = Path'.refl; val = Laws'11.val Measured.the-type Laws.the-laws; tells = Laws'11.tells Measured.the-type Laws.the-laws; still = Laws'11.still Measured.the-type Laws.the-copy Exit.yes; row = Rows.whole (Declared.row Measured.the-type); rd = λ x. x; mk = λ x. x }
 
 abbrev kind0-laws : (M : Type 1) (𝓤 : URA.URA M) (H : Wp.Heap 𝓤) (A : Atoms.Atoms 𝓤) → Kit.Given 𝓤 H A → KValue.ValuedLaws 𝓤 H A kind0
-kind0-laws = λ M 𝓤 H A W. record { copies = Laws'11.copy Measured.the-type Laws.the-copy 𝓤 H A W; lawful = Laws'11.lawful Measured.the-type Laws.the-laws 𝓤 H A W tt; makes = Laws'11.makes Measured.the-type Laws.the-plain 𝓤 H A; in-mem = RLocal.mem-whole 𝓤 H A W (Declared.row Measured.the-type); of-mem = RLocal.whole-mem 𝓤 H A W (Declared.row Measured.the-type); }
+kind0-laws = λ M 𝓤 H A W. record { copies = Laws'11.copy Measured.the-type Laws.the-copy 𝓤 H A W; lawful = Laws'11.lawful Measured.the-type Laws.the-laws 𝓤 H A W tt; makes = Laws'11.makes Measured.the-type Laws.the-plain 𝓤 H A; in-mem = RLocal.mem-whole 𝓤 H A W (Declared.row Measured.the-type); of-mem = RLocal.whole-mem 𝓤 H A W (Declared.row Measured.the-type) }
 
 abbrev kind1 : KValue.Valued
-kind1 = record { ty = Declared.row What.the-type; one = Path'.refl; val = Laws'11.val What.the-type Laws''.the-laws; tells = Laws'11.tells What.the-type Laws''.the-laws; still = Laws'11.still What.the-type Laws''.the-copy Exit.yes; row = Rows.whole (Declared.row What.the-type); rd = λ x. x; mk = λ x. x; }
+kind1 = record { ty = Declared.row What.the-type; one = Path'.refl; val = Laws'11.val What.the-type Laws''.the-laws; tells = Laws'11.tells What.the-type Laws''.the-laws; still = Laws'11.still What.the-type Laws''.the-copy Exit.yes; row = Rows.whole (Declared.row What.the-type); rd = λ x. x; mk = λ x. x }
 
 abbrev kind1-laws : (M : Type 1) (𝓤 : URA.URA M) (H : Wp.Heap 𝓤) (A : Atoms.Atoms 𝓤) → Kit.Given 𝓤 H A → KValue.ValuedLaws 𝓤 H A kind1
-kind1-laws = λ M 𝓤 H A W. record { copies = Laws'11.copy What.the-type Laws''.the-copy 𝓤 H A W; lawful = Laws'11.lawful What.the-type Laws''.the-laws 𝓤 H A W tt; makes = Laws'11.makes What.the-type Laws''.the-plain 𝓤 H A; in-mem = RLocal.mem-whole 𝓤 H A W (Declared.row What.the-type); of-mem = RLocal.whole-mem 𝓤 H A W (Declared.row What.the-type); }
+kind1-laws = λ M 𝓤 H A W. record { copies = Laws'11.copy What.the-type Laws''.the-copy 𝓤 H A W; lawful = Laws'11.lawful What.the-type Laws''.the-laws 𝓤 H A W tt; makes = Laws'11.makes What.the-type Laws''.the-plain 𝓤 H A; in-mem = RLocal.mem-whole 𝓤 H A W (Declared.row What.the-type); of-mem = RLocal.whole-mem 𝓤 H A W (Declared.row What.the-type) }
 
 abbrev kind2 : KValue.Valued
-kind2 = record { ty = Declared'.row Open.the-type; one = Path'.refl; val = Laws'13.val Open.the-type Laws'.the-laws; tells = Laws'13.tells Open.the-type Laws'.the-laws; still = Laws'13.still Open.the-type Laws'.the-copy Exit.yes; row = Rows.whole (Declared'.row Open.the-type); rd = λ x. x; mk = λ x. x; }
+kind2 = record { ty = Declared'.row Open.the-type; one = Path'.refl; val = Laws'13.val Open.the-type Laws'.the-laws; tells = Laws'13.tells Open.the-type Laws'.the-laws; still = Laws'13.still Open.the-type Laws'.the-copy Exit.yes; row = Rows.whole (Declared'.row Open.the-type); rd = λ x. x; mk = λ x. x }
 
 abbrev kind2-laws : (M : Type 1) (𝓤 : URA.URA M) (H : Wp.Heap 𝓤) (A : Atoms.Atoms 𝓤) → Kit.Given 𝓤 H A → KValue.ValuedLaws 𝓤 H A kind2
-kind2-laws = λ M 𝓤 H A W. record { copies = Laws'13.copy Open.the-type Laws'.the-copy 𝓤 H A W; lawful = Laws'13.lawful Open.the-type Laws'.the-laws 𝓤 H A W; makes = Laws'13.makes Open.the-type Laws'.the-plain 𝓤 H A; in-mem = RLocal.mem-whole 𝓤 H A W (Declared'.row Open.the-type); of-mem = RLocal.whole-mem 𝓤 H A W (Declared'.row Open.the-type); }
+kind2-laws = λ M 𝓤 H A W. record { copies = Laws'13.copy Open.the-type Laws'.the-copy 𝓤 H A W; lawful = Laws'13.lawful Open.the-type Laws'.the-laws 𝓤 H A W; makes = Laws'13.makes Open.the-type Laws'.the-plain 𝓤 H A; in-mem = RLocal.mem-whole 𝓤 H A W (Declared'.row Open.the-type); of-mem = RLocal.whole-mem 𝓤 H A W (Declared'.row Open.the-type) }
 
 abbrev kind3 : KValue.Valued
-kind3 = record { ty = Declared'.row Line.the-type; one = Path'.refl; val = Laws'13.val Line.the-type Laws'10.the-laws; tells = Laws'13.tells Line.the-type Laws'10.the-laws; still = Laws'13.still Line.the-type Laws'10.the-copy Exit.yes; row = Rows.whole (Declared'.row Line.the-type); rd = λ x. x; mk = λ x. x; }
+kind3 = record { ty = Declared'.row Line.the-type; one = Path'.refl; val = Laws'13.val Line.the-type Laws'10.the-laws; tells = Laws'13.tells Line.the-type Laws'10.the-laws; still = Laws'13.still Line.the-type Laws'10.the-copy Exit.yes; row = Rows.whole (Declared'.row Line.the-type); rd = λ x. x; mk = λ x. x }
 
 abbrev kind3-laws : (M : Type 1) (𝓤 : URA.URA M) (H : Wp.Heap 𝓤) (A : Atoms.Atoms 𝓤) → Kit.Given 𝓤 H A → KValue.ValuedLaws 𝓤 H A kind3
-kind3-laws = λ M 𝓤 H A W. record { copies = Laws'13.copy Line.the-type Laws'10.the-copy 𝓤 H A W; lawful = Laws'13.lawful Line.the-type Laws'10.the-laws 𝓤 H A W; makes = Laws'13.makes Line.the-type Laws'10.the-plain 𝓤 H A; in-mem = RLocal.mem-whole 𝓤 H A W (Declared'.row Line.the-type); of-mem = RLocal.whole-mem 𝓤 H A W (Declared'.row Line.the-type); }
+kind3-laws = λ M 𝓤 H A W. record { copies = Laws'13.copy Line.the-type Laws'10.the-copy 𝓤 H A W; lawful = Laws'13.lawful Line.the-type Laws'10.the-laws 𝓤 H A W; makes = Laws'13.makes Line.the-type Laws'10.the-plain 𝓤 H A; in-mem = RLocal.mem-whole 𝓤 H A W (Declared'.row Line.the-type); of-mem = RLocal.whole-mem 𝓤 H A W (Declared'.row Line.the-type) }
 
 abbrev kind4 : KValue.Valued
-kind4 = record { ty = Declared.row Where.the-type; one = Path'.refl; val = Laws'11.val Where.the-type Laws'9.the-laws; tells = Laws'11.tells Where.the-type Laws'9.the-laws; still = Laws'11.still Where.the-type Laws'9.the-copy Exit.yes; row = Rows.whole (Declared.row Where.the-type); rd = λ x. x; mk = λ x. x; }
+kind4 = record { ty = Declared.row Where.the-type; one = Path'.refl; val = Laws'11.val Where.the-type Laws'9.the-laws; tells = Laws'11.tells Where.the-type Laws'9.the-laws; still = Laws'11.still Where.the-type Laws'9.the-copy Exit.yes; row = Rows.whole (Declared.row Where.the-type); rd = λ x. x; mk = λ x. x }
 
 abbrev kind4-laws : (M : Type 1) (𝓤 : URA.URA M) (H : Wp.Heap 𝓤) (A : Atoms.Atoms 𝓤) → Kit.Given 𝓤 H A → KValue.ValuedLaws 𝓤 H A kind4
-kind4-laws = λ M 𝓤 H A W. record { copies = Laws'11.copy Where.the-type Laws'9.the-copy 𝓤 H A W; lawful = Laws'11.lawful Where.the-type Laws'9.the-laws 𝓤 H A W tt; makes = Laws'11.makes Where.the-type Laws'9.the-plain 𝓤 H A; in-mem = RLocal.mem-whole 𝓤 H A W (Declared.row Where.the-type); of-mem = RLocal.whole-mem 𝓤 H A W (Declared.row Where.the-type); }
+kind4-laws = λ M 𝓤 H A W. record { copies = Laws'11.copy Where.the-type Laws'9.the-copy 𝓤 H A W; lawful = Laws'11.lawful Where.the-type Laws'9.the-laws 𝓤 H A W tt; makes = Laws'11.makes Where.the-type Laws'9.the-plain 𝓤 H A; in-mem = RLocal.mem-whole 𝓤 H A W (Declared.row Where.the-type); of-mem = RLocal.whole-mem 𝓤 H A W (Declared.row Where.the-type) }
 
 abbrev kind5 : KValue.Valued
-kind5 = record { ty = Declared'.row Step.the-type; one = Path'.refl; val = Laws'13.val Step.the-type Laws'8.the-laws; tells = Laws'13.tells Step.the-type Laws'8.the-laws; still = Laws'13.still Step.the-type Laws'8.the-copy Exit.yes; row = Rows.whole (Declared'.row Step.the-type); rd = λ x. x; mk = λ x. x; }
+kind5 = record { ty = Declared'.row Step.the-type; one = Path'.refl; val = Laws'13.val Step.the-type Laws'8.the-laws; tells = Laws'13.tells Step.the-type Laws'8.the-laws; still = Laws'13.still Step.the-type Laws'8.the-copy Exit.yes; row = Rows.whole (Declared'.row Step.the-type); rd = λ x. x; mk = λ x. x }
 
 abbrev kind5-laws : (M : Type 1) (𝓤 : URA.URA M) (H : Wp.Heap 𝓤) (A : Atoms.Atoms 𝓤) → Kit.Given 𝓤 H A → KValue.ValuedLaws 𝓤 H A kind5
-kind5-laws = λ M 𝓤 H A W. record { copies = Laws'13.copy Step.the-type Laws'8.the-copy 𝓤 H A W; lawful = Laws'13.lawful Step.the-type Laws'8.the-laws 𝓤 H A W; makes = Laws'13.makes Step.the-type Laws'8.the-plain 𝓤 H A; in-mem = RLocal.mem-whole 𝓤 H A W (Declared'.row Step.the-type); of-mem = RLocal.whole-mem 𝓤 H A W (Declared'.row Step.the-type); }
+kind5-laws = λ M 𝓤 H A W. record { copies = Laws'13.copy Step.the-type Laws'8.the-copy 𝓤 H A W; lawful = Laws'13.lawful Step.the-type Laws'8.the-laws 𝓤 H A W; makes = Laws'13.makes Step.the-type Laws'8.the-plain 𝓤 H A; in-mem = RLocal.mem-whole 𝓤 H A W (Declared'.row Step.the-type); of-mem = RLocal.whole-mem 𝓤 H A W (Declared'.row Step.the-type) }
 
 abbrev kind6 : KValue.Valued
-kind6 = record { ty = Declared.row Saying.the-type; one = Path'.refl; val = Laws'11.val Saying.the-type Laws'7.the-laws; tells = Laws'11.tells Saying.the-type Laws'7.the-laws; still = Laws'11.still Saying.the-type Laws'7.the-copy Exit.yes; row = Rows.whole (Declared.row Saying.the-type); rd = λ x. x; mk = λ x. x; }
+kind6 = record { ty = Declared.row Saying.the-type; one = Path'.refl; val = Laws'11.val Saying.the-type Laws'7.the-laws; tells = Laws'11.tells Saying.the-type Laws'7.the-laws; still = Laws'11.still Saying.the-type Laws'7.the-copy Exit.yes; row = Rows.whole (Declared.row Saying.the-type); rd = λ x. x; mk = λ x. x }
 
 abbrev kind6-laws : (M : Type 1) (𝓤 : URA.URA M) (H : Wp.Heap 𝓤) (A : Atoms.Atoms 𝓤) → Kit.Given 𝓤 H A → KValue.ValuedLaws 𝓤 H A kind6
-kind6-laws = λ M 𝓤 H A W. record { copies = Laws'11.copy Saying.the-type Laws'7.the-copy 𝓤 H A W; lawful = Laws'11.lawful Saying.the-type Laws'7.the-laws 𝓤 H A W tt; makes = Laws'11.makes Saying.the-type Laws'7.the-plain 𝓤 H A; in-mem = RLocal.mem-whole 𝓤 H A W (Declared.row Saying.the-type); of-mem = RLocal.whole-mem 𝓤 H A W (Declared.row Saying.the-type); }
+kind6-laws = λ M 𝓤 H A W. record { copies = Laws'11.copy Saying.the-type Laws'7.the-copy 𝓤 H A W; lawful = Laws'11.lawful Saying.the-type Laws'7.the-laws 𝓤 H A W tt; makes = Laws'11.makes Saying.the-type Laws'7.the-plain 𝓤 H A; in-mem = RLocal.mem-whole 𝓤 H A W (Declared.row Saying.the-type); of-mem = RLocal.whole-mem 𝓤 H A W (Declared.row Saying.the-type) }
 
 abbrev kind7 : KValue.Valued
-kind7 = record { ty = Declared'.row Counts.the-type; one = Path'.refl; val = Laws'13.val Counts.the-type Laws'3.the-laws; tells = Laws'13.tells Counts.the-type Laws'3.the-laws; still = Laws'13.still Counts.the-type Laws'3.the-copy Exit.yes; row = Rows.whole (Declared'.row Counts.the-type); rd = λ x. x; mk = λ x. x; }
+kind7 = record { ty = Declared'.row Counts.the-type; one = Path'.refl; val = Laws'13.val Counts.the-type Laws'3.the-laws; tells = Laws'13.tells Counts.the-type Laws'3.the-laws; still = Laws'13.still Counts.the-type Laws'3.the-copy Exit.yes; row = Rows.whole (Declared'.row Counts.the-type); rd = λ x. x; mk = λ x. x }
 
 abbrev kind7-laws : (M : Type 1) (𝓤 : URA.URA M) (H : Wp.Heap 𝓤) (A : Atoms.Atoms 𝓤) → Kit.Given 𝓤 H A → KValue.ValuedLaws 𝓤 H A kind7
-kind7-laws = λ M 𝓤 H A W. record { copies = Laws'13.copy Counts.the-type Laws'3.the-copy 𝓤 H A W; lawful = Laws'13.lawful Counts.the-type Laws'3.the-laws 𝓤 H A W; makes = Laws'13.makes Counts.the-type Laws'3.the-plain 𝓤 H A; in-mem = RLocal.mem-whole 𝓤 H A W (Declared'.row Counts.the-type); of-mem = RLocal.whole-mem 𝓤 H A W (Declared'.row Counts.the-type); }
+kind7-laws = λ M 𝓤 H A W. record { copies = Laws'13.copy Counts.the-type Laws'3.the-copy 𝓤 H A W; lawful = Laws'13.lawful Counts.the-type Laws'3.the-laws 𝓤 H A W; makes = Laws'13.makes Counts.the-type Laws'3.the-plain 𝓤 H A; in-mem = RLocal.mem-whole 𝓤 H A W (Declared'.row Counts.the-type); of-mem = RLocal.whole-mem 𝓤 H A W (Declared'.row Counts.the-type) }
 
 abbrev kind8 : KValue.Valued
-kind8 = record { ty = Declared'.row Opening.the-type; one = Path'.refl; val = Laws'13.val Opening.the-type Laws'5.the-laws; tells = Laws'13.tells Opening.the-type Laws'5.the-laws; still = Laws'13.still Opening.the-type Laws'5.the-copy Exit.yes; row = Rows.whole (Declared'.row Opening.the-type); rd = λ x. x; mk = λ x. x; }
+kind8 = record { ty = Declared'.row Opening.the-type; one = Path'.refl; val = Laws'13.val Opening.the-type Laws'5.the-laws; tells = Laws'13.tells Opening.the-type Laws'5.the-laws; still = Laws'13.still Opening.the-type Laws'5.the-copy Exit.yes; row = Rows.whole (Declared'.row Opening.the-type); rd = λ x. x; mk = λ x. x }
 
 abbrev kind8-laws : (M : Type 1) (𝓤 : URA.URA M) (H : Wp.Heap 𝓤) (A : Atoms.Atoms 𝓤) → Kit.Given 𝓤 H A → KValue.ValuedLaws 𝓤 H A kind8
-kind8-laws = λ M 𝓤 H A W. record { copies = Laws'13.copy Opening.the-type Laws'5.the-copy 𝓤 H A W; lawful = Laws'13.lawful Opening.the-type Laws'5.the-laws 𝓤 H A W; makes = Laws'13.makes Opening.the-type Laws'5.the-plain 𝓤 H A; in-mem = RLocal.mem-whole 𝓤 H A W (Declared'.row Opening.the-type); of-mem = RLocal.whole-mem 𝓤 H A W (Declared'.row Opening.the-type); }
+kind8-laws = λ M 𝓤 H A W. record { copies = Laws'13.copy Opening.the-type Laws'5.the-copy 𝓤 H A W; lawful = Laws'13.lawful Opening.the-type Laws'5.the-laws 𝓤 H A W; makes = Laws'13.makes Opening.the-type Laws'5.the-plain 𝓤 H A; in-mem = RLocal.mem-whole 𝓤 H A W (Declared'.row Opening.the-type); of-mem = RLocal.whole-mem 𝓤 H A W (Declared'.row Opening.the-type) }
 
 abbrev pub ps : List.List (Kinds.PK 2)
 ps = List._∷_ (ShrSlice.pShrS (TReferent.rtF (TReferent.fInt Syntax.w8)) 0 tt) (List._∷_ (MutSlice.pMutS KeptElem.R 1 tt) List.[])
@@ -948,10 +948,10 @@ module _ (claims· : Claims) where
   s14 = RScalar.n-room T17 17 Syntax.tyBool
 
   abbrev s15 : Typed.Both T14 T19
-  s15 = Call.callB ps·1 r·1 (claims· .2) (claims· .3) T14 (record { pos = 1; ty = Syntax.tyRef (Syntax.named 0) Syntax.imm (Syntax.tyInt Syntax.w8); ref = λ x. x; }, (Num.vAt 6 λ x. x, (Num.vAt 7 λ x. x, tt))) 8 (List._∷_ 0 List.[]) τ3
+  s15 = Call.callB ps·1 r·1 (claims· .2) (claims· .3) T14 (record { pos = 1; ty = Syntax.tyRef (Syntax.named 0) Syntax.imm (Syntax.tyInt Syntax.w8); ref = λ x. x }, (Num.vAt 6 λ x. x, (Num.vAt 7 λ x. x, tt))) 8 (List._∷_ 0 List.[]) τ3
 
   abbrev s16 : Typed.Both T19 T20
-  s16 = Call.callB ps·2 r·2 (claims· .4) (claims· .5) T19 (record { pos = 1; ty = Syntax.tyRef (Syntax.named 0) Syntax.imm (Syntax.tyInt Syntax.w8); ref = λ x. x; }, (record { pos = 5; st = List.[]; d = 0; at = λ x. x }, (record { pos = 8; st = List.[]; d = 0; at = λ x. x }, tt))) 9 (List._∷_ 0 List.[]) τ4
+  s16 = Call.callB ps·2 r·2 (claims· .4) (claims· .5) T19 (record { pos = 1; ty = Syntax.tyRef (Syntax.named 0) Syntax.imm (Syntax.tyInt Syntax.w8); ref = λ x. x }, (record { pos = 5; st = List.[]; d = 0; at = λ x. x }, (record { pos = 8; st = List.[]; d = 0; at = λ x. x }, tt))) 9 (List._∷_ 0 List.[]) τ4
 
   abbrev s17 : Typed.Mo T20 → Typed.Mo T21
   s17 = Make'.n-make (Declared.row Role.the-type) T20 10 λ m. Step.struct .as-values (m .1 .1 .1 .1 .1 .1 .1 .1 .1 .0) .0
@@ -966,7 +966,7 @@ module _ (claims· : Claims) where
   s21 = Relend.k-sl-aggregate KeptElem.R (Relend.asMut KeptElem.R) T24 19 20 2 (Syntax.tyRef Syntax.erased Syntax.mut KeptElem.behind) (Syntax.tyRef Syntax.erased Syntax.mut KeptElem.behind) (λ x. x) (RScalar.oFld 2 (List._∷_ (Syntax.field 1) List.[]) (Syntax.tyInt Syntax.w64) 8 λ v. SShared.lenV (v .0))
 
   abbrev s22 : Typed.Both T25 T26
-  s22 = Call.callB ps·3 r·3 (claims· .6) (claims· .7) T25 (record { pos = 20; ty = Syntax.tyRef Syntax.erased Syntax.mut KeptElem.behind; ref = λ x. x; }, (Num.vAt 7 λ x. x, (Num.vAt 6 λ x. x, (record { pos = 5; st = List.[]; d = 0; at = λ x. x }, (Num.vFld 8 (List._∷_ (Syntax.field 3) List.[]) 24 λ x. Line.struct .as-values x .1 .1 .1 .0, (record { pos = 9; st = List.[]; d = 0; at = λ x. x }, tt)))))) 18 (List._∷_ 2 List.[]) Syntax.tyUnit
+  s22 = Call.callB ps·3 r·3 (claims· .6) (claims· .7) T25 (record { pos = 20; ty = Syntax.tyRef Syntax.erased Syntax.mut KeptElem.behind; ref = λ x. x }, (Num.vAt 7 λ x. x, (Num.vAt 6 λ x. x, (record { pos = 5; st = List.[]; d = 0; at = λ x. x }, (Num.vFld 8 (List._∷_ (Syntax.field 3) List.[]) 24 λ x. Line.struct .as-values x .1 .1 .1 .0, (record { pos = 9; st = List.[]; d = 0; at = λ x. x }, tt)))))) 18 (List._∷_ 2 List.[]) Syntax.tyUnit
 
   abbrev s23 : Typed.Mo T26 → Typed.Mo T28
   s23 = RScalar.n-room T26 5 τ2
@@ -1005,7 +1005,7 @@ module _ (claims· : Claims) where
   s36 = RScalar.n-room T40 10 τ5
 
   abbrev s37 : Typed.Both T41 T42
-  s37 = Call.callB ps·4 r·4 (claims· .8) (claims· .9) T41 (record { pos = 1; ty = Syntax.tyRef (Syntax.named 0) Syntax.imm (Syntax.tyInt Syntax.w8); ref = λ x. x; }, (record { pos = 4; st = List.[]; d = 0; at = λ x. x }, (record { pos = 12; st = List.[]; d = 0; at = λ x. x }, tt))) 4 (List._∷_ 0 List.[]) τ1
+  s37 = Call.callB ps·4 r·4 (claims· .8) (claims· .9) T41 (record { pos = 1; ty = Syntax.tyRef (Syntax.named 0) Syntax.imm (Syntax.tyInt Syntax.w8); ref = λ x. x }, (record { pos = 4; st = List.[]; d = 0; at = λ x. x }, (record { pos = 12; st = List.[]; d = 0; at = λ x. x }, tt))) 4 (List._∷_ 0 List.[]) τ1
 
   abbrev s38 : Typed.Mo T42 → Typed.Mo T43
   s38 = RScalar.n-room T42 12 τ6
@@ -1053,7 +1053,7 @@ module _ (claims· : Claims) where
   s52 = RScalar.n-room T56 4 τ1
 
   abbrev s53 : Typed.Both T57 T58
-  s53 = Call.callB ps·6 r·6 (claims· .12) (claims· .13) T57 (record { pos = 1; ty = Syntax.tyRef (Syntax.named 0) Syntax.imm (Syntax.tyInt Syntax.w8); ref = λ x. x; }, (record { pos = 13; st = List.[]; d = 0; at = λ x. x }, tt)) 4 (List._∷_ 0 List.[]) τ1
+  s53 = Call.callB ps·6 r·6 (claims· .12) (claims· .13) T57 (record { pos = 1; ty = Syntax.tyRef (Syntax.named 0) Syntax.imm (Syntax.tyInt Syntax.w8); ref = λ x. x }, (record { pos = 13; st = List.[]; d = 0; at = λ x. x }, tt)) 4 (List._∷_ 0 List.[]) τ1
 
   abbrev s54 : Typed.Mo T58 → Typed.Mo T59
   s54 = RScalar.n-room T58 13 τ7
@@ -1140,7 +1140,7 @@ module _ (claims· : Claims) where
   s81 = RScalar.n-room T85 22 τ0
 
   abbrev put0 : List.List (KeptElem.R .Denot) × Rows.whole (Declared'.row Counts.the-type) .Mod × Rows.whole (Declared'.row Open.the-type) .Mod × Rows.whole (Declared.row Where.the-type) .Mod × Rows.sc-here (Row.sInt Syntax.w64) .Mod × Rows.sc-here (Row.sInt Syntax.w64) .Mod → Typed.Mo T11 → Typed.Mo T11
-  put0 = λ vs u. Row.set 7 (7, Rows.sc-here (Row.sInt Syntax.w64)) (vs .5) (T11 .locals) (Row.set 6 (6, Rows.sc-here (Row.sInt Syntax.w64)) (vs .4) (T11 .locals) (Row.set 5 (5, Rows.whole (Declared.row Where.the-type)) (vs .3) (T11 .locals) (Row.set 4 (4, Rows.whole (Declared'.row Open.the-type)) (vs .2) (T11 .locals) (Row.set 3 (3, Rows.whole (Declared'.row Counts.the-type)) (vs .1) (T11 .locals) (Row.set 2 (2, Mut.mslice KeptElem.R (Syntax.tyRef (Syntax.named 1) Syntax.mut KeptElem.behind) 1) record { ptr = Row.get 2 (T11 .locals) u .ptr; name = Row.get 2 (T11 .locals) u .name; now = vs .0; } (T11 .locals) u)))))
+  put0 = λ vs u. Row.set 7 (7, Rows.sc-here (Row.sInt Syntax.w64)) (vs .5) (T11 .locals) (Row.set 6 (6, Rows.sc-here (Row.sInt Syntax.w64)) (vs .4) (T11 .locals) (Row.set 5 (5, Rows.whole (Declared.row Where.the-type)) (vs .3) (T11 .locals) (Row.set 4 (4, Rows.whole (Declared'.row Open.the-type)) (vs .2) (T11 .locals) (Row.set 3 (3, Rows.whole (Declared'.row Counts.the-type)) (vs .1) (T11 .locals) (Row.set 2 (2, Mut.mslice KeptElem.R (Syntax.tyRef (Syntax.named 1) Syntax.mut KeptElem.behind) 1) record { ptr = Row.get 2 (T11 .locals) u .ptr; name = Row.get 2 (T11 .locals) u .name; now = vs .0 } (T11 .locals) u)))))
 
   module _ (Pre· : (κs : Lifetimes.Lfts 2) → Kinds.Dens κs ps → Type 0) (Post· : (κs : Lifetimes.Lfts 2) → (a : Kinds.Dens κs ps) → Kinds.Plain 2 ps r κs) where
     module _ (M : Type 1) where
@@ -1439,265 +1439,265 @@ module _ (claims· : Claims) where
         g25 = List._∷_ (0, Rows.any-gone τ10) (List._∷_ (1, Rows.sslice (TReferent.rtF (TReferent.fInt Syntax.w8)) (Syntax.tyRef (Syntax.named 0) Syntax.imm (Syntax.tyInt Syntax.w8)) 0) (List._∷_ (2, Relend.mslice-owed KeptElem.R (Syntax.tyRef (Syntax.named 1) Syntax.mut KeptElem.behind) 1 2 (Row.lease (κs .1 .0) (qs .1 .0))) (List._∷_ (3, Rows.whole (Declared'.row Counts.the-type)) (List._∷_ (4, Rows.whole (Declared'.row Open.the-type)) (List._∷_ (5, Rows.any-gone τ2) (List._∷_ (6, Rows.sc-here (Row.sInt Syntax.w64)) (List._∷_ (7, Rows.sc-here (Row.sInt Syntax.w64)) (List._∷_ (8, Rows.whole (Declared'.row Line.the-type)) (List._∷_ (9, Rows.any-gone τ4) (List._∷_ (10, Rows.whole (Declared.row Role.the-type)) (List._∷_ (11, Rows.whole (Declared.row Where.the-type)) (List._∷_ (12, Rows.any-gone τ6) (List._∷_ (13, Rows.any-gone τ7) (List._∷_ (14, Rows.any-gone (Syntax.tyInt Syntax.w64)) (List._∷_ (15, Rows.any-gone τ8) List.[])))))))))))))))
 
         abbrev G0 : Row.Cx
-        G0 = record { locals = List._++_ t0 t1; slots = List._∷_ (Row.lease (κs .0) (qs .0)) (List._∷_ (Row.lease (κs .1 .0) (qs .1 .0)) (List._∷_ Row.off List.[])); }
+        G0 = record { locals = List._++_ t0 t1; slots = List._∷_ (Row.lease (κs .0) (qs .0)) (List._∷_ (Row.lease (κs .1 .0) (qs .1 .0)) (List._∷_ Row.off List.[])) }
 
         abbrev G1 : Row.Cx
-        G1 = record { locals = List._++_ t2 t1; slots = List._∷_ (Row.lease (κs .0) (qs .0)) (List._∷_ (Row.lease (κs .1 .0) (qs .1 .0)) (List._∷_ Row.off List.[])); }
+        G1 = record { locals = List._++_ t2 t1; slots = List._∷_ (Row.lease (κs .0) (qs .0)) (List._∷_ (Row.lease (κs .1 .0) (qs .1 .0)) (List._∷_ Row.off List.[])) }
 
         abbrev G2 : Row.Cx
-        G2 = record { locals = List._++_ t0 t1; slots = List._∷_ (Row.lease (κs .0) (qs .0)) (List._∷_ (Row.lease (κs .1 .0) (qs .1 .0)) (List._∷_ Row.off List.[])); }
+        G2 = record { locals = List._++_ t0 t1; slots = List._∷_ (Row.lease (κs .0) (qs .0)) (List._∷_ (Row.lease (κs .1 .0) (qs .1 .0)) (List._∷_ Row.off List.[])) }
 
         abbrev G3 : Row.Cx
-        G3 = record { locals = List._++_ t3 t1; slots = List._∷_ (Row.lease (κs .0) (qs .0)) (List._∷_ (Row.lease (κs .1 .0) (qs .1 .0)) (List._∷_ Row.off List.[])); }
+        G3 = record { locals = List._++_ t3 t1; slots = List._∷_ (Row.lease (κs .0) (qs .0)) (List._∷_ (Row.lease (κs .1 .0) (qs .1 .0)) (List._∷_ Row.off List.[])) }
 
         abbrev G4 : Row.Cx
-        G4 = record { locals = List._++_ t4 t1; slots = List._∷_ (Row.lease (κs .0) (qs .0)) (List._∷_ (Row.lease (κs .1 .0) (qs .1 .0)) (List._∷_ Row.off List.[])); }
+        G4 = record { locals = List._++_ t4 t1; slots = List._∷_ (Row.lease (κs .0) (qs .0)) (List._∷_ (Row.lease (κs .1 .0) (qs .1 .0)) (List._∷_ Row.off List.[])) }
 
         abbrev G5 : Row.Cx
-        G5 = record { locals = List._++_ t5 t1; slots = List._∷_ (Row.lease (κs .0) (qs .0)) (List._∷_ (Row.lease (κs .1 .0) (qs .1 .0)) (List._∷_ Row.off List.[])); }
+        G5 = record { locals = List._++_ t5 t1; slots = List._∷_ (Row.lease (κs .0) (qs .0)) (List._∷_ (Row.lease (κs .1 .0) (qs .1 .0)) (List._∷_ Row.off List.[])) }
 
         abbrev G6 : Row.Cx
-        G6 = record { locals = List._++_ t6 t1; slots = List._∷_ (Row.lease (κs .0) (qs .0)) (List._∷_ (Row.lease (κs .1 .0) (qs .1 .0)) (List._∷_ Row.off List.[])); }
+        G6 = record { locals = List._++_ t6 t1; slots = List._∷_ (Row.lease (κs .0) (qs .0)) (List._∷_ (Row.lease (κs .1 .0) (qs .1 .0)) (List._∷_ Row.off List.[])) }
 
         abbrev G7 : Row.Cx
-        G7 = record { locals = List._++_ t7 t1; slots = List._∷_ (Row.lease (κs .0) (qs .0)) (List._∷_ (Row.lease (κs .1 .0) (qs .1 .0)) (List._∷_ Row.off List.[])); }
+        G7 = record { locals = List._++_ t7 t1; slots = List._∷_ (Row.lease (κs .0) (qs .0)) (List._∷_ (Row.lease (κs .1 .0) (qs .1 .0)) (List._∷_ Row.off List.[])) }
 
         abbrev G8 : Row.Cx
-        G8 = record { locals = List._++_ t8 t1; slots = List._∷_ (Row.lease (κs .0) (qs .0)) (List._∷_ (Row.lease (κs .1 .0) (qs .1 .0)) (List._∷_ Row.off List.[])); }
+        G8 = record { locals = List._++_ t8 t1; slots = List._∷_ (Row.lease (κs .0) (qs .0)) (List._∷_ (Row.lease (κs .1 .0) (qs .1 .0)) (List._∷_ Row.off List.[])) }
 
         abbrev G9 : Row.Cx
-        G9 = record { locals = List._++_ t9 t1; slots = List._∷_ (Row.lease (κs .0) (qs .0)) (List._∷_ (Row.lease (κs .1 .0) (qs .1 .0)) (List._∷_ Row.off List.[])); }
+        G9 = record { locals = List._++_ t9 t1; slots = List._∷_ (Row.lease (κs .0) (qs .0)) (List._∷_ (Row.lease (κs .1 .0) (qs .1 .0)) (List._∷_ Row.off List.[])) }
 
         abbrev G10 : Row.Cx
-        G10 = record { locals = List._++_ t10 t1; slots = List._∷_ (Row.lease (κs .0) (qs .0)) (List._∷_ (Row.lease (κs .1 .0) (qs .1 .0)) (List._∷_ Row.off List.[])); }
+        G10 = record { locals = List._++_ t10 t1; slots = List._∷_ (Row.lease (κs .0) (qs .0)) (List._∷_ (Row.lease (κs .1 .0) (qs .1 .0)) (List._∷_ Row.off List.[])) }
 
         abbrev G11 : Row.Cx
-        G11 = record { locals = List._++_ t11 t1; slots = List._∷_ (Row.lease (κs .0) (qs .0)) (List._∷_ (Row.lease (κs .1 .0) (qs .1 .0)) (List._∷_ Row.off List.[])); }
+        G11 = record { locals = List._++_ t11 t1; slots = List._∷_ (Row.lease (κs .0) (qs .0)) (List._∷_ (Row.lease (κs .1 .0) (qs .1 .0)) (List._∷_ Row.off List.[])) }
 
         abbrev G12 : Row.Cx
-        G12 = record { locals = List._++_ t11 t12; slots = List._∷_ (Row.lease (κs .0) (qs .0)) (List._∷_ (Row.lease (κs .1 .0) (qs .1 .0)) (List._∷_ Row.off List.[])); }
+        G12 = record { locals = List._++_ t11 t12; slots = List._∷_ (Row.lease (κs .0) (qs .0)) (List._∷_ (Row.lease (κs .1 .0) (qs .1 .0)) (List._∷_ Row.off List.[])) }
 
         abbrev G13 : Row.Cx
-        G13 = record { locals = List._++_ t11 t13; slots = List._∷_ (Row.lease (κs .0) (qs .0)) (List._∷_ (Row.lease (κs .1 .0) (qs .1 .0)) (List._∷_ Row.off List.[])); }
+        G13 = record { locals = List._++_ t11 t13; slots = List._∷_ (Row.lease (κs .0) (qs .0)) (List._∷_ (Row.lease (κs .1 .0) (qs .1 .0)) (List._∷_ Row.off List.[])) }
 
         abbrev G14 : Row.Cx
-        G14 = record { locals = List._++_ t11 t1; slots = List._∷_ (Row.lease (κs .0) (qs .0)) (List._∷_ (Row.lease (κs .1 .0) (qs .1 .0)) (List._∷_ Row.off List.[])); }
+        G14 = record { locals = List._++_ t11 t1; slots = List._∷_ (Row.lease (κs .0) (qs .0)) (List._∷_ (Row.lease (κs .1 .0) (qs .1 .0)) (List._∷_ Row.off List.[])) }
 
         abbrev G15 : Row.Cx
-        G15 = record { locals = List._++_ t11 t14; slots = List._∷_ (Row.lease (κs .0) (qs .0)) (List._∷_ (Row.lease (κs .1 .0) (qs .1 .0)) (List._∷_ Row.off List.[])); }
+        G15 = record { locals = List._++_ t11 t14; slots = List._∷_ (Row.lease (κs .0) (qs .0)) (List._∷_ (Row.lease (κs .1 .0) (qs .1 .0)) (List._∷_ Row.off List.[])) }
 
         abbrev G16 : Row.Cx
-        G16 = record { locals = List._++_ t11 t1; slots = List._∷_ (Row.lease (κs .0) (qs .0)) (List._∷_ (Row.lease (κs .1 .0) (qs .1 .0)) (List._∷_ Row.off List.[])); }
+        G16 = record { locals = List._++_ t11 t1; slots = List._∷_ (Row.lease (κs .0) (qs .0)) (List._∷_ (Row.lease (κs .1 .0) (qs .1 .0)) (List._∷_ Row.off List.[])) }
 
         abbrev G17 : Row.Cx
-        G17 = record { locals = List._++_ t10 t14; slots = List._∷_ (Row.lease (κs .0) (qs .0)) (List._∷_ (Row.lease (κs .1 .0) (qs .1 .0)) (List._∷_ Row.off List.[])); }
+        G17 = record { locals = List._++_ t10 t14; slots = List._∷_ (Row.lease (κs .0) (qs .0)) (List._∷_ (Row.lease (κs .1 .0) (qs .1 .0)) (List._∷_ Row.off List.[])) }
 
         abbrev G18 : Row.Cx
-        G18 = record { locals = List._++_ t10 t1; slots = List._∷_ (Row.lease (κs .0) (qs .0)) (List._∷_ (Row.lease (κs .1 .0) (qs .1 .0)) (List._∷_ Row.off List.[])); }
+        G18 = record { locals = List._++_ t10 t1; slots = List._∷_ (Row.lease (κs .0) (qs .0)) (List._∷_ (Row.lease (κs .1 .0) (qs .1 .0)) (List._∷_ Row.off List.[])) }
 
         abbrev G19 : Row.Cx
-        G19 = record { locals = List._++_ t15 t1; slots = List._∷_ (Row.lease (κs .0) (qs .0)) (List._∷_ (Row.lease (κs .1 .0) (qs .1 .0)) (List._∷_ Row.off List.[])); }
+        G19 = record { locals = List._++_ t15 t1; slots = List._∷_ (Row.lease (κs .0) (qs .0)) (List._∷_ (Row.lease (κs .1 .0) (qs .1 .0)) (List._∷_ Row.off List.[])) }
 
         abbrev G20 : Row.Cx
-        G20 = record { locals = List._++_ t16 t1; slots = List._∷_ (Row.lease (κs .0) (qs .0)) (List._∷_ (Row.lease (κs .1 .0) (qs .1 .0)) (List._∷_ Row.off List.[])); }
+        G20 = record { locals = List._++_ t16 t1; slots = List._∷_ (Row.lease (κs .0) (qs .0)) (List._∷_ (Row.lease (κs .1 .0) (qs .1 .0)) (List._∷_ Row.off List.[])) }
 
         abbrev G21 : Row.Cx
-        G21 = record { locals = List._++_ t17 t1; slots = List._∷_ (Row.lease (κs .0) (qs .0)) (List._∷_ (Row.lease (κs .1 .0) (qs .1 .0)) (List._∷_ Row.off List.[])); }
+        G21 = record { locals = List._++_ t17 t1; slots = List._∷_ (Row.lease (κs .0) (qs .0)) (List._∷_ (Row.lease (κs .1 .0) (qs .1 .0)) (List._∷_ Row.off List.[])) }
 
         abbrev G22 : Row.Cx
-        G22 = record { locals = List._++_ t18 t1; slots = List._∷_ (Row.lease (κs .0) (qs .0)) (List._∷_ (Row.lease (κs .1 .0) (qs .1 .0)) (List._∷_ Row.off List.[])); }
+        G22 = record { locals = List._++_ t18 t1; slots = List._∷_ (Row.lease (κs .0) (qs .0)) (List._∷_ (Row.lease (κs .1 .0) (qs .1 .0)) (List._∷_ Row.off List.[])) }
 
         abbrev G23 : Row.Cx
-        G23 = record { locals = List._++_ t18 t1; slots = List._∷_ (Row.lease (κs .0) (qs .0)) (List._∷_ (Row.lease (κs .1 .0) (qs .1 .0)) (List._∷_ Row.alive List.[])); }
+        G23 = record { locals = List._++_ t18 t1; slots = List._∷_ (Row.lease (κs .0) (qs .0)) (List._∷_ (Row.lease (κs .1 .0) (qs .1 .0)) (List._∷_ Row.alive List.[])) }
 
         abbrev G24 : Row.Cx
-        G24 = record { locals = List._++_ g19 t20; slots = List._∷_ (Row.lease (κs .0) (qs .0)) (List._∷_ Row.off (List._∷_ Row.alive List.[])); }
+        G24 = record { locals = List._++_ g19 t20; slots = List._∷_ (Row.lease (κs .0) (qs .0)) (List._∷_ Row.off (List._∷_ Row.alive List.[])) }
 
         abbrev G25 : Row.Cx
-        G25 = record { locals = List._++_ g19 t21; slots = List._∷_ (Row.lease (κs .0) (qs .0)) (List._∷_ Row.off (List._∷_ Row.alive List.[])); }
+        G25 = record { locals = List._++_ g19 t21; slots = List._∷_ (Row.lease (κs .0) (qs .0)) (List._∷_ Row.off (List._∷_ Row.alive List.[])) }
 
         abbrev G26 : Row.Cx
-        G26 = record { locals = List._++_ g19 t22; slots = List._∷_ (Row.lease (κs .0) (qs .0)) (List._∷_ Row.off (List._∷_ Row.alive List.[])); }
+        G26 = record { locals = List._++_ g19 t22; slots = List._∷_ (Row.lease (κs .0) (qs .0)) (List._∷_ Row.off (List._∷_ Row.alive List.[])) }
 
         abbrev G27 : Row.Cx
-        G27 = record { locals = List._++_ t23 t1; slots = List._∷_ (Row.lease (κs .0) (qs .0)) (List._∷_ (Row.lease (κs .1 .0) (qs .1 .0)) (List._∷_ Row.off List.[])); }
+        G27 = record { locals = List._++_ t23 t1; slots = List._∷_ (Row.lease (κs .0) (qs .0)) (List._∷_ (Row.lease (κs .1 .0) (qs .1 .0)) (List._∷_ Row.off List.[])) }
 
         abbrev G28 : Row.Cx
-        G28 = record { locals = List._++_ g24 t22; slots = List._∷_ (Row.lease (κs .0) (qs .0)) (List._∷_ Row.off (List._∷_ Row.alive List.[])); }
+        G28 = record { locals = List._++_ g24 t22; slots = List._∷_ (Row.lease (κs .0) (qs .0)) (List._∷_ Row.off (List._∷_ Row.alive List.[])) }
 
         abbrev G29 : Row.Cx
-        G29 = record { locals = List._++_ g25 t22; slots = List._∷_ (Row.lease (κs .0) (qs .0)) (List._∷_ Row.off (List._∷_ Row.alive List.[])); }
+        G29 = record { locals = List._++_ g25 t22; slots = List._∷_ (Row.lease (κs .0) (qs .0)) (List._∷_ Row.off (List._∷_ Row.alive List.[])) }
 
         abbrev G30 : Row.Cx
-        G30 = record { locals = List._++_ g25 t26; slots = List._∷_ (Row.lease (κs .0) (qs .0)) (List._∷_ Row.off (List._∷_ Row.alive List.[])); }
+        G30 = record { locals = List._++_ g25 t26; slots = List._∷_ (Row.lease (κs .0) (qs .0)) (List._∷_ Row.off (List._∷_ Row.alive List.[])) }
 
         abbrev G31 : Row.Cx
-        G31 = record { locals = List._++_ g25 t26; slots = List._∷_ (Row.lease (κs .0) (qs .0)) (List._∷_ Row.off (List._∷_ Row.dead List.[])); }
+        G31 = record { locals = List._++_ g25 t26; slots = List._∷_ (Row.lease (κs .0) (qs .0)) (List._∷_ Row.off (List._∷_ Row.dead List.[])) }
 
         abbrev G32 : Row.Cx
-        G32 = record { locals = List._++_ t27 t1; slots = List._∷_ (Row.lease (κs .0) (qs .0)) (List._∷_ (Row.lease (κs .1 .0) (qs .1 .0)) (List._∷_ Row.dead List.[])); }
+        G32 = record { locals = List._++_ t27 t1; slots = List._∷_ (Row.lease (κs .0) (qs .0)) (List._∷_ (Row.lease (κs .1 .0) (qs .1 .0)) (List._∷_ Row.dead List.[])) }
 
         abbrev G33 : Row.Cx
-        G33 = record { locals = List._++_ t27 t1; slots = List._∷_ (Row.lease (κs .0) (qs .0)) (List._∷_ (Row.lease (κs .1 .0) (qs .1 .0)) (List._∷_ Row.off List.[])); }
+        G33 = record { locals = List._++_ t27 t1; slots = List._∷_ (Row.lease (κs .0) (qs .0)) (List._∷_ (Row.lease (κs .1 .0) (qs .1 .0)) (List._∷_ Row.off List.[])) }
 
         abbrev G34 : Row.Cx
-        G34 = record { locals = List._++_ t27 t1; slots = List._∷_ (Row.lease (κs .0) (qs .0)) (List._∷_ (Row.lease (κs .1 .0) (qs .1 .0)) (List._∷_ Row.off List.[])); }
+        G34 = record { locals = List._++_ t27 t1; slots = List._∷_ (Row.lease (κs .0) (qs .0)) (List._∷_ (Row.lease (κs .1 .0) (qs .1 .0)) (List._∷_ Row.off List.[])) }
 
         abbrev G35 : Row.Cx
-        G35 = record { locals = List._++_ t28 t1; slots = List._∷_ (Row.lease (κs .0) (qs .0)) (List._∷_ (Row.lease (κs .1 .0) (qs .1 .0)) (List._∷_ Row.off List.[])); }
+        G35 = record { locals = List._++_ t28 t1; slots = List._∷_ (Row.lease (κs .0) (qs .0)) (List._∷_ (Row.lease (κs .1 .0) (qs .1 .0)) (List._∷_ Row.off List.[])) }
 
         abbrev G36 : Row.Cx
-        G36 = record { locals = List._++_ t23 t1; slots = List._∷_ (Row.lease (κs .0) (qs .0)) (List._∷_ (Row.lease (κs .1 .0) (qs .1 .0)) (List._∷_ Row.off List.[])); }
+        G36 = record { locals = List._++_ t23 t1; slots = List._∷_ (Row.lease (κs .0) (qs .0)) (List._∷_ (Row.lease (κs .1 .0) (qs .1 .0)) (List._∷_ Row.off List.[])) }
 
         abbrev G37 : Row.Cx
-        G37 = record { locals = List._++_ t29 t1; slots = List._∷_ (Row.lease (κs .0) (qs .0)) (List._∷_ (Row.lease (κs .1 .0) (qs .1 .0)) (List._∷_ Row.off List.[])); }
+        G37 = record { locals = List._++_ t29 t1; slots = List._∷_ (Row.lease (κs .0) (qs .0)) (List._∷_ (Row.lease (κs .1 .0) (qs .1 .0)) (List._∷_ Row.off List.[])) }
 
         abbrev G38 : Row.Cx
-        G38 = record { locals = List._++_ t29 t1; slots = List._∷_ (Row.lease (κs .0) (qs .0)) (List._∷_ (Row.lease (κs .1 .0) (qs .1 .0)) (List._∷_ Row.off List.[])); }
+        G38 = record { locals = List._++_ t29 t1; slots = List._∷_ (Row.lease (κs .0) (qs .0)) (List._∷_ (Row.lease (κs .1 .0) (qs .1 .0)) (List._∷_ Row.off List.[])) }
 
         abbrev G39 : Row.Cx
-        G39 = record { locals = List._++_ t30 t1; slots = List._∷_ (Row.lease (κs .0) (qs .0)) (List._∷_ (Row.lease (κs .1 .0) (qs .1 .0)) (List._∷_ Row.off List.[])); }
+        G39 = record { locals = List._++_ t30 t1; slots = List._∷_ (Row.lease (κs .0) (qs .0)) (List._∷_ (Row.lease (κs .1 .0) (qs .1 .0)) (List._∷_ Row.off List.[])) }
 
         abbrev G40 : Row.Cx
-        G40 = record { locals = List._++_ t31 t1; slots = List._∷_ (Row.lease (κs .0) (qs .0)) (List._∷_ (Row.lease (κs .1 .0) (qs .1 .0)) (List._∷_ Row.off List.[])); }
+        G40 = record { locals = List._++_ t31 t1; slots = List._∷_ (Row.lease (κs .0) (qs .0)) (List._∷_ (Row.lease (κs .1 .0) (qs .1 .0)) (List._∷_ Row.off List.[])) }
 
         abbrev G41 : Row.Cx
-        G41 = record { locals = List._++_ t32 t1; slots = List._∷_ (Row.lease (κs .0) (qs .0)) (List._∷_ (Row.lease (κs .1 .0) (qs .1 .0)) (List._∷_ Row.off List.[])); }
+        G41 = record { locals = List._++_ t32 t1; slots = List._∷_ (Row.lease (κs .0) (qs .0)) (List._∷_ (Row.lease (κs .1 .0) (qs .1 .0)) (List._∷_ Row.off List.[])) }
 
         abbrev G42 : Row.Cx
-        G42 = record { locals = List._++_ t32 t1; slots = List._∷_ (Row.lease (κs .0) (qs .0)) (List._∷_ (Row.lease (κs .1 .0) (qs .1 .0)) (List._∷_ Row.off List.[])); }
+        G42 = record { locals = List._++_ t32 t1; slots = List._∷_ (Row.lease (κs .0) (qs .0)) (List._∷_ (Row.lease (κs .1 .0) (qs .1 .0)) (List._∷_ Row.off List.[])) }
 
         abbrev G43 : Row.Cx
-        G43 = record { locals = List._++_ t23 t1; slots = List._∷_ (Row.lease (κs .0) (qs .0)) (List._∷_ (Row.lease (κs .1 .0) (qs .1 .0)) (List._∷_ Row.off List.[])); }
+        G43 = record { locals = List._++_ t23 t1; slots = List._∷_ (Row.lease (κs .0) (qs .0)) (List._∷_ (Row.lease (κs .1 .0) (qs .1 .0)) (List._∷_ Row.off List.[])) }
 
         abbrev G44 : Row.Cx
-        G44 = record { locals = List._++_ t27 t1; slots = List._∷_ (Row.lease (κs .0) (qs .0)) (List._∷_ (Row.lease (κs .1 .0) (qs .1 .0)) (List._∷_ Row.off List.[])); }
+        G44 = record { locals = List._++_ t27 t1; slots = List._∷_ (Row.lease (κs .0) (qs .0)) (List._∷_ (Row.lease (κs .1 .0) (qs .1 .0)) (List._∷_ Row.off List.[])) }
 
         abbrev G45 : Row.Cx
-        G45 = record { locals = List._++_ t28 t1; slots = List._∷_ (Row.lease (κs .0) (qs .0)) (List._∷_ (Row.lease (κs .1 .0) (qs .1 .0)) (List._∷_ Row.off List.[])); }
+        G45 = record { locals = List._++_ t28 t1; slots = List._∷_ (Row.lease (κs .0) (qs .0)) (List._∷_ (Row.lease (κs .1 .0) (qs .1 .0)) (List._∷_ Row.off List.[])) }
 
         abbrev G46 : Row.Cx
-        G46 = record { locals = List._++_ t23 t1; slots = List._∷_ (Row.lease (κs .0) (qs .0)) (List._∷_ (Row.lease (κs .1 .0) (qs .1 .0)) (List._∷_ Row.off List.[])); }
+        G46 = record { locals = List._++_ t23 t1; slots = List._∷_ (Row.lease (κs .0) (qs .0)) (List._∷_ (Row.lease (κs .1 .0) (qs .1 .0)) (List._∷_ Row.off List.[])) }
 
         abbrev G47 : Row.Cx
-        G47 = record { locals = List._++_ t33 t1; slots = List._∷_ (Row.lease (κs .0) (qs .0)) (List._∷_ (Row.lease (κs .1 .0) (qs .1 .0)) (List._∷_ Row.off List.[])); }
+        G47 = record { locals = List._++_ t33 t1; slots = List._∷_ (Row.lease (κs .0) (qs .0)) (List._∷_ (Row.lease (κs .1 .0) (qs .1 .0)) (List._∷_ Row.off List.[])) }
 
         abbrev G48 : Row.Cx
-        G48 = record { locals = List._++_ t33 t1; slots = List._∷_ (Row.lease (κs .0) (qs .0)) (List._∷_ (Row.lease (κs .1 .0) (qs .1 .0)) (List._∷_ Row.off List.[])); }
+        G48 = record { locals = List._++_ t33 t1; slots = List._∷_ (Row.lease (κs .0) (qs .0)) (List._∷_ (Row.lease (κs .1 .0) (qs .1 .0)) (List._∷_ Row.off List.[])) }
 
         abbrev G49 : Row.Cx
-        G49 = record { locals = List._++_ t33 t1; slots = List._∷_ (Row.lease (κs .0) (qs .0)) (List._∷_ (Row.lease (κs .1 .0) (qs .1 .0)) (List._∷_ Row.off List.[])); }
+        G49 = record { locals = List._++_ t33 t1; slots = List._∷_ (Row.lease (κs .0) (qs .0)) (List._∷_ (Row.lease (κs .1 .0) (qs .1 .0)) (List._∷_ Row.off List.[])) }
 
         abbrev G50 : Row.Cx
-        G50 = record { locals = List._++_ t23 t1; slots = List._∷_ (Row.lease (κs .0) (qs .0)) (List._∷_ (Row.lease (κs .1 .0) (qs .1 .0)) (List._∷_ Row.off List.[])); }
+        G50 = record { locals = List._++_ t23 t1; slots = List._∷_ (Row.lease (κs .0) (qs .0)) (List._∷_ (Row.lease (κs .1 .0) (qs .1 .0)) (List._∷_ Row.off List.[])) }
 
         abbrev G51 : Row.Cx
-        G51 = record { locals = List._++_ t34 t1; slots = List._∷_ (Row.lease (κs .0) (qs .0)) (List._∷_ (Row.lease (κs .1 .0) (qs .1 .0)) (List._∷_ Row.off List.[])); }
+        G51 = record { locals = List._++_ t34 t1; slots = List._∷_ (Row.lease (κs .0) (qs .0)) (List._∷_ (Row.lease (κs .1 .0) (qs .1 .0)) (List._∷_ Row.off List.[])) }
 
         abbrev G52 : Row.Cx
-        G52 = record { locals = List._++_ t34 t1; slots = List._∷_ (Row.lease (κs .0) (qs .0)) (List._∷_ (Row.lease (κs .1 .0) (qs .1 .0)) (List._∷_ Row.off List.[])); }
+        G52 = record { locals = List._++_ t34 t1; slots = List._∷_ (Row.lease (κs .0) (qs .0)) (List._∷_ (Row.lease (κs .1 .0) (qs .1 .0)) (List._∷_ Row.off List.[])) }
 
         abbrev G53 : Row.Cx
-        G53 = record { locals = List._++_ t35 t1; slots = List._∷_ (Row.lease (κs .0) (qs .0)) (List._∷_ (Row.lease (κs .1 .0) (qs .1 .0)) (List._∷_ Row.off List.[])); }
+        G53 = record { locals = List._++_ t35 t1; slots = List._∷_ (Row.lease (κs .0) (qs .0)) (List._∷_ (Row.lease (κs .1 .0) (qs .1 .0)) (List._∷_ Row.off List.[])) }
 
         abbrev G54 : Row.Cx
-        G54 = record { locals = List._++_ t36 t1; slots = List._∷_ (Row.lease (κs .0) (qs .0)) (List._∷_ (Row.lease (κs .1 .0) (qs .1 .0)) (List._∷_ Row.off List.[])); }
+        G54 = record { locals = List._++_ t36 t1; slots = List._∷_ (Row.lease (κs .0) (qs .0)) (List._∷_ (Row.lease (κs .1 .0) (qs .1 .0)) (List._∷_ Row.off List.[])) }
 
         abbrev G55 : Row.Cx
-        G55 = record { locals = List._++_ t37 t1; slots = List._∷_ (Row.lease (κs .0) (qs .0)) (List._∷_ (Row.lease (κs .1 .0) (qs .1 .0)) (List._∷_ Row.off List.[])); }
+        G55 = record { locals = List._++_ t37 t1; slots = List._∷_ (Row.lease (κs .0) (qs .0)) (List._∷_ (Row.lease (κs .1 .0) (qs .1 .0)) (List._∷_ Row.off List.[])) }
 
         abbrev G56 : Row.Cx
-        G56 = record { locals = List._++_ t37 t1; slots = List._∷_ (Row.lease (κs .0) (qs .0)) (List._∷_ (Row.lease (κs .1 .0) (qs .1 .0)) (List._∷_ Row.off List.[])); }
+        G56 = record { locals = List._++_ t37 t1; slots = List._∷_ (Row.lease (κs .0) (qs .0)) (List._∷_ (Row.lease (κs .1 .0) (qs .1 .0)) (List._∷_ Row.off List.[])) }
 
         abbrev G57 : Row.Cx
-        G57 = record { locals = List._++_ t38 t1; slots = List._∷_ (Row.lease (κs .0) (qs .0)) (List._∷_ (Row.lease (κs .1 .0) (qs .1 .0)) (List._∷_ Row.off List.[])); }
+        G57 = record { locals = List._++_ t38 t1; slots = List._∷_ (Row.lease (κs .0) (qs .0)) (List._∷_ (Row.lease (κs .1 .0) (qs .1 .0)) (List._∷_ Row.off List.[])) }
 
         abbrev G58 : Row.Cx
-        G58 = record { locals = List._++_ t37 t1; slots = List._∷_ (Row.lease (κs .0) (qs .0)) (List._∷_ (Row.lease (κs .1 .0) (qs .1 .0)) (List._∷_ Row.off List.[])); }
+        G58 = record { locals = List._++_ t37 t1; slots = List._∷_ (Row.lease (κs .0) (qs .0)) (List._∷_ (Row.lease (κs .1 .0) (qs .1 .0)) (List._∷_ Row.off List.[])) }
 
         abbrev G59 : Row.Cx
-        G59 = record { locals = List._++_ t23 t1; slots = List._∷_ (Row.lease (κs .0) (qs .0)) (List._∷_ (Row.lease (κs .1 .0) (qs .1 .0)) (List._∷_ Row.off List.[])); }
+        G59 = record { locals = List._++_ t23 t1; slots = List._∷_ (Row.lease (κs .0) (qs .0)) (List._∷_ (Row.lease (κs .1 .0) (qs .1 .0)) (List._∷_ Row.off List.[])) }
 
         abbrev G60 : Row.Cx
-        G60 = record { locals = List._++_ t39 t1; slots = List._∷_ (Row.lease (κs .0) (qs .0)) (List._∷_ (Row.lease (κs .1 .0) (qs .1 .0)) (List._∷_ Row.off List.[])); }
+        G60 = record { locals = List._++_ t39 t1; slots = List._∷_ (Row.lease (κs .0) (qs .0)) (List._∷_ (Row.lease (κs .1 .0) (qs .1 .0)) (List._∷_ Row.off List.[])) }
 
         abbrev G61 : Row.Cx
-        G61 = record { locals = List._++_ t39 t1; slots = List._∷_ (Row.lease (κs .0) (qs .0)) (List._∷_ (Row.lease (κs .1 .0) (qs .1 .0)) (List._∷_ Row.off List.[])); }
+        G61 = record { locals = List._++_ t39 t1; slots = List._∷_ (Row.lease (κs .0) (qs .0)) (List._∷_ (Row.lease (κs .1 .0) (qs .1 .0)) (List._∷_ Row.off List.[])) }
 
         abbrev G62 : Row.Cx
-        G62 = record { locals = List._++_ t40 t1; slots = List._∷_ (Row.lease (κs .0) (qs .0)) (List._∷_ (Row.lease (κs .1 .0) (qs .1 .0)) (List._∷_ Row.off List.[])); }
+        G62 = record { locals = List._++_ t40 t1; slots = List._∷_ (Row.lease (κs .0) (qs .0)) (List._∷_ (Row.lease (κs .1 .0) (qs .1 .0)) (List._∷_ Row.off List.[])) }
 
         abbrev G63 : Row.Cx
-        G63 = record { locals = List._++_ t41 t1; slots = List._∷_ (Row.lease (κs .0) (qs .0)) (List._∷_ (Row.lease (κs .1 .0) (qs .1 .0)) (List._∷_ Row.off List.[])); }
+        G63 = record { locals = List._++_ t41 t1; slots = List._∷_ (Row.lease (κs .0) (qs .0)) (List._∷_ (Row.lease (κs .1 .0) (qs .1 .0)) (List._∷_ Row.off List.[])) }
 
         abbrev G64 : Row.Cx
-        G64 = record { locals = List._++_ t42 t1; slots = List._∷_ (Row.lease (κs .0) (qs .0)) (List._∷_ (Row.lease (κs .1 .0) (qs .1 .0)) (List._∷_ Row.off List.[])); }
+        G64 = record { locals = List._++_ t42 t1; slots = List._∷_ (Row.lease (κs .0) (qs .0)) (List._∷_ (Row.lease (κs .1 .0) (qs .1 .0)) (List._∷_ Row.off List.[])) }
 
         abbrev G65 : Row.Cx
-        G65 = record { locals = List._++_ t43 t1; slots = List._∷_ (Row.lease (κs .0) (qs .0)) (List._∷_ (Row.lease (κs .1 .0) (qs .1 .0)) (List._∷_ Row.off List.[])); }
+        G65 = record { locals = List._++_ t43 t1; slots = List._∷_ (Row.lease (κs .0) (qs .0)) (List._∷_ (Row.lease (κs .1 .0) (qs .1 .0)) (List._∷_ Row.off List.[])) }
 
         abbrev G66 : Row.Cx
-        G66 = record { locals = List._++_ t44 t1; slots = List._∷_ (Row.lease (κs .0) (qs .0)) (List._∷_ (Row.lease (κs .1 .0) (qs .1 .0)) (List._∷_ Row.off List.[])); }
+        G66 = record { locals = List._++_ t44 t1; slots = List._∷_ (Row.lease (κs .0) (qs .0)) (List._∷_ (Row.lease (κs .1 .0) (qs .1 .0)) (List._∷_ Row.off List.[])) }
 
         abbrev G67 : Row.Cx
-        G67 = record { locals = List._++_ t45 t1; slots = List._∷_ (Row.lease (κs .0) (qs .0)) (List._∷_ (Row.lease (κs .1 .0) (qs .1 .0)) (List._∷_ Row.off List.[])); }
+        G67 = record { locals = List._++_ t45 t1; slots = List._∷_ (Row.lease (κs .0) (qs .0)) (List._∷_ (Row.lease (κs .1 .0) (qs .1 .0)) (List._∷_ Row.off List.[])) }
 
         abbrev G68 : Row.Cx
-        G68 = record { locals = List._++_ t45 t46; slots = List._∷_ (Row.lease (κs .0) (qs .0)) (List._∷_ (Row.lease (κs .1 .0) (qs .1 .0)) (List._∷_ Row.off List.[])); }
+        G68 = record { locals = List._++_ t45 t46; slots = List._∷_ (Row.lease (κs .0) (qs .0)) (List._∷_ (Row.lease (κs .1 .0) (qs .1 .0)) (List._∷_ Row.off List.[])) }
 
         abbrev G69 : Row.Cx
-        G69 = record { locals = List._++_ t45 t47; slots = List._∷_ (Row.lease (κs .0) (qs .0)) (List._∷_ (Row.lease (κs .1 .0) (qs .1 .0)) (List._∷_ Row.off List.[])); }
+        G69 = record { locals = List._++_ t45 t47; slots = List._∷_ (Row.lease (κs .0) (qs .0)) (List._∷_ (Row.lease (κs .1 .0) (qs .1 .0)) (List._∷_ Row.off List.[])) }
 
         abbrev G70 : Row.Cx
-        G70 = record { locals = List._++_ t48 t47; slots = List._∷_ (Row.lease (κs .0) (qs .0)) (List._∷_ (Row.lease (κs .1 .0) (qs .1 .0)) (List._∷_ Row.off List.[])); }
+        G70 = record { locals = List._++_ t48 t47; slots = List._∷_ (Row.lease (κs .0) (qs .0)) (List._∷_ (Row.lease (κs .1 .0) (qs .1 .0)) (List._∷_ Row.off List.[])) }
 
         abbrev G71 : Row.Cx
-        G71 = record { locals = List._++_ t48 t1; slots = List._∷_ (Row.lease (κs .0) (qs .0)) (List._∷_ (Row.lease (κs .1 .0) (qs .1 .0)) (List._∷_ Row.off List.[])); }
+        G71 = record { locals = List._++_ t48 t1; slots = List._∷_ (Row.lease (κs .0) (qs .0)) (List._∷_ (Row.lease (κs .1 .0) (qs .1 .0)) (List._∷_ Row.off List.[])) }
 
         abbrev G72 : Row.Cx
-        G72 = record { locals = List._++_ t49 t1; slots = List._∷_ (Row.lease (κs .0) (qs .0)) (List._∷_ (Row.lease (κs .1 .0) (qs .1 .0)) (List._∷_ Row.off List.[])); }
+        G72 = record { locals = List._++_ t49 t1; slots = List._∷_ (Row.lease (κs .0) (qs .0)) (List._∷_ (Row.lease (κs .1 .0) (qs .1 .0)) (List._∷_ Row.off List.[])) }
 
         abbrev G73 : Row.Cx
-        G73 = record { locals = List._++_ t50 t1; slots = List._∷_ (Row.lease (κs .0) (qs .0)) (List._∷_ (Row.lease (κs .1 .0) (qs .1 .0)) (List._∷_ Row.off List.[])); }
+        G73 = record { locals = List._++_ t50 t1; slots = List._∷_ (Row.lease (κs .0) (qs .0)) (List._∷_ (Row.lease (κs .1 .0) (qs .1 .0)) (List._∷_ Row.off List.[])) }
 
         abbrev G74 : Row.Cx
-        G74 = record { locals = List._++_ t2 t1; slots = List._∷_ (Row.lease (κs .0) (qs .0)) (List._∷_ (Row.lease (κs .1 .0) (qs .1 .0)) (List._∷_ Row.off List.[])); }
+        G74 = record { locals = List._++_ t2 t1; slots = List._∷_ (Row.lease (κs .0) (qs .0)) (List._∷_ (Row.lease (κs .1 .0) (qs .1 .0)) (List._∷_ Row.off List.[])) }
 
         abbrev G75 : Row.Cx
-        G75 = record { locals = List._++_ t51 t1; slots = List._∷_ (Row.lease (κs .0) (qs .0)) (List._∷_ (Row.lease (κs .1 .0) (qs .1 .0)) (List._∷_ Row.off List.[])); }
+        G75 = record { locals = List._++_ t51 t1; slots = List._∷_ (Row.lease (κs .0) (qs .0)) (List._∷_ (Row.lease (κs .1 .0) (qs .1 .0)) (List._∷_ Row.off List.[])) }
 
         abbrev G76 : Row.Cx
-        G76 = record { locals = List._++_ t52 t1; slots = List._∷_ (Row.lease (κs .0) (qs .0)) (List._∷_ (Row.lease (κs .1 .0) (qs .1 .0)) (List._∷_ Row.off List.[])); }
+        G76 = record { locals = List._++_ t52 t1; slots = List._∷_ (Row.lease (κs .0) (qs .0)) (List._∷_ (Row.lease (κs .1 .0) (qs .1 .0)) (List._∷_ Row.off List.[])) }
 
         abbrev G77 : Row.Cx
-        G77 = record { locals = List._++_ t15 t1; slots = List._∷_ (Row.lease (κs .0) (qs .0)) (List._∷_ (Row.lease (κs .1 .0) (qs .1 .0)) (List._∷_ Row.off List.[])); }
+        G77 = record { locals = List._++_ t15 t1; slots = List._∷_ (Row.lease (κs .0) (qs .0)) (List._∷_ (Row.lease (κs .1 .0) (qs .1 .0)) (List._∷_ Row.off List.[])) }
 
         abbrev G78 : Row.Cx
-        G78 = record { locals = List._++_ t11 t1; slots = List._∷_ (Row.lease (κs .0) (qs .0)) (List._∷_ (Row.lease (κs .1 .0) (qs .1 .0)) (List._∷_ Row.off List.[])); }
+        G78 = record { locals = List._++_ t11 t1; slots = List._∷_ (Row.lease (κs .0) (qs .0)) (List._∷_ (Row.lease (κs .1 .0) (qs .1 .0)) (List._∷_ Row.off List.[])) }
 
         abbrev G79 : Row.Cx
-        G79 = record { locals = List._++_ t11 t1; slots = List._∷_ (Row.lease (κs .0) (qs .0)) (List._∷_ (Row.lease (κs .1 .0) (qs .1 .0)) (List._∷_ Row.off List.[])); }
+        G79 = record { locals = List._++_ t11 t1; slots = List._∷_ (Row.lease (κs .0) (qs .0)) (List._∷_ (Row.lease (κs .1 .0) (qs .1 .0)) (List._∷_ Row.off List.[])) }
 
         abbrev G80 : Row.Cx
-        G80 = record { locals = List._++_ t10 t53; slots = List._∷_ (Row.lease (κs .0) (qs .0)) (List._∷_ (Row.lease (κs .1 .0) (qs .1 .0)) (List._∷_ Row.off List.[])); }
+        G80 = record { locals = List._++_ t10 t53; slots = List._∷_ (Row.lease (κs .0) (qs .0)) (List._∷_ (Row.lease (κs .1 .0) (qs .1 .0)) (List._∷_ Row.off List.[])) }
 
         abbrev G81 : Row.Cx
-        G81 = record { locals = List._++_ t54 t53; slots = List._∷_ (Row.lease (κs .0) (qs .0)) (List._∷_ (Row.lease (κs .1 .0) (qs .1 .0)) (List._∷_ Row.off List.[])); }
+        G81 = record { locals = List._++_ t54 t53; slots = List._∷_ (Row.lease (κs .0) (qs .0)) (List._∷_ (Row.lease (κs .1 .0) (qs .1 .0)) (List._∷_ Row.off List.[])) }
 
         abbrev G82 : Row.Cx
-        G82 = record { locals = List._++_ t55 t53; slots = List._∷_ (Row.lease (κs .0) (qs .0)) (List._∷_ (Row.lease (κs .1 .0) (qs .1 .0)) (List._∷_ Row.off List.[])); }
+        G82 = record { locals = List._++_ t55 t53; slots = List._∷_ (Row.lease (κs .0) (qs .0)) (List._∷_ (Row.lease (κs .1 .0) (qs .1 .0)) (List._∷_ Row.off List.[])) }
 
         abbrev G83 : Row.Cx
-        G83 = record { locals = List._++_ t56 t53; slots = List._∷_ (Row.lease (κs .0) (qs .0)) (List._∷_ (Row.lease (κs .1 .0) (qs .1 .0)) (List._∷_ Row.off List.[])); }
+        G83 = record { locals = List._++_ t56 t53; slots = List._∷_ (Row.lease (κs .0) (qs .0)) (List._∷_ (Row.lease (κs .1 .0) (qs .1 .0)) (List._∷_ Row.off List.[])) }
 
         abbrev G84 : Row.Cx
-        G84 = record { locals = List._++_ t57 t53; slots = List._∷_ (Row.lease (κs .0) (qs .0)) (List._∷_ (Row.lease (κs .1 .0) (qs .1 .0)) (List._∷_ Row.off List.[])); }
+        G84 = record { locals = List._++_ t57 t53; slots = List._∷_ (Row.lease (κs .0) (qs .0)) (List._∷_ (Row.lease (κs .1 .0) (qs .1 .0)) (List._∷_ Row.off List.[])) }
 
         abbrev G85 : Row.Cx
-        G85 = record { locals = List._++_ t2 t53; slots = List._∷_ (Row.lease (κs .0) (qs .0)) (List._∷_ (Row.lease (κs .1 .0) (qs .1 .0)) (List._∷_ Row.off List.[])); }
+        G85 = record { locals = List._++_ t2 t53; slots = List._∷_ (Row.lease (κs .0) (qs .0)) (List._∷_ (Row.lease (κs .1 .0) (qs .1 .0)) (List._∷_ Row.off List.[])) }
 
         abbrev G86 : Row.Cx
-        G86 = record { locals = List._++_ t2 t1; slots = List._∷_ (Row.lease (κs .0) (qs .0)) (List._∷_ (Row.lease (κs .1 .0) (qs .1 .0)) (List._∷_ Row.off List.[])); }
+        G86 = record { locals = List._++_ t2 t1; slots = List._∷_ (Row.lease (κs .0) (qs .0)) (List._∷_ (Row.lease (κs .1 .0) (qs .1 .0)) (List._∷_ Row.off List.[])) }
 
         abbrev Δ0 : Typed.Outs
         Δ0 = record { next = Option.none; exits = List.[]; returns = Option.some G1 }
@@ -1755,7 +1755,7 @@ module _ (claims· : Claims) where
           d10 = Typed.g-pre 𝓤 H A W 𝓣 E G33 G34 b18 Δ5 (Typed.both s29) at9 (Known.g-enum-told 𝓤 H A W E Role.enum 0 G33 10 λ x. x) d9
 
           d11 : Typed.Typed 𝓤 H A 𝓣 E G41 b20 Δ5 at11
-          d11 = Typed.s-typed 𝓤 H A W 𝓣 E G41 b20 Δ5 (λ Ψ. Typed.both s37 (Typed.pass T42 T43 s38 Ψ)) tt (Typed.g-post 𝓤 H A W 𝓣 E G41 G42 G43 b20 (Typed.both s37) (Typed.pass T42 T43 s38) (Plain.t-call-plain 𝓤 H A W 𝓣 1 ps·4 r·4 (claims· .8) (claims· .9) "parse::measure::say_on" (known .4) E (λ pos β. β) G41 (record { pos = 1; ty = Syntax.tyRef (Syntax.named 0) Syntax.imm (Syntax.tyInt Syntax.w8); ref = λ x. x; }, (record { pos = 4; st = List.[]; d = 0; at = λ x. x }, (record { pos = 12; st = List.[]; d = 0; at = λ x. x }, tt))) 4 (List._∷_ 0 List.[]) (Call.sub-id 𝓤 H A W (G41 .slots)) (ShrSlice.spares-sslice 𝓤 H A W (TReferent.rtF (TReferent.fInt Syntax.w8)) (Syntax.tyRef (Syntax.named 0) Syntax.imm (Syntax.tyInt Syntax.w8)) 0, SShared.reads-sslice 𝓤 H A W (TReferent.rtF (TReferent.fInt Syntax.w8)) (Syntax.tyRef (Syntax.named 0) Syntax.imm (Syntax.tyInt Syntax.w8)) 0, Path'.refl, ((Yields.yields-copy 𝓤 H A W (λ ρ. Unit) (Declared'.row Open.the-type) Path'.refl (TCopies.cStruct Open.the-type Laws'.the-laws Laws'.the-copy .copy 𝓤 H A W) (Rows.whole (Declared'.row Open.the-type)) (λ x. x) (λ x. x) (λ ρ told. RLocal.mem-whole 𝓤 H A W (Declared'.row Open.the-type) ρ) λ ρ told. RLocal.whole-mem 𝓤 H A W (Declared'.row Open.the-type) ρ, Path'.refl), ((Yields.yields-copy 𝓤 H A W (λ ρ. Unit) (Declared.row Saying.the-type) Path'.refl (TCopies.cEnum Saying.the-type Laws'7.the-laws Laws'7.the-copy .copy 𝓤 H A W) (Rows.whole (Declared.row Saying.the-type)) (λ x. x) (λ x. x) (λ ρ told. RLocal.mem-whole 𝓤 H A W (Declared.row Saying.the-type) ρ) λ ρ told. RLocal.whole-mem 𝓤 H A W (Declared.row Saying.the-type) ρ, Path'.refl), tt))) (RLocal.room-whole 𝓤 H A W (Declared'.row Open.the-type) τ1 Path'.refl) (tt, tt) Path'.refl) (RScalar.g-room 𝓤 H A W E G42 12 τ6 (RLocal.room-whole 𝓤 H A W (Declared.row Saying.the-type) τ6 Path'.refl)))
+          d11 = Typed.s-typed 𝓤 H A W 𝓣 E G41 b20 Δ5 (λ Ψ. Typed.both s37 (Typed.pass T42 T43 s38 Ψ)) tt (Typed.g-post 𝓤 H A W 𝓣 E G41 G42 G43 b20 (Typed.both s37) (Typed.pass T42 T43 s38) (Plain.t-call-plain 𝓤 H A W 𝓣 1 ps·4 r·4 (claims· .8) (claims· .9) "parse::measure::say_on" (known .4) E (λ pos β. β) G41 (record { pos = 1; ty = Syntax.tyRef (Syntax.named 0) Syntax.imm (Syntax.tyInt Syntax.w8); ref = λ x. x }, (record { pos = 4; st = List.[]; d = 0; at = λ x. x }, (record { pos = 12; st = List.[]; d = 0; at = λ x. x }, tt))) 4 (List._∷_ 0 List.[]) (Call.sub-id 𝓤 H A W (G41 .slots)) (ShrSlice.spares-sslice 𝓤 H A W (TReferent.rtF (TReferent.fInt Syntax.w8)) (Syntax.tyRef (Syntax.named 0) Syntax.imm (Syntax.tyInt Syntax.w8)) 0, SShared.reads-sslice 𝓤 H A W (TReferent.rtF (TReferent.fInt Syntax.w8)) (Syntax.tyRef (Syntax.named 0) Syntax.imm (Syntax.tyInt Syntax.w8)) 0, Path'.refl, ((Yields.yields-copy 𝓤 H A W (λ ρ. Unit) (Declared'.row Open.the-type) Path'.refl (TCopies.cStruct Open.the-type Laws'.the-laws Laws'.the-copy .copy 𝓤 H A W) (Rows.whole (Declared'.row Open.the-type)) (λ x. x) (λ x. x) (λ ρ told. RLocal.mem-whole 𝓤 H A W (Declared'.row Open.the-type) ρ) λ ρ told. RLocal.whole-mem 𝓤 H A W (Declared'.row Open.the-type) ρ, Path'.refl), ((Yields.yields-copy 𝓤 H A W (λ ρ. Unit) (Declared.row Saying.the-type) Path'.refl (TCopies.cEnum Saying.the-type Laws'7.the-laws Laws'7.the-copy .copy 𝓤 H A W) (Rows.whole (Declared.row Saying.the-type)) (λ x. x) (λ x. x) (λ ρ told. RLocal.mem-whole 𝓤 H A W (Declared.row Saying.the-type) ρ) λ ρ told. RLocal.whole-mem 𝓤 H A W (Declared.row Saying.the-type) ρ, Path'.refl), tt))) (RLocal.room-whole 𝓤 H A W (Declared'.row Open.the-type) τ1 Path'.refl) (tt, tt) Path'.refl) (RScalar.g-room 𝓤 H A W E G42 12 τ6 (RLocal.room-whole 𝓤 H A W (Declared.row Saying.the-type) τ6 Path'.refl)))
 
           d12 : Typed.Typed 𝓤 H A 𝓣 E G40 b20 Δ5 at12
           d12 = Typed.g-pre 𝓤 H A W 𝓣 E G40 G41 b20 Δ5 (Typed.pass T40 T41 s36) at11 (RScalar.g-room 𝓤 H A W E G40 10 τ5 (RLocal.room-whole 𝓤 H A W (Known.Known Role.enum 1) τ5 Path'.refl)) d11
@@ -1791,7 +1791,7 @@ module _ (claims· : Claims) where
           d22 = Typed.g-pre 𝓤 H A W 𝓣 E G33 G44 b22 Δ5 (Typed.both s39) at21 (Known.g-enum-told 𝓤 H A W E Role.enum 2 G33 10 λ x. x) d21
 
           d23 : Typed.Typed 𝓤 H A 𝓣 E G57 b25 Δ5 at23
-          d23 = Typed.s-typed 𝓤 H A W 𝓣 E G57 b25 Δ5 (λ Ψ. Typed.both s53 (Typed.pass T58 T59 s54 Ψ)) tt (Typed.g-post 𝓤 H A W 𝓣 E G57 G58 G59 b25 (Typed.both s53) (Typed.pass T58 T59 s54) (Plain.t-call-plain 𝓤 H A W 𝓣 1 ps·6 r·6 (claims· .12) (claims· .13) "parse::measure::open_entry" (known .6) E (λ pos β. β) G57 (record { pos = 1; ty = Syntax.tyRef (Syntax.named 0) Syntax.imm (Syntax.tyInt Syntax.w8); ref = λ x. x; }, (record { pos = 13; st = List.[]; d = 0; at = λ x. x }, tt)) 4 (List._∷_ 0 List.[]) (Call.sub-id 𝓤 H A W (G57 .slots)) (ShrSlice.spares-sslice 𝓤 H A W (TReferent.rtF (TReferent.fInt Syntax.w8)) (Syntax.tyRef (Syntax.named 0) Syntax.imm (Syntax.tyInt Syntax.w8)) 0, SShared.reads-sslice 𝓤 H A W (TReferent.rtF (TReferent.fInt Syntax.w8)) (Syntax.tyRef (Syntax.named 0) Syntax.imm (Syntax.tyInt Syntax.w8)) 0, Path'.refl, ((Yields.yields-copy 𝓤 H A W (λ ρ. Unit) (Declared'.row Opening.the-type) Path'.refl (TCopies.cStruct Opening.the-type Laws'5.the-laws Laws'5.the-copy .copy 𝓤 H A W) (Rows.whole (Declared'.row Opening.the-type)) (λ x. x) (λ x. x) (λ ρ told. RLocal.mem-whole 𝓤 H A W (Declared'.row Opening.the-type) ρ) λ ρ told. RLocal.whole-mem 𝓤 H A W (Declared'.row Opening.the-type) ρ, Path'.refl), tt)) (Reads'.room-gone 𝓤 H A τ1) (tt, tt) Path'.refl) (RScalar.g-room 𝓤 H A W E G58 13 τ7 (RLocal.room-whole 𝓤 H A W (Declared'.row Opening.the-type) τ7 Path'.refl)))
+          d23 = Typed.s-typed 𝓤 H A W 𝓣 E G57 b25 Δ5 (λ Ψ. Typed.both s53 (Typed.pass T58 T59 s54 Ψ)) tt (Typed.g-post 𝓤 H A W 𝓣 E G57 G58 G59 b25 (Typed.both s53) (Typed.pass T58 T59 s54) (Plain.t-call-plain 𝓤 H A W 𝓣 1 ps·6 r·6 (claims· .12) (claims· .13) "parse::measure::open_entry" (known .6) E (λ pos β. β) G57 (record { pos = 1; ty = Syntax.tyRef (Syntax.named 0) Syntax.imm (Syntax.tyInt Syntax.w8); ref = λ x. x }, (record { pos = 13; st = List.[]; d = 0; at = λ x. x }, tt)) 4 (List._∷_ 0 List.[]) (Call.sub-id 𝓤 H A W (G57 .slots)) (ShrSlice.spares-sslice 𝓤 H A W (TReferent.rtF (TReferent.fInt Syntax.w8)) (Syntax.tyRef (Syntax.named 0) Syntax.imm (Syntax.tyInt Syntax.w8)) 0, SShared.reads-sslice 𝓤 H A W (TReferent.rtF (TReferent.fInt Syntax.w8)) (Syntax.tyRef (Syntax.named 0) Syntax.imm (Syntax.tyInt Syntax.w8)) 0, Path'.refl, ((Yields.yields-copy 𝓤 H A W (λ ρ. Unit) (Declared'.row Opening.the-type) Path'.refl (TCopies.cStruct Opening.the-type Laws'5.the-laws Laws'5.the-copy .copy 𝓤 H A W) (Rows.whole (Declared'.row Opening.the-type)) (λ x. x) (λ x. x) (λ ρ told. RLocal.mem-whole 𝓤 H A W (Declared'.row Opening.the-type) ρ) λ ρ told. RLocal.whole-mem 𝓤 H A W (Declared'.row Opening.the-type) ρ, Path'.refl), tt)) (Reads'.room-gone 𝓤 H A τ1) (tt, tt) Path'.refl) (RScalar.g-room 𝓤 H A W E G58 13 τ7 (RLocal.room-whole 𝓤 H A W (Declared'.row Opening.the-type) τ7 Path'.refl)))
 
           d24 : Typed.Typed 𝓤 H A 𝓣 E G56 b25 Δ5 at24
           d24 = Typed.g-pre 𝓤 H A W 𝓣 E G56 G57 b25 Δ5 (Typed.pass T56 T57 s52) at23 (RScalar.g-room 𝓤 H A W E G56 4 τ1 (RLocal.room-whole 𝓤 H A W (Declared'.row Open.the-type) τ1 Path'.refl)) d23
@@ -1903,7 +1903,7 @@ module _ (claims· : Claims) where
           d59 = Typed.t-seq 𝓤 H A W 𝓣 E G26 G27 b35 b40 Δ3 at53 at58 d53 d58
 
           d60 : Typed.Typed 𝓤 H A 𝓣 E G25 b42 Δ3 at60
-          d60 = Typed.s-seq 𝓤 H A W 𝓣 E G25 G26 b17 b41 Δ3 (Typed.both s22) at59 (Plain.t-call-plain 𝓤 H A W 𝓣 1 ps·3 r·3 (claims· .6) (claims· .7) "kept::keep" (known .3) E (λ pos β. β) G25 (record { pos = 20; ty = Syntax.tyRef Syntax.erased Syntax.mut KeptElem.behind; ref = λ x. x; }, (Num.vAt 7 λ x. x, (Num.vAt 6 λ x. x, (record { pos = 5; st = List.[]; d = 0; at = λ x. x }, (Num.vFld 8 (List._∷_ (Syntax.field 3) List.[]) 24 λ x. Line.struct .as-values x .1 .1 .1 .0, (record { pos = 9; st = List.[]; d = 0; at = λ x. x }, tt)))))) 18 (List._∷_ 2 List.[]) (Call.sub-id 𝓤 H A W (G25 .slots)) (Reads'.as-is 𝓤 H A (Mut.mslice KeptElem.R (Syntax.tyRef Syntax.erased Syntax.mut KeptElem.behind) 2), Mut.reads-mslice 𝓤 H A W KeptElem.R (Syntax.tyRef Syntax.erased Syntax.mut KeptElem.behind) 2, Path'.refl, ((RScalar.reads-sc 𝓤 H A W (Row.sInt Syntax.w64), Path'.refl), ((RScalar.reads-sc 𝓤 H A W (Row.sInt Syntax.w64), Path'.refl), ((Yields.yields-copy 𝓤 H A W (λ ρ. Unit) (Declared.row Where.the-type) Path'.refl (TCopies.cEnum Where.the-type Laws'9.the-laws Laws'9.the-copy .copy 𝓤 H A W) (Rows.whole (Declared.row Where.the-type)) (λ x. x) (λ x. x) (λ ρ told. RLocal.mem-whole 𝓤 H A W (Declared.row Where.the-type) ρ) λ ρ told. RLocal.whole-mem 𝓤 H A W (Declared.row Where.the-type) ρ, Path'.refl), ((Reads.reads-field 𝓤 H A W Line.the-type Laws'10.the-laws 3 (Syntax.tyInt Syntax.w64) 24 Path'.refl, Path'.refl), ((Yields.yields-copy 𝓤 H A W (λ ρ. Unit) (Declared'.row Step.the-type) Path'.refl (TCopies.cStruct Step.the-type Laws'8.the-laws Laws'8.the-copy .copy 𝓤 H A W) (Rows.whole (Declared'.row Step.the-type)) (λ x. x) (λ x. x) (λ ρ told. RLocal.mem-whole 𝓤 H A W (Declared'.row Step.the-type) ρ) λ ρ told. RLocal.whole-mem 𝓤 H A W (Declared'.row Step.the-type) ρ, Path'.refl), tt)))))) (Reads'.room-gone 𝓤 H A Syntax.tyUnit) (tt, tt) Path'.refl) d59
+          d60 = Typed.s-seq 𝓤 H A W 𝓣 E G25 G26 b17 b41 Δ3 (Typed.both s22) at59 (Plain.t-call-plain 𝓤 H A W 𝓣 1 ps·3 r·3 (claims· .6) (claims· .7) "kept::keep" (known .3) E (λ pos β. β) G25 (record { pos = 20; ty = Syntax.tyRef Syntax.erased Syntax.mut KeptElem.behind; ref = λ x. x }, (Num.vAt 7 λ x. x, (Num.vAt 6 λ x. x, (record { pos = 5; st = List.[]; d = 0; at = λ x. x }, (Num.vFld 8 (List._∷_ (Syntax.field 3) List.[]) 24 λ x. Line.struct .as-values x .1 .1 .1 .0, (record { pos = 9; st = List.[]; d = 0; at = λ x. x }, tt)))))) 18 (List._∷_ 2 List.[]) (Call.sub-id 𝓤 H A W (G25 .slots)) (Reads'.as-is 𝓤 H A (Mut.mslice KeptElem.R (Syntax.tyRef Syntax.erased Syntax.mut KeptElem.behind) 2), Mut.reads-mslice 𝓤 H A W KeptElem.R (Syntax.tyRef Syntax.erased Syntax.mut KeptElem.behind) 2, Path'.refl, ((RScalar.reads-sc 𝓤 H A W (Row.sInt Syntax.w64), Path'.refl), ((RScalar.reads-sc 𝓤 H A W (Row.sInt Syntax.w64), Path'.refl), ((Yields.yields-copy 𝓤 H A W (λ ρ. Unit) (Declared.row Where.the-type) Path'.refl (TCopies.cEnum Where.the-type Laws'9.the-laws Laws'9.the-copy .copy 𝓤 H A W) (Rows.whole (Declared.row Where.the-type)) (λ x. x) (λ x. x) (λ ρ told. RLocal.mem-whole 𝓤 H A W (Declared.row Where.the-type) ρ) λ ρ told. RLocal.whole-mem 𝓤 H A W (Declared.row Where.the-type) ρ, Path'.refl), ((Reads.reads-field 𝓤 H A W Line.the-type Laws'10.the-laws 3 (Syntax.tyInt Syntax.w64) 24 Path'.refl, Path'.refl), ((Yields.yields-copy 𝓤 H A W (λ ρ. Unit) (Declared'.row Step.the-type) Path'.refl (TCopies.cStruct Step.the-type Laws'8.the-laws Laws'8.the-copy .copy 𝓤 H A W) (Rows.whole (Declared'.row Step.the-type)) (λ x. x) (λ x. x) (λ ρ told. RLocal.mem-whole 𝓤 H A W (Declared'.row Step.the-type) ρ) λ ρ told. RLocal.whole-mem 𝓤 H A W (Declared'.row Step.the-type) ρ, Path'.refl), tt)))))) (Reads'.room-gone 𝓤 H A Syntax.tyUnit) (tt, tt) Path'.refl) d59
 
           d61 : Typed.Typed 𝓤 H A 𝓣 E G24 b43 Δ3 at61
           d61 = Typed.s-seq 𝓤 H A W 𝓣 E G24 G25 b16 b42 Δ3 (Typed.ask s21) at60 (Relend.t-sl-aggregate 𝓤 H A W E KeptElem.R 𝓣 (Relend.asMut KeptElem.R) G24 19 20 2 (Syntax.tyRef Syntax.erased Syntax.mut KeptElem.behind) (Syntax.tyRef Syntax.erased Syntax.mut KeptElem.behind) (λ x. x) (RScalar.oFld 2 (List._∷_ (Syntax.field 1) List.[]) (Syntax.tyInt Syntax.w64) 8 λ v. SShared.lenV (v .0)) (Reads'.as-is 𝓤 H A (Relend.msptr KeptElem.R (Syntax.tyRef Syntax.erased Syntax.mut KeptElem.behind) 2)) (Reads'.room-gone 𝓤 H A (Syntax.tyStruct (List._∷_ 38 (List._∷_ 91 (List._∷_ 93 List.[]))) (Syntax.tcons (Syntax.tyRef Syntax.erased Syntax.mut KeptElem.behind) (Syntax.tcons (Syntax.tyInt Syntax.w64) Syntax.tnil)))) (Relend.reads-owed-len 𝓤 H A W KeptElem.R (Syntax.tyRef (Syntax.named 1) Syntax.mut KeptElem.behind) 1 2 (Row.lease (κs .1 .0) (qs .1 .0)) 8 Path'.refl, Path'.refl) Path'.refl Path'.refl λ b o k. tt) d60
@@ -1921,10 +1921,10 @@ module _ (claims· : Claims) where
           d65 = Typed.s-seq 𝓤 H A W 𝓣 E G20 G21 b13 b45 Δ3 (Typed.pass T20 T21 s17) at64 (CopyOut.t-copy-told 𝓤 H A W E 𝓣 (Declared.row Role.the-type) Path'.refl (Laws'11.val Role.the-type Laws'6.the-laws) (Laws'11.lawful Role.the-type Laws'6.the-laws 𝓤 H A W tt) (Laws'11.makes Role.the-type Laws'6.the-plain 𝓤 H A) G20 10 (RScalar.oFld 9 (List._∷_ (Syntax.field 0) List.[]) τ5 0 λ x. Laws'11.val Role.the-type Laws'6.the-laws (Step.struct .as-values x .0)) (λ m. Step.struct .as-values (m .1 .1 .1 .1 .1 .1 .1 .1 .1 .0) .0) (λ m. Laws'12.Is (Declared'.row Step.the-type) (m .1 .1 .1 .1 .1 .1 .1 .1 .1 .0) (Laws'13.vals Step.the-type Laws'8.the-laws (m .1 .1 .1 .1 .1 .1 .1 .1 .1 .0))) (Reads'.room-gone 𝓤 H A τ5) (Reads.reads-field 𝓤 H A W Step.the-type Laws'8.the-laws 0 τ5 0 Path'.refl, Path'.refl) Path'.refl (λ ρ m. Make'.tells-row 𝓤 H A W E ρ (Row.out 10 (G20 .locals)) m 9 (Laws'12.Is (Declared'.row Step.the-type) (m .1 .1 .1 .1 .1 .1 .1 .1 .1 .0) (Laws'13.vals Step.the-type Laws'8.the-laws (m .1 .1 .1 .1 .1 .1 .1 .1 .1 .0))) (Make'.whole-is 𝓤 H A W E (Declared'.row Step.the-type) Path'.refl (Laws'13.val Step.the-type Laws'8.the-laws) (Laws'13.tells Step.the-type Laws'8.the-laws) ρ 9 (m .1 .1 .1 .1 .1 .1 .1 .1 .1 .0))) (λ m k wa. Path'.refl) λ m k wa. Laws'13.owed Step.the-type Laws'8.the-laws (m .1 .1 .1 .1 .1 .1 .1 .1 .1 .0) (Laws'13.vals Step.the-type Laws'8.the-laws (m .1 .1 .1 .1 .1 .1 .1 .1 .1 .0)) k .0) d64
 
           d66 : Typed.Typed 𝓤 H A 𝓣 E G19 b47 Δ3 at66
-          d66 = Typed.s-seq 𝓤 H A W 𝓣 E G19 G20 b12 b46 Δ3 (Typed.both s16) at65 (Plain.t-call-plain 𝓤 H A W 𝓣 1 ps·2 r·2 (claims· .4) (claims· .5) "roles::steps::step" (known .2) E (λ pos β. β) G19 (record { pos = 1; ty = Syntax.tyRef (Syntax.named 0) Syntax.imm (Syntax.tyInt Syntax.w8); ref = λ x. x; }, (record { pos = 5; st = List.[]; d = 0; at = λ x. x }, (record { pos = 8; st = List.[]; d = 0; at = λ x. x }, tt))) 9 (List._∷_ 0 List.[]) (Call.sub-id 𝓤 H A W (G19 .slots)) (ShrSlice.spares-sslice 𝓤 H A W (TReferent.rtF (TReferent.fInt Syntax.w8)) (Syntax.tyRef (Syntax.named 0) Syntax.imm (Syntax.tyInt Syntax.w8)) 0, SShared.reads-sslice 𝓤 H A W (TReferent.rtF (TReferent.fInt Syntax.w8)) (Syntax.tyRef (Syntax.named 0) Syntax.imm (Syntax.tyInt Syntax.w8)) 0, Path'.refl, ((Yields.yields-copy 𝓤 H A W (λ ρ. Unit) (Declared.row Where.the-type) Path'.refl (TCopies.cEnum Where.the-type Laws'9.the-laws Laws'9.the-copy .copy 𝓤 H A W) (Rows.whole (Declared.row Where.the-type)) (λ x. x) (λ x. x) (λ ρ told. RLocal.mem-whole 𝓤 H A W (Declared.row Where.the-type) ρ) λ ρ told. RLocal.whole-mem 𝓤 H A W (Declared.row Where.the-type) ρ, Path'.refl), ((Yields.yields-copy 𝓤 H A W (λ ρ. Unit) (Declared'.row Line.the-type) Path'.refl (TCopies.cStruct Line.the-type Laws'10.the-laws Laws'10.the-copy .copy 𝓤 H A W) (Rows.whole (Declared'.row Line.the-type)) (λ x. x) (λ x. x) (λ ρ told. RLocal.mem-whole 𝓤 H A W (Declared'.row Line.the-type) ρ) λ ρ told. RLocal.whole-mem 𝓤 H A W (Declared'.row Line.the-type) ρ, Path'.refl), tt))) (Reads'.room-gone 𝓤 H A τ4) (tt, tt) Path'.refl) d65
+          d66 = Typed.s-seq 𝓤 H A W 𝓣 E G19 G20 b12 b46 Δ3 (Typed.both s16) at65 (Plain.t-call-plain 𝓤 H A W 𝓣 1 ps·2 r·2 (claims· .4) (claims· .5) "roles::steps::step" (known .2) E (λ pos β. β) G19 (record { pos = 1; ty = Syntax.tyRef (Syntax.named 0) Syntax.imm (Syntax.tyInt Syntax.w8); ref = λ x. x }, (record { pos = 5; st = List.[]; d = 0; at = λ x. x }, (record { pos = 8; st = List.[]; d = 0; at = λ x. x }, tt))) 9 (List._∷_ 0 List.[]) (Call.sub-id 𝓤 H A W (G19 .slots)) (ShrSlice.spares-sslice 𝓤 H A W (TReferent.rtF (TReferent.fInt Syntax.w8)) (Syntax.tyRef (Syntax.named 0) Syntax.imm (Syntax.tyInt Syntax.w8)) 0, SShared.reads-sslice 𝓤 H A W (TReferent.rtF (TReferent.fInt Syntax.w8)) (Syntax.tyRef (Syntax.named 0) Syntax.imm (Syntax.tyInt Syntax.w8)) 0, Path'.refl, ((Yields.yields-copy 𝓤 H A W (λ ρ. Unit) (Declared.row Where.the-type) Path'.refl (TCopies.cEnum Where.the-type Laws'9.the-laws Laws'9.the-copy .copy 𝓤 H A W) (Rows.whole (Declared.row Where.the-type)) (λ x. x) (λ x. x) (λ ρ told. RLocal.mem-whole 𝓤 H A W (Declared.row Where.the-type) ρ) λ ρ told. RLocal.whole-mem 𝓤 H A W (Declared.row Where.the-type) ρ, Path'.refl), ((Yields.yields-copy 𝓤 H A W (λ ρ. Unit) (Declared'.row Line.the-type) Path'.refl (TCopies.cStruct Line.the-type Laws'10.the-laws Laws'10.the-copy .copy 𝓤 H A W) (Rows.whole (Declared'.row Line.the-type)) (λ x. x) (λ x. x) (λ ρ told. RLocal.mem-whole 𝓤 H A W (Declared'.row Line.the-type) ρ) λ ρ told. RLocal.whole-mem 𝓤 H A W (Declared'.row Line.the-type) ρ, Path'.refl), tt))) (Reads'.room-gone 𝓤 H A τ4) (tt, tt) Path'.refl) d65
 
           d67 : Typed.Typed 𝓤 H A 𝓣 E G14 b48 Δ3 at67
-          d67 = Typed.s-seq 𝓤 H A W 𝓣 E G14 G19 b11 b47 Δ3 (Typed.both s15) at66 (Plain.t-call-plain 𝓤 H A W 𝓣 1 ps·1 r·1 (claims· .2) (claims· .3) "text::lines::line_at" (known .1) E (λ pos β. β) G14 (record { pos = 1; ty = Syntax.tyRef (Syntax.named 0) Syntax.imm (Syntax.tyInt Syntax.w8); ref = λ x. x; }, (Num.vAt 6 λ x. x, (Num.vAt 7 λ x. x, tt))) 8 (List._∷_ 0 List.[]) (Call.sub-id 𝓤 H A W (G14 .slots)) (ShrSlice.spares-sslice 𝓤 H A W (TReferent.rtF (TReferent.fInt Syntax.w8)) (Syntax.tyRef (Syntax.named 0) Syntax.imm (Syntax.tyInt Syntax.w8)) 0, SShared.reads-sslice 𝓤 H A W (TReferent.rtF (TReferent.fInt Syntax.w8)) (Syntax.tyRef (Syntax.named 0) Syntax.imm (Syntax.tyInt Syntax.w8)) 0, Path'.refl, ((RScalar.reads-sc 𝓤 H A W (Row.sInt Syntax.w64), Path'.refl), ((RScalar.reads-sc 𝓤 H A W (Row.sInt Syntax.w64), Path'.refl), tt))) (Reads'.room-gone 𝓤 H A τ3) (tt, tt) Path'.refl) d66
+          d67 = Typed.s-seq 𝓤 H A W 𝓣 E G14 G19 b11 b47 Δ3 (Typed.both s15) at66 (Plain.t-call-plain 𝓤 H A W 𝓣 1 ps·1 r·1 (claims· .2) (claims· .3) "text::lines::line_at" (known .1) E (λ pos β. β) G14 (record { pos = 1; ty = Syntax.tyRef (Syntax.named 0) Syntax.imm (Syntax.tyInt Syntax.w8); ref = λ x. x }, (Num.vAt 6 λ x. x, (Num.vAt 7 λ x. x, tt))) 8 (List._∷_ 0 List.[]) (Call.sub-id 𝓤 H A W (G14 .slots)) (ShrSlice.spares-sslice 𝓤 H A W (TReferent.rtF (TReferent.fInt Syntax.w8)) (Syntax.tyRef (Syntax.named 0) Syntax.imm (Syntax.tyInt Syntax.w8)) 0, SShared.reads-sslice 𝓤 H A W (TReferent.rtF (TReferent.fInt Syntax.w8)) (Syntax.tyRef (Syntax.named 0) Syntax.imm (Syntax.tyInt Syntax.w8)) 0, Path'.refl, ((RScalar.reads-sc 𝓤 H A W (Row.sInt Syntax.w64), Path'.refl), ((RScalar.reads-sc 𝓤 H A W (Row.sInt Syntax.w64), Path'.refl), tt))) (Reads'.room-gone 𝓤 H A τ3) (tt, tt) Path'.refl) d66
 
           d68 : Typed.Typed 𝓤 H A 𝓣 E G13 b49 Δ3 at68
           d68 = Typed.t-seq 𝓤 H A W 𝓣 E G13 G14 b10 b48 Δ3 at6 at67 d6 d67
@@ -2077,7 +2077,7 @@ module _ (claims· : Claims) where
       Need-loop-holds = (c : After-begin) → Inv·0 (Row.get 1 (T11 .locals) (m9 (c .before) (After-begin·gave c)) .now) (Row.get 2 (T11 .locals) (m9 (c .before) (After-begin·gave c)) .now) (Row.get 3 (T11 .locals) (m9 (c .before) (After-begin·gave c))) (Row.get 4 (T11 .locals) (m9 (c .before) (After-begin·gave c))) (Row.get 5 (T11 .locals) (m9 (c .before) (After-begin·gave c))) (Row.get 6 (T11 .locals) (m9 (c .before) (After-begin·gave c))) (Row.get 7 (T11 .locals) (m9 (c .before) (After-begin·gave c))) (Row.get 2 (T11 .locals) (m9 (c .before) (After-begin·gave c)) .now) (Row.get 3 (T11 .locals) (m9 (c .before) (After-begin·gave c))) (Row.get 4 (T11 .locals) (m9 (c .before) (After-begin·gave c))) (Row.get 5 (T11 .locals) (m9 (c .before) (After-begin·gave c))) (Row.get 6 (T11 .locals) (m9 (c .before) (After-begin·gave c))) (Row.get 7 (T11 .locals) (m9 (c .before) (After-begin·gave c)))
 
       abbrev pub m10 : (before : After-begin) → (kept : List.List (KeptElem.R .Denot)) → (t : Rows.whole (Declared'.row Counts.the-type) .Mod) → (o : Rows.whole (Declared'.row Open.the-type) .Mod) → (w : Rows.whole (Declared.row Where.the-type) .Mod) → (at : Rows.sc-here (Row.sInt Syntax.w64) .Mod) → (number : Rows.sc-here (Row.sInt Syntax.w64) .Mod) → Typed.Mo T11
-      m10 = λ before kept t o w at number. Row.set 7 (7, Rows.sc-here (Row.sInt Syntax.w64)) number (Row.setRow 6 (6, Rows.sc-here (Row.sInt Syntax.w64)) (Row.setRow 5 (5, Rows.whole (Declared.row Where.the-type)) (Row.setRow 4 (4, Rows.whole (Declared'.row Open.the-type)) (Row.setRow 3 (3, Rows.whole (Declared'.row Counts.the-type)) (Row.setRow 2 (2, Mut.mslice KeptElem.R (Syntax.tyRef (Syntax.named 1) Syntax.mut KeptElem.behind) 1) (T11 .locals)))))) (Row.set 6 (6, Rows.sc-here (Row.sInt Syntax.w64)) at (Row.setRow 5 (5, Rows.whole (Declared.row Where.the-type)) (Row.setRow 4 (4, Rows.whole (Declared'.row Open.the-type)) (Row.setRow 3 (3, Rows.whole (Declared'.row Counts.the-type)) (Row.setRow 2 (2, Mut.mslice KeptElem.R (Syntax.tyRef (Syntax.named 1) Syntax.mut KeptElem.behind) 1) (T11 .locals))))) (Row.set 5 (5, Rows.whole (Declared.row Where.the-type)) w (Row.setRow 4 (4, Rows.whole (Declared'.row Open.the-type)) (Row.setRow 3 (3, Rows.whole (Declared'.row Counts.the-type)) (Row.setRow 2 (2, Mut.mslice KeptElem.R (Syntax.tyRef (Syntax.named 1) Syntax.mut KeptElem.behind) 1) (T11 .locals)))) (Row.set 4 (4, Rows.whole (Declared'.row Open.the-type)) o (Row.setRow 3 (3, Rows.whole (Declared'.row Counts.the-type)) (Row.setRow 2 (2, Mut.mslice KeptElem.R (Syntax.tyRef (Syntax.named 1) Syntax.mut KeptElem.behind) 1) (T11 .locals))) (Row.set 3 (3, Rows.whole (Declared'.row Counts.the-type)) t (Row.setRow 2 (2, Mut.mslice KeptElem.R (Syntax.tyRef (Syntax.named 1) Syntax.mut KeptElem.behind) 1) (T11 .locals)) (Row.set 2 (2, Mut.mslice KeptElem.R (Syntax.tyRef (Syntax.named 1) Syntax.mut KeptElem.behind) 1) record { ptr = Row.get 2 (T11 .locals) (m9 (before .before) (After-begin·gave before)) .ptr; name = Row.get 2 (T11 .locals) (m9 (before .before) (After-begin·gave before)) .name; now = kept; } (T11 .locals) (m9 (before .before) (After-begin·gave before)))))))
+      m10 = λ before kept t o w at number. Row.set 7 (7, Rows.sc-here (Row.sInt Syntax.w64)) number (Row.setRow 6 (6, Rows.sc-here (Row.sInt Syntax.w64)) (Row.setRow 5 (5, Rows.whole (Declared.row Where.the-type)) (Row.setRow 4 (4, Rows.whole (Declared'.row Open.the-type)) (Row.setRow 3 (3, Rows.whole (Declared'.row Counts.the-type)) (Row.setRow 2 (2, Mut.mslice KeptElem.R (Syntax.tyRef (Syntax.named 1) Syntax.mut KeptElem.behind) 1) (T11 .locals)))))) (Row.set 6 (6, Rows.sc-here (Row.sInt Syntax.w64)) at (Row.setRow 5 (5, Rows.whole (Declared.row Where.the-type)) (Row.setRow 4 (4, Rows.whole (Declared'.row Open.the-type)) (Row.setRow 3 (3, Rows.whole (Declared'.row Counts.the-type)) (Row.setRow 2 (2, Mut.mslice KeptElem.R (Syntax.tyRef (Syntax.named 1) Syntax.mut KeptElem.behind) 1) (T11 .locals))))) (Row.set 5 (5, Rows.whole (Declared.row Where.the-type)) w (Row.setRow 4 (4, Rows.whole (Declared'.row Open.the-type)) (Row.setRow 3 (3, Rows.whole (Declared'.row Counts.the-type)) (Row.setRow 2 (2, Mut.mslice KeptElem.R (Syntax.tyRef (Syntax.named 1) Syntax.mut KeptElem.behind) 1) (T11 .locals)))) (Row.set 4 (4, Rows.whole (Declared'.row Open.the-type)) o (Row.setRow 3 (3, Rows.whole (Declared'.row Counts.the-type)) (Row.setRow 2 (2, Mut.mslice KeptElem.R (Syntax.tyRef (Syntax.named 1) Syntax.mut KeptElem.behind) 1) (T11 .locals))) (Row.set 3 (3, Rows.whole (Declared'.row Counts.the-type)) t (Row.setRow 2 (2, Mut.mslice KeptElem.R (Syntax.tyRef (Syntax.named 1) Syntax.mut KeptElem.behind) 1) (T11 .locals)) (Row.set 2 (2, Mut.mslice KeptElem.R (Syntax.tyRef (Syntax.named 1) Syntax.mut KeptElem.behind) 1) record { ptr = Row.get 2 (T11 .locals) (m9 (before .before) (After-begin·gave before)) .ptr; name = Row.get 2 (T11 .locals) (m9 (before .before) (After-begin·gave before)) .name; now = kept } (T11 .locals) (m9 (before .before) (After-begin·gave before)))))))
 
       abbrev W3 : (before : After-begin) → (kept : List.List (KeptElem.R .Denot)) → (t : Rows.whole (Declared'.row Counts.the-type) .Mod) → (o : Rows.whole (Declared'.row Open.the-type) .Mod) → (w : Rows.whole (Declared.row Where.the-type) .Mod) → (at : Rows.sc-here (Row.sInt Syntax.w64) .Mod) → (number : Rows.sc-here (Row.sInt Syntax.w64) .Mod) → Typed.Want O3
       W3 = λ before kept t o w at number. Typed.inLoop T11 O2 (Typed.Round T11 O2 put0 (λ u vs. Inv·0 (Row.get 1 (T11 .locals) u .now) (Row.get 2 (T11 .locals) u .now) (Row.get 3 (T11 .locals) u) (Row.get 4 (T11 .locals) u) (Row.get 5 (T11 .locals) u) (Row.get 6 (T11 .locals) u) (Row.get 7 (T11 .locals) u) (vs .0) (vs .1) (vs .2) (vs .3) (vs .4) (vs .5)) (λ u vs. μ·0 (Row.get 1 (T11 .locals) u .now) (Row.get 2 (T11 .locals) u .now) (Row.get 3 (T11 .locals) u) (Row.get 4 (T11 .locals) u) (Row.get 5 (T11 .locals) u) (Row.get 6 (T11 .locals) u) (Row.get 7 (T11 .locals) u) (vs .0) (vs .1) (vs .2) (vs .3) (vs .4) (vs .5)) at70 (m9 (before .before) (After-begin·gave before)) (kept, t, o, w, at, number)) (W2 (before .before) (After-begin·gave before))
@@ -2141,14 +2141,14 @@ module _ (claims· : Claims) where
 
       module _ (before· : In-loop) where
         abbrev pub After-line-at·own : Type 0
-        After-line-at·own = Called.Called ps·1 r·1 (claims· .3) T14 (record { pos = 1; ty = Syntax.tyRef (Syntax.named 0) Syntax.imm (Syntax.tyInt Syntax.w8); ref = λ x. x; }, (Num.vAt 6 λ x. x, (Num.vAt 7 λ x. x, tt))) (m14 (before· .before))
+        After-line-at·own = Called.Called ps·1 r·1 (claims· .3) T14 (record { pos = 1; ty = Syntax.tyRef (Syntax.named 0) Syntax.imm (Syntax.tyInt Syntax.w8); ref = λ x. x }, (Num.vAt 6 λ x. x, (Num.vAt 7 λ x. x, tt))) (m14 (before· .before))
 
       pub record After-line-at : Type 0 where
         pub before : In-loop
         pub line-at : After-line-at·own before
 
       abbrev pub After-line-at·gave : (c : After-line-at) → s15 .gives (m14 (c .before .before))
-      After-line-at·gave = λ c. Called.given ps·1 r·1 (claims· .3) T14 (record { pos = 1; ty = Syntax.tyRef (Syntax.named 0) Syntax.imm (Syntax.tyInt Syntax.w8); ref = λ x. x; }, (Num.vAt 6 λ x. x, (Num.vAt 7 λ x. x, tt))) (m14 (c .before .before)) (c .line-at)
+      After-line-at·gave = λ c. Called.given ps·1 r·1 (claims· .3) T14 (record { pos = 1; ty = Syntax.tyRef (Syntax.named 0) Syntax.imm (Syntax.tyInt Syntax.w8); ref = λ x. x }, (Num.vAt 6 λ x. x, (Num.vAt 7 λ x. x, tt))) (m14 (c .before .before)) (c .line-at)
 
       abbrev pub Need-step-requires : Type 0
       Need-step-requires = (c : After-line-at) → s16 .asks (m17 (c .before) (After-line-at·gave c))
@@ -2158,14 +2158,14 @@ module _ (claims· : Claims) where
 
       module _ (before· : After-line-at) where
         abbrev pub After-step·own : Type 0
-        After-step·own = Called.Called ps·2 r·2 (claims· .5) T19 (record { pos = 1; ty = Syntax.tyRef (Syntax.named 0) Syntax.imm (Syntax.tyInt Syntax.w8); ref = λ x. x; }, (record { pos = 5; st = List.[]; d = 0; at = λ x. x }, (record { pos = 8; st = List.[]; d = 0; at = λ x. x }, tt))) (m17 (before· .before) (After-line-at·gave before·))
+        After-step·own = Called.Called ps·2 r·2 (claims· .5) T19 (record { pos = 1; ty = Syntax.tyRef (Syntax.named 0) Syntax.imm (Syntax.tyInt Syntax.w8); ref = λ x. x }, (record { pos = 5; st = List.[]; d = 0; at = λ x. x }, (record { pos = 8; st = List.[]; d = 0; at = λ x. x }, tt))) (m17 (before· .before) (After-line-at·gave before·))
 
       pub record After-step : Type 0 where
         pub before : After-line-at
         pub step : After-step·own before
 
       abbrev pub After-step·gave : (c : After-step) → s16 .gives (m17 (c .before .before) (After-line-at·gave (c .before)))
-      After-step·gave = λ c. Called.given ps·2 r·2 (claims· .5) T19 (record { pos = 1; ty = Syntax.tyRef (Syntax.named 0) Syntax.imm (Syntax.tyInt Syntax.w8); ref = λ x. x; }, (record { pos = 5; st = List.[]; d = 0; at = λ x. x }, (record { pos = 8; st = List.[]; d = 0; at = λ x. x }, tt))) (m17 (c .before .before) (After-line-at·gave (c .before))) (c .step)
+      After-step·gave = λ c. Called.given ps·2 r·2 (claims· .5) T19 (record { pos = 1; ty = Syntax.tyRef (Syntax.named 0) Syntax.imm (Syntax.tyInt Syntax.w8); ref = λ x. x }, (record { pos = 5; st = List.[]; d = 0; at = λ x. x }, (record { pos = 8; st = List.[]; d = 0; at = λ x. x }, tt))) (m17 (c .before .before) (After-line-at·gave (c .before))) (c .step)
 
       abbrev pub m19 : (before : After-line-at) → (given : s16 .gives (m17 (before .before) (After-line-at·gave before))) → Typed.Mo T21
       m19 = λ before given. s17 (m18 before given)
@@ -2195,14 +2195,14 @@ module _ (claims· : Claims) where
 
       module _ (before· : After-keep-arg) where
         abbrev pub After-keep·own : Type 0
-        After-keep·own = Called.Called ps·3 r·3 (claims· .7) T25 (record { pos = 20; ty = Syntax.tyRef Syntax.erased Syntax.mut KeptElem.behind; ref = λ x. x; }, (Num.vAt 7 λ x. x, (Num.vAt 6 λ x. x, (record { pos = 5; st = List.[]; d = 0; at = λ x. x }, (Num.vFld 8 (List._∷_ (Syntax.field 3) List.[]) 24 λ x. Line.struct .as-values x .1 .1 .1 .0, (record { pos = 9; st = List.[]; d = 0; at = λ x. x }, tt)))))) (m22 (before· .before) (before· .keep-arg .given))
+        After-keep·own = Called.Called ps·3 r·3 (claims· .7) T25 (record { pos = 20; ty = Syntax.tyRef Syntax.erased Syntax.mut KeptElem.behind; ref = λ x. x }, (Num.vAt 7 λ x. x, (Num.vAt 6 λ x. x, (record { pos = 5; st = List.[]; d = 0; at = λ x. x }, (Num.vFld 8 (List._∷_ (Syntax.field 3) List.[]) 24 λ x. Line.struct .as-values x .1 .1 .1 .0, (record { pos = 9; st = List.[]; d = 0; at = λ x. x }, tt)))))) (m22 (before· .before) (before· .keep-arg .given))
 
       pub record After-keep : Type 0 where
         pub before : After-keep-arg
         pub keep : After-keep·own before
 
       abbrev pub After-keep·gave : (c : After-keep) → s22 .gives (m22 (c .before .before) (c .before .keep-arg .given))
-      After-keep·gave = λ c. Called.given ps·3 r·3 (claims· .7) T25 (record { pos = 20; ty = Syntax.tyRef Syntax.erased Syntax.mut KeptElem.behind; ref = λ x. x; }, (Num.vAt 7 λ x. x, (Num.vAt 6 λ x. x, (record { pos = 5; st = List.[]; d = 0; at = λ x. x }, (Num.vFld 8 (List._∷_ (Syntax.field 3) List.[]) 24 λ x. Line.struct .as-values x .1 .1 .1 .0, (record { pos = 9; st = List.[]; d = 0; at = λ x. x }, tt)))))) (m22 (c .before .before) (c .before .keep-arg .given)) (c .keep)
+      After-keep·gave = λ c. Called.given ps·3 r·3 (claims· .7) T25 (record { pos = 20; ty = Syntax.tyRef Syntax.erased Syntax.mut KeptElem.behind; ref = λ x. x }, (Num.vAt 7 λ x. x, (Num.vAt 6 λ x. x, (record { pos = 5; st = List.[]; d = 0; at = λ x. x }, (Num.vFld 8 (List._∷_ (Syntax.field 3) List.[]) 24 λ x. Line.struct .as-values x .1 .1 .1 .0, (record { pos = 9; st = List.[]; d = 0; at = λ x. x }, tt)))))) (m22 (c .before .before) (c .before .keep-arg .given)) (c .keep)
 
       abbrev W5 : (before : After-keep-arg) → (given : s22 .gives (m22 (before .before) (before .keep-arg .given))) → Typed.Want O5
       W5 = λ before given. Typed.wantNext T27 O3 (at58 (W3 (before .before .before .before .before .before) (before .before .before .before .before .loop .kept) (before .before .before .before .before .loop .t) (before .before .before .before .before .loop .o) (before .before .before .before .before .loop .w) (before .before .before .before .before .loop .at) (before .before .before .before .before .loop .number))) (W3 (before .before .before .before .before .before) (before .before .before .before .before .loop .kept) (before .before .before .before .before .loop .t) (before .before .before .before .before .loop .o) (before .before .before .before .before .loop .w) (before .before .before .before .before .loop .at) (before .before .before .before .before .loop .number))
@@ -2308,14 +2308,14 @@ module _ (claims· : Claims) where
 
       module _ (before· : After-known-told) where
         abbrev pub After-say-on·own : Type 0
-        After-say-on·own = Called.Called ps·4 r·4 (claims· .9) T41 (record { pos = 1; ty = Syntax.tyRef (Syntax.named 0) Syntax.imm (Syntax.tyInt Syntax.w8); ref = λ x. x; }, (record { pos = 4; st = List.[]; d = 0; at = λ x. x }, (record { pos = 12; st = List.[]; d = 0; at = λ x. x }, tt))) (m35 (before· .before) (before· .known-told .given))
+        After-say-on·own = Called.Called ps·4 r·4 (claims· .9) T41 (record { pos = 1; ty = Syntax.tyRef (Syntax.named 0) Syntax.imm (Syntax.tyInt Syntax.w8); ref = λ x. x }, (record { pos = 4; st = List.[]; d = 0; at = λ x. x }, (record { pos = 12; st = List.[]; d = 0; at = λ x. x }, tt))) (m35 (before· .before) (before· .known-told .given))
 
       pub record After-say-on : Type 0 where
         pub before : After-known-told
         pub say-on : After-say-on·own before
 
       abbrev pub After-say-on·gave : (c : After-say-on) → s37 .gives (m35 (c .before .before) (c .before .known-told .given))
-      After-say-on·gave = λ c. Called.given ps·4 r·4 (claims· .9) T41 (record { pos = 1; ty = Syntax.tyRef (Syntax.named 0) Syntax.imm (Syntax.tyInt Syntax.w8); ref = λ x. x; }, (record { pos = 4; st = List.[]; d = 0; at = λ x. x }, (record { pos = 12; st = List.[]; d = 0; at = λ x. x }, tt))) (m35 (c .before .before) (c .before .known-told .given)) (c .say-on)
+      After-say-on·gave = λ c. Called.given ps·4 r·4 (claims· .9) T41 (record { pos = 1; ty = Syntax.tyRef (Syntax.named 0) Syntax.imm (Syntax.tyInt Syntax.w8); ref = λ x. x }, (record { pos = 4; st = List.[]; d = 0; at = λ x. x }, (record { pos = 12; st = List.[]; d = 0; at = λ x. x }, tt))) (m35 (c .before .before) (c .before .known-told .given)) (c .say-on)
 
       module _ (before· : After-kept) where
         pub record At-match-keys3·own : Type 0 where
@@ -2441,14 +2441,14 @@ module _ (claims· : Claims) where
 
       module _ (before· : After-enter) where
         abbrev pub After-open-entry·own : Type 0
-        After-open-entry·own = Called.Called ps·6 r·6 (claims· .13) T57 (record { pos = 1; ty = Syntax.tyRef (Syntax.named 0) Syntax.imm (Syntax.tyInt Syntax.w8); ref = λ x. x; }, (record { pos = 13; st = List.[]; d = 0; at = λ x. x }, tt)) (m51 (before· .before) (After-enter·gave before·))
+        After-open-entry·own = Called.Called ps·6 r·6 (claims· .13) T57 (record { pos = 1; ty = Syntax.tyRef (Syntax.named 0) Syntax.imm (Syntax.tyInt Syntax.w8); ref = λ x. x }, (record { pos = 13; st = List.[]; d = 0; at = λ x. x }, tt)) (m51 (before· .before) (After-enter·gave before·))
 
       pub record After-open-entry : Type 0 where
         pub before : After-enter
         pub open-entry : After-open-entry·own before
 
       abbrev pub After-open-entry·gave : (c : After-open-entry) → s53 .gives (m51 (c .before .before) (After-enter·gave (c .before)))
-      After-open-entry·gave = λ c. Called.given ps·6 r·6 (claims· .13) T57 (record { pos = 1; ty = Syntax.tyRef (Syntax.named 0) Syntax.imm (Syntax.tyInt Syntax.w8); ref = λ x. x; }, (record { pos = 13; st = List.[]; d = 0; at = λ x. x }, tt)) (m51 (c .before .before) (After-enter·gave (c .before))) (c .open-entry)
+      After-open-entry·gave = λ c. Called.given ps·6 r·6 (claims· .13) T57 (record { pos = 1; ty = Syntax.tyRef (Syntax.named 0) Syntax.imm (Syntax.tyInt Syntax.w8); ref = λ x. x }, (record { pos = 13; st = List.[]; d = 0; at = λ x. x }, tt)) (m51 (c .before .before) (After-enter·gave (c .before))) (c .open-entry)
 
       module _ (before· : After-kept) where
         pub record At-match-keys5·own : Type 0 where
@@ -2535,7 +2535,7 @@ module _ (claims· : Claims) where
         pub record At-match-came·own : Type 0 where
           pub t : Rows.whole (Declared'.row Counts.the-type) .Mod
           pub o : Rows.whole (Declared'.row Open.the-type) .Mod
-          pub came : Logic._⊎_ ((match : At-match-keys1·own before·) × (enum-told : After-enum-told·own record { before = before·; match = match; }) × Path'._≡_ t (Row.get 3 (T27 .locals) (m30 record { before = before·; match = match; } (enum-told .given))) × Path'._≡_ o (Row.get 4 (T27 .locals) (m30 record { before = before·; match = match; } (enum-told .given)))) (Logic._⊎_ ((match : At-match-keys2·own before·) × (role : After-role·own record { before = before·; match = match; }) × (known-told : After-known-told·own record { before = record { before = before·; match = match }; role = role; }) × (say-on : After-say-on·own record { before = record { before = record { before = before·; match = match }; role = role; }; known-told = known-told; }) × Path'._≡_ t (Row.get 3 (T27 .locals) (m37 record { before = record { before = record { before = before·; match = match }; role = role; }; known-told = known-told; } (Called.given ps·4 r·4 (claims· .9) T41 (record { pos = 1; ty = Syntax.tyRef (Syntax.named 0) Syntax.imm (Syntax.tyInt Syntax.w8); ref = λ x. x; }, (record { pos = 4; st = List.[]; d = 0; at = λ x. x }, (record { pos = 12; st = List.[]; d = 0; at = λ x. x }, tt))) (m35 record { before = record { before = before·; match = match }; role = role } (known-told .given)) say-on))) × Path'._≡_ o (Row.get 4 (T27 .locals) (m37 record { before = record { before = record { before = before·; match = match }; role = role; }; known-told = known-told; } (Called.given ps·4 r·4 (claims· .9) T41 (record { pos = 1; ty = Syntax.tyRef (Syntax.named 0) Syntax.imm (Syntax.tyInt Syntax.w8); ref = λ x. x; }, (record { pos = 4; st = List.[]; d = 0; at = λ x. x }, (record { pos = 12; st = List.[]; d = 0; at = λ x. x }, tt))) (m35 record { before = record { before = before·; match = match }; role = role } (known-told .given)) say-on)))) (Logic._⊎_ ((match : At-match-keys3·own before·) × (enum-told2 : After-enum-told2·own record { before = before·; match = match; }) × (struct-known : After-struct-known·own record { before = record { before = before·; match = match }; enum-told2 = enum-told2; }) × Path'._≡_ t (Row.get 3 (T27 .locals) (m44 record { before = record { before = before·; match = match }; enum-told2 = enum-told2; } (struct-known .given))) × Path'._≡_ o (Row.get 4 (T27 .locals) (m44 record { before = record { before = before·; match = match }; enum-told2 = enum-told2; } (struct-known .given)))) ((match : At-match-keys4·own before·) × (role2 : After-role2·own record { before = before·; match = match; }) × (known-told2 : After-known-told2·own record { before = record { before = before·; match = match }; role2 = role2; }) × (enter : After-enter·own record { before = record { before = record { before = before·; match = match }; role2 = role2; }; known-told2 = known-told2; }) × (open-entry : After-open-entry·own record { before = record { before = record { before = record { before = before·; match = match }; role2 = role2; }; known-told2 = known-told2; }; enter = enter; }) × Path'._≡_ t (Row.get 3 (T27 .locals) (m53 record { before = record { before = record { before = record { before = before·; match = match }; role2 = role2; }; known-told2 = known-told2; }; enter = enter; } (Called.given ps·6 r·6 (claims· .13) T57 (record { pos = 1; ty = Syntax.tyRef (Syntax.named 0) Syntax.imm (Syntax.tyInt Syntax.w8); ref = λ x. x; }, (record { pos = 13; st = List.[]; d = 0; at = λ x. x }, tt)) (m51 record { before = record { before = record { before = before·; match = match }; role2 = role2; }; known-told2 = known-told2; } (Called.given ps·5 r·5 (claims· .11) T55 (record { pos = 3; st = List.[]; d = 0; at = λ x. x }, (record { pos = 4; st = List.[]; d = 0; at = λ x. x }, tt)) (m49 record { before = record { before = before·; match = match }; role2 = role2; } (known-told2 .given)) enter)) open-entry))) × Path'._≡_ o (Row.get 4 (T27 .locals) (m53 record { before = record { before = record { before = record { before = before·; match = match }; role2 = role2; }; known-told2 = known-told2; }; enter = enter; } (Called.given ps·6 r·6 (claims· .13) T57 (record { pos = 1; ty = Syntax.tyRef (Syntax.named 0) Syntax.imm (Syntax.tyInt Syntax.w8); ref = λ x. x; }, (record { pos = 13; st = List.[]; d = 0; at = λ x. x }, tt)) (m51 record { before = record { before = record { before = before·; match = match }; role2 = role2; }; known-told2 = known-told2; } (Called.given ps·5 r·5 (claims· .11) T55 (record { pos = 3; st = List.[]; d = 0; at = λ x. x }, (record { pos = 4; st = List.[]; d = 0; at = λ x. x }, tt)) (m49 record { before = record { before = before·; match = match }; role2 = role2; } (known-told2 .given)) enter)) open-entry))))))
+          pub came : Logic._⊎_ ((match : At-match-keys1·own before·) × (enum-told : After-enum-told·own record { before = before·; match = match }) × Path'._≡_ t (Row.get 3 (T27 .locals) (m30 record { before = before·; match = match } (enum-told .given))) × Path'._≡_ o (Row.get 4 (T27 .locals) (m30 record { before = before·; match = match } (enum-told .given)))) (Logic._⊎_ ((match : At-match-keys2·own before·) × (role : After-role·own record { before = before·; match = match }) × (known-told : After-known-told·own record { before = record { before = before·; match = match }; role = role }) × (say-on : After-say-on·own record { before = record { before = record { before = before·; match = match }; role = role }; known-told = known-told }) × Path'._≡_ t (Row.get 3 (T27 .locals) (m37 record { before = record { before = record { before = before·; match = match }; role = role }; known-told = known-told } (Called.given ps·4 r·4 (claims· .9) T41 (record { pos = 1; ty = Syntax.tyRef (Syntax.named 0) Syntax.imm (Syntax.tyInt Syntax.w8); ref = λ x. x }, (record { pos = 4; st = List.[]; d = 0; at = λ x. x }, (record { pos = 12; st = List.[]; d = 0; at = λ x. x }, tt))) (m35 record { before = record { before = before·; match = match }; role = role } (known-told .given)) say-on))) × Path'._≡_ o (Row.get 4 (T27 .locals) (m37 record { before = record { before = record { before = before·; match = match }; role = role }; known-told = known-told } (Called.given ps·4 r·4 (claims· .9) T41 (record { pos = 1; ty = Syntax.tyRef (Syntax.named 0) Syntax.imm (Syntax.tyInt Syntax.w8); ref = λ x. x }, (record { pos = 4; st = List.[]; d = 0; at = λ x. x }, (record { pos = 12; st = List.[]; d = 0; at = λ x. x }, tt))) (m35 record { before = record { before = before·; match = match }; role = role } (known-told .given)) say-on)))) (Logic._⊎_ ((match : At-match-keys3·own before·) × (enum-told2 : After-enum-told2·own record { before = before·; match = match }) × (struct-known : After-struct-known·own record { before = record { before = before·; match = match }; enum-told2 = enum-told2 }) × Path'._≡_ t (Row.get 3 (T27 .locals) (m44 record { before = record { before = before·; match = match }; enum-told2 = enum-told2 } (struct-known .given))) × Path'._≡_ o (Row.get 4 (T27 .locals) (m44 record { before = record { before = before·; match = match }; enum-told2 = enum-told2 } (struct-known .given)))) ((match : At-match-keys4·own before·) × (role2 : After-role2·own record { before = before·; match = match }) × (known-told2 : After-known-told2·own record { before = record { before = before·; match = match }; role2 = role2 }) × (enter : After-enter·own record { before = record { before = record { before = before·; match = match }; role2 = role2 }; known-told2 = known-told2 }) × (open-entry : After-open-entry·own record { before = record { before = record { before = record { before = before·; match = match }; role2 = role2 }; known-told2 = known-told2 }; enter = enter }) × Path'._≡_ t (Row.get 3 (T27 .locals) (m53 record { before = record { before = record { before = record { before = before·; match = match }; role2 = role2 }; known-told2 = known-told2 }; enter = enter } (Called.given ps·6 r·6 (claims· .13) T57 (record { pos = 1; ty = Syntax.tyRef (Syntax.named 0) Syntax.imm (Syntax.tyInt Syntax.w8); ref = λ x. x }, (record { pos = 13; st = List.[]; d = 0; at = λ x. x }, tt)) (m51 record { before = record { before = record { before = before·; match = match }; role2 = role2 }; known-told2 = known-told2 } (Called.given ps·5 r·5 (claims· .11) T55 (record { pos = 3; st = List.[]; d = 0; at = λ x. x }, (record { pos = 4; st = List.[]; d = 0; at = λ x. x }, tt)) (m49 record { before = record { before = before·; match = match }; role2 = role2 } (known-told2 .given)) enter)) open-entry))) × Path'._≡_ o (Row.get 4 (T27 .locals) (m53 record { before = record { before = record { before = record { before = before·; match = match }; role2 = role2 }; known-told2 = known-told2 }; enter = enter } (Called.given ps·6 r·6 (claims· .13) T57 (record { pos = 1; ty = Syntax.tyRef (Syntax.named 0) Syntax.imm (Syntax.tyInt Syntax.w8); ref = λ x. x }, (record { pos = 13; st = List.[]; d = 0; at = λ x. x }, tt)) (m51 record { before = record { before = record { before = before·; match = match }; role2 = role2 }; known-told2 = known-told2 } (Called.given ps·5 r·5 (claims· .11) T55 (record { pos = 3; st = List.[]; d = 0; at = λ x. x }, (record { pos = 4; st = List.[]; d = 0; at = λ x. x }, tt)) (m49 record { before = record { before = before·; match = match }; role2 = role2 } (known-told2 .given)) enter)) open-entry))))))
 
       pub record At-match-came : Type 0 where
         pub before : After-kept
@@ -2625,29 +2625,29 @@ module _ (claims· : Claims) where
         lay12 = λ c. ((Path'.refl, (MutSlice.fix-len (Row.get 2 (T86 .locals) (m81 (c .before) (After-close-on·gave c)) .ptr) (Row.get 2 (T86 .locals) (m81 (c .before) (After-close-on·gave c)) .name) (Row.get 2 (T86 .locals) (m81 (c .before) (After-close-on·gave c)) .now) (dens (c .before .before .before .before .before .κs) (c .before .before .before .before .before .args) .1 .0 .now) (same-length-2 record { before = c .before; close-on = c .close-on }), tt)), returns-2 record { before = c .before; close-on = c .close-on })
 
         lay11 : (c : After-loop) → at81 (W0 (c .before .before .before .before .κs) (c .before .before .before .before .args)) (m16 (c .before))
-        lay11 = λ c. (close-on-requires record { before = c .before; loop-test = c .loop-test }, λ g. lay12 record { before = record { before = c .before; loop-test = c .loop-test }; close-on = Called.called ps·8 r·8 (claims· .17) T10 (record { pos = 3; st = List.[]; d = 0; at = λ x. x }, (record { pos = 4; st = List.[]; d = 0; at = λ x. x }, tt)) (m16 (c .before)) g; })
+        lay11 = λ c. (close-on-requires record { before = c .before; loop-test = c .loop-test }, λ g. lay12 record { before = record { before = c .before; loop-test = c .loop-test }; close-on = Called.called ps·8 r·8 (claims· .17) T10 (record { pos = 3; st = List.[]; d = 0; at = λ x. x }, (record { pos = 4; st = List.[]; d = 0; at = λ x. x }, tt)) (m16 (c .before)) g })
 
         lay10 : (c : After-same-place) → at57 (W3 (c .before .before .before .before .before .before .before .before .before) (c .before .before .before .before .before .before .before .before .loop .kept) (c .before .before .before .before .before .before .before .before .loop .t) (c .before .before .before .before .before .before .before .before .loop .o) (c .before .before .before .before .before .before .before .before .loop .w) (c .before .before .before .before .before .before .before .before .loop .at) (c .before .before .before .before .before .before .before .before .loop .number)) (m70 (c .before) (After-same-place·gave c))
         lay10 = λ c. (add-number record { before = c .before; same-place = c .same-place }, (μ·0 (Row.get 1 (T11 .locals) (m9 (c .before .before .before .before .before .before .before .before .before .before) (After-begin·gave (c .before .before .before .before .before .before .before .before .before))) .now) (Row.get 2 (T11 .locals) (m9 (c .before .before .before .before .before .before .before .before .before .before) (After-begin·gave (c .before .before .before .before .before .before .before .before .before))) .now) (Row.get 3 (T11 .locals) (m9 (c .before .before .before .before .before .before .before .before .before .before) (After-begin·gave (c .before .before .before .before .before .before .before .before .before)))) (Row.get 4 (T11 .locals) (m9 (c .before .before .before .before .before .before .before .before .before .before) (After-begin·gave (c .before .before .before .before .before .before .before .before .before)))) (Row.get 5 (T11 .locals) (m9 (c .before .before .before .before .before .before .before .before .before .before) (After-begin·gave (c .before .before .before .before .before .before .before .before .before)))) (Row.get 6 (T11 .locals) (m9 (c .before .before .before .before .before .before .before .before .before .before) (After-begin·gave (c .before .before .before .before .before .before .before .before .before)))) (Row.get 7 (T11 .locals) (m9 (c .before .before .before .before .before .before .before .before .before .before) (After-begin·gave (c .before .before .before .before .before .before .before .before .before)))) (Row.get 2 (T11 .locals) (m74 (c .before) (After-same-place·gave c)) .now) (Row.get 3 (T11 .locals) (m74 (c .before) (After-same-place·gave c))) (Row.get 4 (T11 .locals) (m74 (c .before) (After-same-place·gave c))) (Row.get 5 (T11 .locals) (m74 (c .before) (After-same-place·gave c))) (Row.get 6 (T11 .locals) (m74 (c .before) (After-same-place·gave c))) (Row.get 7 (T11 .locals) (m74 (c .before) (After-same-place·gave c))), loop-less record { before = c .before; same-place = c .same-place }, ((Row.get 2 (T11 .locals) (m74 (c .before) (After-same-place·gave c)) .now, Row.get 3 (T11 .locals) (m74 (c .before) (After-same-place·gave c)), Row.get 4 (T11 .locals) (m74 (c .before) (After-same-place·gave c)), Row.get 5 (T11 .locals) (m74 (c .before) (After-same-place·gave c)), Row.get 6 (T11 .locals) (m74 (c .before) (After-same-place·gave c)), Row.get 7 (T11 .locals) (m74 (c .before) (After-same-place·gave c))), Path'.refl {a = m74 (c .before) (After-same-place·gave c)}, loop-again record { before = c .before; same-place = c .same-place }, Path'.refl {a = μ·0 (Row.get 1 (T11 .locals) (m9 (c .before .before .before .before .before .before .before .before .before .before) (After-begin·gave (c .before .before .before .before .before .before .before .before .before))) .now) (Row.get 2 (T11 .locals) (m9 (c .before .before .before .before .before .before .before .before .before .before) (After-begin·gave (c .before .before .before .before .before .before .before .before .before))) .now) (Row.get 3 (T11 .locals) (m9 (c .before .before .before .before .before .before .before .before .before .before) (After-begin·gave (c .before .before .before .before .before .before .before .before .before)))) (Row.get 4 (T11 .locals) (m9 (c .before .before .before .before .before .before .before .before .before .before) (After-begin·gave (c .before .before .before .before .before .before .before .before .before)))) (Row.get 5 (T11 .locals) (m9 (c .before .before .before .before .before .before .before .before .before .before) (After-begin·gave (c .before .before .before .before .before .before .before .before .before)))) (Row.get 6 (T11 .locals) (m9 (c .before .before .before .before .before .before .before .before .before .before) (After-begin·gave (c .before .before .before .before .before .before .before .before .before)))) (Row.get 7 (T11 .locals) (m9 (c .before .before .before .before .before .before .before .before .before .before) (After-begin·gave (c .before .before .before .before .before .before .before .before .before)))) (Row.get 2 (T11 .locals) (m74 (c .before) (After-same-place·gave c)) .now) (Row.get 3 (T11 .locals) (m74 (c .before) (After-same-place·gave c))) (Row.get 4 (T11 .locals) (m74 (c .before) (After-same-place·gave c))) (Row.get 5 (T11 .locals) (m74 (c .before) (After-same-place·gave c))) (Row.get 6 (T11 .locals) (m74 (c .before) (After-same-place·gave c))) (Row.get 7 (T11 .locals) (m74 (c .before) (After-same-place·gave c)))})))
 
         lay9 : (c : At-match-came) → at58 (W3 (c .before .before .before .before .before .before .before .before) (c .before .before .before .before .before .before .before .loop .kept) (c .before .before .before .before .before .before .before .loop .t) (c .before .before .before .before .before .before .before .loop .o) (c .before .before .before .before .before .before .before .loop .w) (c .before .before .before .before .before .before .before .loop .at) (c .before .before .before .before .before .before .before .loop .number)) (m69 (c .before) (c .match .t) (c .match .o))
         unfolding at58
-        lay9 = λ c. (same-place-requires record { before = c .before; match = c .match }, λ g. lay10 record { before = record { before = c .before; match = c .match }; same-place = Called.called ps·7 r·7 (claims· .15) T27 (record { pos = 11; st = List.[]; d = 0; at = λ x. x }, tt) (m69 (c .before) (c .match .t) (c .match .o)) g; })
+        lay9 = λ c. (same-place-requires record { before = c .before; match = c .match }, λ g. lay10 record { before = record { before = c .before; match = c .match }; same-place = Called.called ps·7 r·7 (claims· .15) T27 (record { pos = 11; st = List.[]; d = 0; at = λ x. x }, tt) (m69 (c .before) (c .match .t) (c .match .o)) g })
 
         lay8 : (c : After-enter) → at24 (W5 (c .before .before .before .before .before .before) (After-keep·gave (c .before .before .before .before .before))) (m50 (c .before) (After-enter·gave c))
-        lay8 = λ c. (open-entry-requires record { before = c .before; enter = c .enter }, λ g. lay9 record { before = record { before = c .before .before .before .before .before; kept = c .before .before .before .before .kept; }; match = record { t = Row.get 3 (T27 .locals) (m53 record { before = c .before; enter = c .enter } g); o = Row.get 4 (T27 .locals) (m53 record { before = c .before; enter = c .enter } g); came = Logic.inr (Logic.inr (Logic.inr (c .before .before .before .match, c .before .before .role2, c .before .known-told2, c .enter, Called.called ps·6 r·6 (claims· .13) T57 (record { pos = 1; ty = Syntax.tyRef (Syntax.named 0) Syntax.imm (Syntax.tyInt Syntax.w8); ref = λ x. x; }, (record { pos = 13; st = List.[]; d = 0; at = λ x. x }, tt)) (m51 (c .before) (After-enter·gave c)) g, Path'.refl {a = Row.get 3 (T27 .locals) (m53 record { before = c .before; enter = c .enter; } g)}, Path'.refl {a = Row.get 4 (T27 .locals) (m53 record { before = c .before; enter = c .enter; } g)}))); }; })
+        lay8 = λ c. (open-entry-requires record { before = c .before; enter = c .enter }, λ g. lay9 record { before = record { before = c .before .before .before .before .before; kept = c .before .before .before .before .kept }; match = record { t = Row.get 3 (T27 .locals) (m53 record { before = c .before; enter = c .enter } g); o = Row.get 4 (T27 .locals) (m53 record { before = c .before; enter = c .enter } g); came = Logic.inr (Logic.inr (Logic.inr (c .before .before .before .match, c .before .before .role2, c .before .known-told2, c .enter, Called.called ps·6 r·6 (claims· .13) T57 (record { pos = 1; ty = Syntax.tyRef (Syntax.named 0) Syntax.imm (Syntax.tyInt Syntax.w8); ref = λ x. x }, (record { pos = 13; st = List.[]; d = 0; at = λ x. x }, tt)) (m51 (c .before) (After-enter·gave c)) g, Path'.refl {a = Row.get 3 (T27 .locals) (m53 record { before = c .before; enter = c .enter } g)}, Path'.refl {a = Row.get 4 (T27 .locals) (m53 record { before = c .before; enter = c .enter } g)}))) } })
 
         lay7 : (c : After-keep) → at59 (W3 (c .before .before .before .before .before .before) (c .before .before .before .before .before .loop .kept) (c .before .before .before .before .before .loop .t) (c .before .before .before .before .before .loop .o) (c .before .before .before .before .before .loop .w) (c .before .before .before .before .before .loop .at) (c .before .before .before .before .before .loop .number)) (m23 (c .before) (After-keep·gave c))
-        lay7 = λ c. (Path'.refl, λ g. (λ k. (enum-told record { before = record { before = record { before = c .before; keep = c .keep }; kept = record { given = g }; }; match = record { keys1 = k }; }, λ g'. lay9 record { before = record { before = record { before = c .before; keep = c .keep }; kept = record { given = g }; }; match = record { t = Row.get 3 (T27 .locals) (m30 record { before = record { before = record { before = c .before; keep = c .keep }; kept = record { given = g }; }; match = record { keys1 = k }; } g'); o = Row.get 4 (T27 .locals) (m30 record { before = record { before = record { before = c .before; keep = c .keep }; kept = record { given = g }; }; match = record { keys1 = k }; } g'); came = Logic.inl (record { keys1 = k }, record { given = g' }, Path'.refl {a = Row.get 3 (T27 .locals) (m30 record { before = record { before = record { before = c .before; keep = c .keep }; kept = record { given = g }; }; match = record { keys1 = k }; } g')}, Path'.refl {a = Row.get 4 (T27 .locals) (m30 record { before = record { before = record { before = c .before; keep = c .keep }; kept = record { given = g }; }; match = record { keys1 = k }; } g')}); }; }), (λ k. (enum-known-role record { before = record { before = record { before = c .before; keep = c .keep }; kept = record { given = g }; }; match = record { keys2 = k }; }, λ g''. λ g'3. (say-on-requires record { before = record { before = record { before = record { before = record { before = c .before; keep = c .keep }; kept = record { given = g }; }; match = record { keys2 = k }; }; role = record { given = g'' }; }; known-told = record { given = g'3 }; }, λ g'4. lay9 record { before = record { before = record { before = c .before; keep = c .keep }; kept = record { given = g }; }; match = record { t = Row.get 3 (T27 .locals) (m37 record { before = record { before = record { before = record { before = record { before = c .before; keep = c .keep }; kept = record { given = g }; }; match = record { keys2 = k }; }; role = record { given = g'' }; }; known-told = record { given = g'3 }; } g'4); o = Row.get 4 (T27 .locals) (m37 record { before = record { before = record { before = record { before = record { before = c .before; keep = c .keep }; kept = record { given = g }; }; match = record { keys2 = k }; }; role = record { given = g'' }; }; known-told = record { given = g'3 }; } g'4); came = Logic.inr (Logic.inl (record { keys2 = k }, record { given = g'' }, record { given = g'3 }, Called.called ps·4 r·4 (claims· .9) T41 (record { pos = 1; ty = Syntax.tyRef (Syntax.named 0) Syntax.imm (Syntax.tyInt Syntax.w8); ref = λ x. x; }, (record { pos = 4; st = List.[]; d = 0; at = λ x. x }, (record { pos = 12; st = List.[]; d = 0; at = λ x. x }, tt))) (m35 record { before = record { before = record { before = record { before = c .before; keep = c .keep }; kept = record { given = g }; }; match = record { keys2 = k }; }; role = record { given = g'' }; } g'3) g'4, Path'.refl {a = Row.get 3 (T27 .locals) (m37 record { before = record { before = record { before = record { before = record { before = c .before; keep = c .keep }; kept = record { given = g }; }; match = record { keys2 = k }; }; role = record { given = g'' }; }; known-told = record { given = g'3 }; } g'4)}, Path'.refl {a = Row.get 4 (T27 .locals) (m37 record { before = record { before = record { before = record { before = record { before = c .before; keep = c .keep }; kept = record { given = g }; }; match = record { keys2 = k }; }; role = record { given = g'' }; }; known-told = record { given = g'3 }; } g'4)})); }; })), (λ k. (enum-told-2 record { before = record { before = record { before = c .before; keep = c .keep }; kept = record { given = g }; }; match = record { keys3 = k }; }, λ g'5. λ g'6. (add-t record { before = record { before = record { before = record { before = record { before = c .before; keep = c .keep }; kept = record { given = g }; }; match = record { keys3 = k }; }; enum-told2 = record { given = g'5 }; }; struct-known = record { given = g'6 }; }, lay9 record { before = record { before = record { before = c .before; keep = c .keep }; kept = record { given = g }; }; match = record { t = Row.get 3 (T27 .locals) (m44 record { before = record { before = record { before = record { before = c .before; keep = c .keep }; kept = record { given = g }; }; match = record { keys3 = k }; }; enum-told2 = record { given = g'5 }; } g'6); o = Row.get 4 (T27 .locals) (m44 record { before = record { before = record { before = record { before = c .before; keep = c .keep }; kept = record { given = g }; }; match = record { keys3 = k }; }; enum-told2 = record { given = g'5 }; } g'6); came = Logic.inr (Logic.inr (Logic.inl (record { keys3 = k }, record { given = g'5 }, record { given = g'6 }, Path'.refl {a = Row.get 3 (T27 .locals) (m44 record { before = record { before = record { before = record { before = c .before; keep = c .keep }; kept = record { given = g }; }; match = record { keys3 = k }; }; enum-told2 = record { given = g'5 }; } g'6)}, Path'.refl {a = Row.get 4 (T27 .locals) (m44 record { before = record { before = record { before = record { before = c .before; keep = c .keep }; kept = record { given = g }; }; match = record { keys3 = k }; }; enum-told2 = record { given = g'5 }; } g'6)}))); }; })), (λ k. (enum-known-role-2 record { before = record { before = record { before = c .before; keep = c .keep }; kept = record { given = g }; }; match = record { keys4 = k }; }, λ g'7. λ g'8. (enter-requires record { before = record { before = record { before = record { before = record { before = c .before; keep = c .keep }; kept = record { given = g }; }; match = record { keys4 = k }; }; role2 = record { given = g'7 }; }; known-told2 = record { given = g'8 }; }, λ g'9. lay8 record { before = record { before = record { before = record { before = record { before = record { before = c .before; keep = c .keep }; kept = record { given = g }; }; match = record { keys4 = k }; }; role2 = record { given = g'7 }; }; known-told2 = record { given = g'8 }; }; enter = Called.called ps·5 r·5 (claims· .11) T55 (record { pos = 3; st = List.[]; d = 0; at = λ x. x }, (record { pos = 4; st = List.[]; d = 0; at = λ x. x }, tt)) (m49 record { before = record { before = record { before = record { before = c .before; keep = c .keep }; kept = record { given = g }; }; match = record { keys4 = k }; }; role2 = record { given = g'7 }; } g'8) g'9; })), (λ k. (enum-known-role-3 record { before = record { before = record { before = c .before; keep = c .keep }; kept = record { given = g }; }; match = record { keys5 = k }; }, λ g'10. λ g'11. ((Path'.refl, (MutSlice.fix-len (Row.get 2 (T74 .locals) (m68 record { before = record { before = record { before = record { before = c .before; keep = c .keep }; kept = record { given = g }; }; match = record { keys5 = k }; }; role3 = record { given = g'10 }; } g'11) .ptr) (Row.get 2 (T74 .locals) (m68 record { before = record { before = record { before = record { before = c .before; keep = c .keep }; kept = record { given = g }; }; match = record { keys5 = k }; }; role3 = record { given = g'10 }; } g'11) .name) (Row.get 2 (T74 .locals) (m68 record { before = record { before = record { before = record { before = c .before; keep = c .keep }; kept = record { given = g }; }; match = record { keys5 = k }; }; role3 = record { given = g'10 }; } g'11) .now) (dens (c .before .before .before .before .before .before .before .before .κs) (c .before .before .before .before .before .before .before .before .args) .1 .0 .now) (same-length record { before = record { before = record { before = record { before = record { before = c .before; keep = c .keep }; kept = record { given = g }; }; match = record { keys5 = k }; }; role3 = record { given = g'10 }; }; known-told3 = record { given = g'11 }; }), tt)), returns record { before = record { before = record { before = record { before = record { before = c .before; keep = c .keep }; kept = record { given = g }; }; match = record { keys5 = k }; }; role3 = record { given = g'10 }; }; known-told3 = record { given = g'11 }; })), Match.each-below 5 (λ j. ((((Unit {0} × (Run.OneOf (List._∷_ 0 List.[]) j → ⊥)) × (Run.OneOf (List._∷_ 1 List.[]) j → ⊥)) × (Run.OneOf (List._∷_ 2 List.[]) j → ⊥)) × (Run.OneOf (List._∷_ 3 List.[]) j → ⊥)) × (Run.OneOf (List._∷_ 4 List.[]) j → ⊥) → ⊥) (λ n. n .1 Path'.refl, (λ n. n .0 .1 Path'.refl, (λ n. n .0 .0 .1 Path'.refl, (λ n. n .0 .0 .0 .1 Path'.refl, (λ n. n .0 .0 .0 .0 .1 Path'.refl, tt))))) (Declared.tagOf Role.the-type (Row.get 10 (T32 .locals) (m27 record { before = c .before; keep = c .keep } g))) (Match.tag-small Role.the-type (Row.get 10 (T32 .locals) (m27 record { before = c .before; keep = c .keep } g)))))))))
+        lay7 = λ c. (Path'.refl, λ g. (λ k. (enum-told record { before = record { before = record { before = c .before; keep = c .keep }; kept = record { given = g } }; match = record { keys1 = k } }, λ g'. lay9 record { before = record { before = record { before = c .before; keep = c .keep }; kept = record { given = g } }; match = record { t = Row.get 3 (T27 .locals) (m30 record { before = record { before = record { before = c .before; keep = c .keep }; kept = record { given = g } }; match = record { keys1 = k } } g'); o = Row.get 4 (T27 .locals) (m30 record { before = record { before = record { before = c .before; keep = c .keep }; kept = record { given = g } }; match = record { keys1 = k } } g'); came = Logic.inl (record { keys1 = k }, record { given = g' }, Path'.refl {a = Row.get 3 (T27 .locals) (m30 record { before = record { before = record { before = c .before; keep = c .keep }; kept = record { given = g } }; match = record { keys1 = k } } g')}, Path'.refl {a = Row.get 4 (T27 .locals) (m30 record { before = record { before = record { before = c .before; keep = c .keep }; kept = record { given = g } }; match = record { keys1 = k } } g')}) } }), (λ k. (enum-known-role record { before = record { before = record { before = c .before; keep = c .keep }; kept = record { given = g } }; match = record { keys2 = k } }, λ g''. λ g'3. (say-on-requires record { before = record { before = record { before = record { before = record { before = c .before; keep = c .keep }; kept = record { given = g } }; match = record { keys2 = k } }; role = record { given = g'' } }; known-told = record { given = g'3 } }, λ g'4. lay9 record { before = record { before = record { before = c .before; keep = c .keep }; kept = record { given = g } }; match = record { t = Row.get 3 (T27 .locals) (m37 record { before = record { before = record { before = record { before = record { before = c .before; keep = c .keep }; kept = record { given = g } }; match = record { keys2 = k } }; role = record { given = g'' } }; known-told = record { given = g'3 } } g'4); o = Row.get 4 (T27 .locals) (m37 record { before = record { before = record { before = record { before = record { before = c .before; keep = c .keep }; kept = record { given = g } }; match = record { keys2 = k } }; role = record { given = g'' } }; known-told = record { given = g'3 } } g'4); came = Logic.inr (Logic.inl (record { keys2 = k }, record { given = g'' }, record { given = g'3 }, Called.called ps·4 r·4 (claims· .9) T41 (record { pos = 1; ty = Syntax.tyRef (Syntax.named 0) Syntax.imm (Syntax.tyInt Syntax.w8); ref = λ x. x }, (record { pos = 4; st = List.[]; d = 0; at = λ x. x }, (record { pos = 12; st = List.[]; d = 0; at = λ x. x }, tt))) (m35 record { before = record { before = record { before = record { before = c .before; keep = c .keep }; kept = record { given = g } }; match = record { keys2 = k } }; role = record { given = g'' } } g'3) g'4, Path'.refl {a = Row.get 3 (T27 .locals) (m37 record { before = record { before = record { before = record { before = record { before = c .before; keep = c .keep }; kept = record { given = g } }; match = record { keys2 = k } }; role = record { given = g'' } }; known-told = record { given = g'3 } } g'4)}, Path'.refl {a = Row.get 4 (T27 .locals) (m37 record { before = record { before = record { before = record { before = record { before = c .before; keep = c .keep }; kept = record { given = g } }; match = record { keys2 = k } }; role = record { given = g'' } }; known-told = record { given = g'3 } } g'4)})) } })), (λ k. (enum-told-2 record { before = record { before = record { before = c .before; keep = c .keep }; kept = record { given = g } }; match = record { keys3 = k } }, λ g'5. λ g'6. (add-t record { before = record { before = record { before = record { before = record { before = c .before; keep = c .keep }; kept = record { given = g } }; match = record { keys3 = k } }; enum-told2 = record { given = g'5 } }; struct-known = record { given = g'6 } }, lay9 record { before = record { before = record { before = c .before; keep = c .keep }; kept = record { given = g } }; match = record { t = Row.get 3 (T27 .locals) (m44 record { before = record { before = record { before = record { before = c .before; keep = c .keep }; kept = record { given = g } }; match = record { keys3 = k } }; enum-told2 = record { given = g'5 } } g'6); o = Row.get 4 (T27 .locals) (m44 record { before = record { before = record { before = record { before = c .before; keep = c .keep }; kept = record { given = g } }; match = record { keys3 = k } }; enum-told2 = record { given = g'5 } } g'6); came = Logic.inr (Logic.inr (Logic.inl (record { keys3 = k }, record { given = g'5 }, record { given = g'6 }, Path'.refl {a = Row.get 3 (T27 .locals) (m44 record { before = record { before = record { before = record { before = c .before; keep = c .keep }; kept = record { given = g } }; match = record { keys3 = k } }; enum-told2 = record { given = g'5 } } g'6)}, Path'.refl {a = Row.get 4 (T27 .locals) (m44 record { before = record { before = record { before = record { before = c .before; keep = c .keep }; kept = record { given = g } }; match = record { keys3 = k } }; enum-told2 = record { given = g'5 } } g'6)}))) } })), (λ k. (enum-known-role-2 record { before = record { before = record { before = c .before; keep = c .keep }; kept = record { given = g } }; match = record { keys4 = k } }, λ g'7. λ g'8. (enter-requires record { before = record { before = record { before = record { before = record { before = c .before; keep = c .keep }; kept = record { given = g } }; match = record { keys4 = k } }; role2 = record { given = g'7 } }; known-told2 = record { given = g'8 } }, λ g'9. lay8 record { before = record { before = record { before = record { before = record { before = record { before = c .before; keep = c .keep }; kept = record { given = g } }; match = record { keys4 = k } }; role2 = record { given = g'7 } }; known-told2 = record { given = g'8 } }; enter = Called.called ps·5 r·5 (claims· .11) T55 (record { pos = 3; st = List.[]; d = 0; at = λ x. x }, (record { pos = 4; st = List.[]; d = 0; at = λ x. x }, tt)) (m49 record { before = record { before = record { before = record { before = c .before; keep = c .keep }; kept = record { given = g } }; match = record { keys4 = k } }; role2 = record { given = g'7 } } g'8) g'9 })), (λ k. (enum-known-role-3 record { before = record { before = record { before = c .before; keep = c .keep }; kept = record { given = g } }; match = record { keys5 = k } }, λ g'10. λ g'11. ((Path'.refl, (MutSlice.fix-len (Row.get 2 (T74 .locals) (m68 record { before = record { before = record { before = record { before = c .before; keep = c .keep }; kept = record { given = g } }; match = record { keys5 = k } }; role3 = record { given = g'10 } } g'11) .ptr) (Row.get 2 (T74 .locals) (m68 record { before = record { before = record { before = record { before = c .before; keep = c .keep }; kept = record { given = g } }; match = record { keys5 = k } }; role3 = record { given = g'10 } } g'11) .name) (Row.get 2 (T74 .locals) (m68 record { before = record { before = record { before = record { before = c .before; keep = c .keep }; kept = record { given = g } }; match = record { keys5 = k } }; role3 = record { given = g'10 } } g'11) .now) (dens (c .before .before .before .before .before .before .before .before .κs) (c .before .before .before .before .before .before .before .before .args) .1 .0 .now) (same-length record { before = record { before = record { before = record { before = record { before = c .before; keep = c .keep }; kept = record { given = g } }; match = record { keys5 = k } }; role3 = record { given = g'10 } }; known-told3 = record { given = g'11 } }), tt)), returns record { before = record { before = record { before = record { before = record { before = c .before; keep = c .keep }; kept = record { given = g } }; match = record { keys5 = k } }; role3 = record { given = g'10 } }; known-told3 = record { given = g'11 } })), Match.each-below 5 (λ j. ((((Unit {0} × (Run.OneOf (List._∷_ 0 List.[]) j → ⊥)) × (Run.OneOf (List._∷_ 1 List.[]) j → ⊥)) × (Run.OneOf (List._∷_ 2 List.[]) j → ⊥)) × (Run.OneOf (List._∷_ 3 List.[]) j → ⊥)) × (Run.OneOf (List._∷_ 4 List.[]) j → ⊥) → ⊥) (λ n. n .1 Path'.refl, (λ n. n .0 .1 Path'.refl, (λ n. n .0 .0 .1 Path'.refl, (λ n. n .0 .0 .0 .1 Path'.refl, (λ n. n .0 .0 .0 .0 .1 Path'.refl, tt))))) (Declared.tagOf Role.the-type (Row.get 10 (T32 .locals) (m27 record { before = c .before; keep = c .keep } g))) (Match.tag-small Role.the-type (Row.get 10 (T32 .locals) (m27 record { before = c .before; keep = c .keep } g)))))))))
 
         lay6 : (c : After-step) → at65 (W3 (c .before .before .before .before) (c .before .before .before .loop .kept) (c .before .before .before .loop .t) (c .before .before .before .loop .o) (c .before .before .before .loop .w) (c .before .before .before .loop .at) (c .before .before .before .loop .number)) (m18 (c .before) (After-step·gave c))
-        lay6 = λ c. λ g. (Path'.refl, (keep-requires record { before = record { before = c .before; step = c .step }; keep-arg = record { given = g }; }, λ g'. lay7 record { before = record { before = record { before = c .before; step = c .step }; keep-arg = record { given = g }; }; keep = Called.called ps·3 r·3 (claims· .7) T25 (record { pos = 20; ty = Syntax.tyRef Syntax.erased Syntax.mut KeptElem.behind; ref = λ x. x; }, (Num.vAt 7 λ x. x, (Num.vAt 6 λ x. x, (record { pos = 5; st = List.[]; d = 0; at = λ x. x }, (Num.vFld 8 (List._∷_ (Syntax.field 3) List.[]) 24 λ x. Line.struct .as-values x .1 .1 .1 .0, (record { pos = 9; st = List.[]; d = 0; at = λ x. x }, tt)))))) (m22 record { before = c .before; step = c .step } g) g'; }))
+        lay6 = λ c. λ g. (Path'.refl, (keep-requires record { before = record { before = c .before; step = c .step }; keep-arg = record { given = g } }, λ g'. lay7 record { before = record { before = record { before = c .before; step = c .step }; keep-arg = record { given = g } }; keep = Called.called ps·3 r·3 (claims· .7) T25 (record { pos = 20; ty = Syntax.tyRef Syntax.erased Syntax.mut KeptElem.behind; ref = λ x. x }, (Num.vAt 7 λ x. x, (Num.vAt 6 λ x. x, (record { pos = 5; st = List.[]; d = 0; at = λ x. x }, (Num.vFld 8 (List._∷_ (Syntax.field 3) List.[]) 24 λ x. Line.struct .as-values x .1 .1 .1 .0, (record { pos = 9; st = List.[]; d = 0; at = λ x. x }, tt)))))) (m22 record { before = c .before; step = c .step } g) g' }))
 
         lay5 : (c : After-line-at) → at66 (W3 (c .before .before .before) (c .before .before .loop .kept) (c .before .before .loop .t) (c .before .before .loop .o) (c .before .before .loop .w) (c .before .before .loop .at) (c .before .before .loop .number)) (m17 (c .before) (After-line-at·gave c))
-        lay5 = λ c. (step-requires record { before = c .before; line-at = c .line-at }, λ g. lay6 record { before = record { before = c .before; line-at = c .line-at }; step = Called.called ps·2 r·2 (claims· .5) T19 (record { pos = 1; ty = Syntax.tyRef (Syntax.named 0) Syntax.imm (Syntax.tyInt Syntax.w8); ref = λ x. x; }, (record { pos = 5; st = List.[]; d = 0; at = λ x. x }, (record { pos = 8; st = List.[]; d = 0; at = λ x. x }, tt))) (m17 (c .before) (After-line-at·gave c)) g; })
+        lay5 = λ c. (step-requires record { before = c .before; line-at = c .line-at }, λ g. lay6 record { before = record { before = c .before; line-at = c .line-at }; step = Called.called ps·2 r·2 (claims· .5) T19 (record { pos = 1; ty = Syntax.tyRef (Syntax.named 0) Syntax.imm (Syntax.tyInt Syntax.w8); ref = λ x. x }, (record { pos = 5; st = List.[]; d = 0; at = λ x. x }, (record { pos = 8; st = List.[]; d = 0; at = λ x. x }, tt))) (m17 (c .before) (After-line-at·gave c)) g })
 
         lay4 : (c : In-loop) → at67 (W3 (c .before .before) (c .before .loop .kept) (c .before .loop .t) (c .before .loop .o) (c .before .loop .w) (c .before .loop .at) (c .before .loop .number)) (m14 (c .before))
-        lay4 = λ c. (line-at-requires record { before = c .before; loop-test = c .loop-test }, λ g. lay5 record { before = record { before = c .before; loop-test = c .loop-test }; line-at = Called.called ps·1 r·1 (claims· .3) T14 (record { pos = 1; ty = Syntax.tyRef (Syntax.named 0) Syntax.imm (Syntax.tyInt Syntax.w8); ref = λ x. x; }, (Num.vAt 6 λ x. x, (Num.vAt 7 λ x. x, tt))) (m14 (c .before)) g; })
+        lay4 = λ c. (line-at-requires record { before = c .before; loop-test = c .loop-test }, λ g. lay5 record { before = record { before = c .before; loop-test = c .loop-test }; line-at = Called.called ps·1 r·1 (claims· .3) T14 (record { pos = 1; ty = Syntax.tyRef (Syntax.named 0) Syntax.imm (Syntax.tyInt Syntax.w8); ref = λ x. x }, (Num.vAt 6 λ x. x, (Num.vAt 7 λ x. x, tt))) (m14 (c .before)) g })
 
         lay3 : (c : After-loop) → at4 (W4 (c .before .before) (c .before .loop .kept) (c .before .loop .t) (c .before .loop .o) (c .before .loop .w) (c .before .loop .at) (c .before .loop .number)) (m13 (c .before .before) (c .before .loop .kept) (c .before .loop .t) (c .before .loop .o) (c .before .loop .w) (c .before .loop .at) (c .before .loop .number))
         lay3 = λ c. lay11 record { before = c .before; loop-test = c .loop-test }
@@ -2656,14 +2656,14 @@ module _ (claims· : Claims) where
         lay2 = λ c. lay4 record { before = c .before; loop-test = c .loop-test }
 
         lay1 : (c : After-begin) → at86 (W0 (c .before .before .κs) (c .before .before .args)) (m4 (c .before) (After-begin·gave c))
-        lay1 = λ c. (((Row.get 2 (T11 .locals) (m9 (c .before) (After-begin·gave c)) .now, Row.get 3 (T11 .locals) (m9 (c .before) (After-begin·gave c)), Row.get 4 (T11 .locals) (m9 (c .before) (After-begin·gave c)), Row.get 5 (T11 .locals) (m9 (c .before) (After-begin·gave c)), Row.get 6 (T11 .locals) (m9 (c .before) (After-begin·gave c)), Row.get 7 (T11 .locals) (m9 (c .before) (After-begin·gave c))), Path'.refl {a = m9 (c .before) (After-begin·gave c)}, loop-holds record { before = c .before; begin = c .begin }), λ vs inv. (tt, (λ taken. lay2 record { before = record { before = record { before = c .before; begin = c .begin }; loop = record { kept = vs .0; t = vs .1; o = vs .2; w = vs .3; at = vs .4; number = vs .5; inv = inv; }; }; loop-test = record { taken = Tests.ltb-true (Row.get 6 (T12 .locals) (m11 record { before = c .before; begin = c .begin; } (vs .0) (vs .1) (vs .2) (vs .3) (vs .4) (vs .5))) (Row.get 16 (T12 .locals) (m11 record { before = c .before; begin = c .begin; } (vs .0) (vs .1) (vs .2) (vs .3) (vs .4) (vs .5))) taken; }; }, λ left. lay3 record { before = record { before = record { before = c .before; begin = c .begin }; loop = record { kept = vs .0; t = vs .1; o = vs .2; w = vs .3; at = vs .4; number = vs .5; inv = inv; }; }; loop-test = record { left = Tests.ltb-false (Row.get 6 (T12 .locals) (m11 record { before = c .before; begin = c .begin; } (vs .0) (vs .1) (vs .2) (vs .3) (vs .4) (vs .5))) (Row.get 16 (T12 .locals) (m11 record { before = c .before; begin = c .begin; } (vs .0) (vs .1) (vs .2) (vs .3) (vs .4) (vs .5))) left; }; })))
+        lay1 = λ c. (((Row.get 2 (T11 .locals) (m9 (c .before) (After-begin·gave c)) .now, Row.get 3 (T11 .locals) (m9 (c .before) (After-begin·gave c)), Row.get 4 (T11 .locals) (m9 (c .before) (After-begin·gave c)), Row.get 5 (T11 .locals) (m9 (c .before) (After-begin·gave c)), Row.get 6 (T11 .locals) (m9 (c .before) (After-begin·gave c)), Row.get 7 (T11 .locals) (m9 (c .before) (After-begin·gave c))), Path'.refl {a = m9 (c .before) (After-begin·gave c)}, loop-holds record { before = c .before; begin = c .begin }), λ vs inv. (tt, (λ taken. lay2 record { before = record { before = record { before = c .before; begin = c .begin }; loop = record { kept = vs .0; t = vs .1; o = vs .2; w = vs .3; at = vs .4; number = vs .5; inv = inv } }; loop-test = record { taken = Tests.ltb-true (Row.get 6 (T12 .locals) (m11 record { before = c .before; begin = c .begin } (vs .0) (vs .1) (vs .2) (vs .3) (vs .4) (vs .5))) (Row.get 16 (T12 .locals) (m11 record { before = c .before; begin = c .begin } (vs .0) (vs .1) (vs .2) (vs .3) (vs .4) (vs .5))) taken } }, λ left. lay3 record { before = record { before = record { before = c .before; begin = c .begin }; loop = record { kept = vs .0; t = vs .1; o = vs .2; w = vs .3; at = vs .4; number = vs .5; inv = inv } }; loop-test = record { left = Tests.ltb-false (Row.get 6 (T12 .locals) (m11 record { before = c .before; begin = c .begin } (vs .0) (vs .1) (vs .2) (vs .3) (vs .4) (vs .5))) (Row.get 16 (T12 .locals) (m11 record { before = c .before; begin = c .begin } (vs .0) (vs .1) (vs .2) (vs .3) (vs .4) (vs .5))) left } })))
 
         pub laid : (c : Start) → at90 (W0 (c .κs) (c .args)) (m0 (c .κs) (c .args))
-        laid = λ c. λ g. (begin-requires record { before = c; shared-slice-known = record { given = g } }, λ g'. lay1 record { before = record { before = c; shared-slice-known = record { given = g } }; begin = Called.called ps·0 r·0 (claims· .1) T4 (record { pos = 15; st = List.[]; d = 0; at = λ x. x }, (Num.vLit 0, tt)) (m3 c g) g'; })
+        laid = λ c. λ g. (begin-requires record { before = c; shared-slice-known = record { given = g } }, λ g'. lay1 record { before = record { before = c; shared-slice-known = record { given = g } }; begin = Called.called ps·0 r·0 (claims· .1) T4 (record { pos = 15; st = List.[]; d = 0; at = λ x. x }, (Num.vLit 0, tt)) (m3 c g) g' })
 
         module _ (κs : Lifetimes.Lfts 2) (qs : Lifetimes.Shares 2) where
           pub asked : (a : Kinds.Dens κs ps) → (good : Kinds.GoodsP κs ps a) → (pre : Pre· κs a) → (bs : List.List Nat.ℕ) → Φ (Any.wantQ 2 ps r xs m κs qs a (Post· κs a)) (Function.init 2 ps r xs m κs qs a)
-          asked = λ a good pre bs. laid record { κs = κs; args = record { text = a .0; kept = a .1 .0 }; good = good; pre = pre; }
+          asked = λ a good pre bs. laid record { κs = κs; args = record { text = a .0; kept = a .1 .0 }; good = good; pre = pre }
 
         module _ {M : Type 1} (𝓤 : URA.URA M) (H : Wp.Heap 𝓤) (A : Atoms.Atoms 𝓤) (W : Kit.Given 𝓤 H A) (𝓣 : Wp.Tables 𝓤 H) (known0 : Plain.Known 𝓤 H A W 𝓣 0 ps·0 r·0 (claims· .0) (claims· .1) "parse::measure::begin") (known1 : Plain.Known 𝓤 H A W 𝓣 1 ps·1 r·1 (claims· .2) (claims· .3) "text::lines::line_at") (known2 : Plain.Known 𝓤 H A W 𝓣 1 ps·2 r·2 (claims· .4) (claims· .5) "roles::steps::step") (known3 : Plain.Known 𝓤 H A W 𝓣 1 ps·3 r·3 (claims· .6) (claims· .7) "kept::keep") (known4 : Plain.Known 𝓤 H A W 𝓣 1 ps·4 r·4 (claims· .8) (claims· .9) "parse::measure::say_on") (known5 : Plain.Known 𝓤 H A W 𝓣 0 ps·5 r·5 (claims· .10) (claims· .11) "parse::measure::enter") (known6 : Plain.Known 𝓤 H A W 𝓣 1 ps·6 r·6 (claims· .12) (claims· .13) "parse::measure::open_entry") (known7 : Plain.Known 𝓤 H A W 𝓣 0 ps·7 r·7 (claims· .14) (claims· .15) "roles::steps::same_place") (known8 : Plain.Known 𝓤 H A W 𝓣 0 ps·8 r·8 (claims· .16) (claims· .17) "parse::measure::close_on") where
           pub spec : Statement.Triple 𝓤 (Wp.WpFn 𝓤 H (𝓣 .C) (𝓣 .Λ) (Function.fnOf 2 ps r xs m hs body)) (Function.plainOf 𝓤 H A 2 ps r Pre· Post·)

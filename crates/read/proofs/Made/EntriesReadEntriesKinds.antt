@@ -2,6 +2,7 @@
 -- Assumes nothing.
 use Rattle.below.proofs.lines.Next
 use Rattle.below.proofs.lines.Next.Laws
+use Rattle.kept.proofs.Made.KeptElem
 use Rattle.slots.proofs.Made.EntryElem
 use Rattle.slots.proofs.Made.ExpectationElem
 use borrow.Fn.Kinds
@@ -19,8 +20,8 @@ use mathlib.Core.List as List
 use mathlib.Core.Path as Path'
 use mir.Syntax as Syntax
 
-abbrev pub ps : List.List (Kinds.PK 5)
-ps = List._∷_ (ShrSlice.pShrS (TReferent.rtF (TReferent.fInt Syntax.w8)) 0 tt) (List._∷_ (KValue.pVal record { ty = Declared.row Next.the-type; one = Path'.refl; val = Laws'.val Next.the-type Laws.the-laws; tells = Laws'.tells Next.the-type Laws.the-laws; still = Laws'.still Next.the-type Laws.the-copy Exit.yes; row = Rows.whole (Declared.row Next.the-type); rd = λ x. x; mk = λ x. x } λ M 𝓤 H A W. record { copies = Laws'.copy Next.the-type Laws.the-copy 𝓤 H A W; lawful = Laws'.lawful Next.the-type Laws.the-laws 𝓤 H A W tt; makes = Laws'.makes Next.the-type Laws.the-plain 𝓤 H A; in-mem = RLocal.mem-whole 𝓤 H A W (Declared.row Next.the-type); of-mem = RLocal.whole-mem 𝓤 H A W (Declared.row Next.the-type) }) (List._∷_ (MutSlice.pMutS EntryElem.R 1 tt) (List._∷_ (MutSlice.pMutS (DArray.Array (TReferent.rtF (TReferent.fInt Syntax.w64)) 2) 2 tt) (List._∷_ (Kinds.pNum Syntax.w64) (List._∷_ (MutSlice.pMutS ExpectationElem.R 3 tt) (List._∷_ (Kinds.pNum Syntax.w64) (List._∷_ (MutSlice.pMutS (TReferent.rtF (TReferent.fInt Syntax.w8)) 4 tt) List.[])))))))
+abbrev pub ps : List.List (Kinds.PK 6)
+ps = List._∷_ (ShrSlice.pShrS (TReferent.rtF (TReferent.fInt Syntax.w8)) 0 tt) (List._∷_ (ShrSlice.pShrS KeptElem.R 1 tt) (List._∷_ (KValue.pVal record { ty = Declared.row Next.the-type; one = Path'.refl; val = Laws'.val Next.the-type Laws.the-laws; tells = Laws'.tells Next.the-type Laws.the-laws; still = Laws'.still Next.the-type Laws.the-copy Exit.yes; row = Rows.whole (Declared.row Next.the-type); rd = λ x. x; mk = λ x. x } λ M 𝓤 H A W. record { copies = Laws'.copy Next.the-type Laws.the-copy 𝓤 H A W; lawful = Laws'.lawful Next.the-type Laws.the-laws 𝓤 H A W tt; makes = Laws'.makes Next.the-type Laws.the-plain 𝓤 H A; in-mem = RLocal.mem-whole 𝓤 H A W (Declared.row Next.the-type); of-mem = RLocal.whole-mem 𝓤 H A W (Declared.row Next.the-type) }) (List._∷_ (MutSlice.pMutS EntryElem.R 2 tt) (List._∷_ (MutSlice.pMutS (DArray.Array (TReferent.rtF (TReferent.fInt Syntax.w64)) 2) 3 tt) (List._∷_ (Kinds.pNum Syntax.w64) (List._∷_ (MutSlice.pMutS ExpectationElem.R 4 tt) (List._∷_ (Kinds.pNum Syntax.w64) (List._∷_ (MutSlice.pMutS (TReferent.rtF (TReferent.fInt Syntax.w8)) 5 tt) List.[]))))))))
 
-abbrev pub r : Kinds.RK 5
+abbrev pub r : Kinds.RK 6
 r = Kinds.rUnit

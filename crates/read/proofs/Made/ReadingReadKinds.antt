@@ -1,9 +1,9 @@
 -- The kinds of the parameters and of the result of `reading::read`. Made by tools/walk.py, from what Rattle makes for a twin in which the elements are arrays.
 -- Assumes nothing.
-use Rattle.slots.proofs.Made.EntryElem
-use Rattle.slots.proofs.Made.ExpectationElem
 use Rattle.read.proofs.reading.Answer
 use Rattle.read.proofs.reading.Answer.Laws
+use Rattle.slots.proofs.Made.EntryElem
+use Rattle.slots.proofs.Made.ExpectationElem
 use borrow.Fn.Kinds
 use borrow.Kind.MutSlice
 use borrow.Kind.ShrSlice

@@ -90,8 +90,7 @@ returns c =
     let L = K .before .before .before .before .before .before .loop in
     let text = K .before .before .before .before .before .before .before .before .before .args .text .now in
     let l = K .before .before .before .before .line-at .result in
-    let s = K .before .before .before .step .result in
-    (
+    let s = K .before .before .before .step .result in (
       walk-bad text (L .t) (L .o) (L .w) (L .at) (L .number) _ (L .inv .3 .walk) (search needs) l (search needs) s (search needs) _ (c .before .role3 .given .1),
       (
         kept-on text (L .kept) (L .w) (L .at) (L .number) (L .inv .4) (search needs) l (search needs) s (search needs) _ (K .before .keep .ensures),

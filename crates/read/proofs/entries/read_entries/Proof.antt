@@ -12,7 +12,7 @@ use Rattle.read.proofs.entries.read_entries.Statement.{statement}
 use Rattle.read.proofs.entries.read_entries.Proof.Tie as tie
 
 abbrev Inv-loop : tie.InvT-loop
-Inv-loop text entries₀ items₀ front expectations₀ early store₀ next₀ n₀ i₀ x₀ b₀ entries items expectations store next n i x b =
+Inv-loop text kept entries₀ items₀ front expectations₀ early store₀ next₀ n₀ i₀ x₀ b₀ entries items expectations store next n i x b =
     (length text ≤ 0x8000)
     × NextIn text 0 next
     × (length (entriesAhead text next₀ front early .entries) ≤ 0x8000)
@@ -21,12 +21,12 @@ Inv-loop text entries₀ items₀ front expectations₀ early store₀ next₀ n
     × Gone text front early entries₀ items₀ expectations₀ store₀ (entriesAhead text next₀ front early) next entries items expectations store n i x b
 
 abbrev μ-loop : tie.MeasureT-loop
-μ-loop text entries₀ items₀ front expectations₀ early store₀ next₀ n₀ i₀ x₀ b₀ entries items expectations store next n i x b = leftIn text next
+μ-loop text kept entries₀ items₀ front expectations₀ early store₀ next₀ n₀ i₀ x₀ b₀ entries items expectations store next n i x b = leftIn text next
 
 loop-holds : tie.Need-loop-holds Inv-loop μ-loop
 loop-holds c =
     let S = c .before .before in
-    (search needs, search needs, search needs, search needs, search needs, gone-first _ _ _ _ _ _ _ _ (S .pre .1 .1 .0) (S .pre .1 .1 .1 .1 .0) (S .pre .1 .1 .1 .1 .1 .1 .0) (S .pre .1 .1 .1 .1 .1 .1 .1 .1))
+    (search needs, search needs, search needs, search needs, search needs, gone-first _ _ _ _ _ _ _ _ (S .pre .1 .1 .1 .0) (S .pre .1 .1 .1 .1 .1 .0) (S .pre .1 .1 .1 .1 .1 .1 .1 .0) (S .pre .1 .1 .1 .1 .1 .1 .1 .1 .1))
 
 enum-known-next : tie.Need-enum-known-next Inv-loop μ-loop
 enum-known-next c = search needs
@@ -83,7 +83,7 @@ read-entry-requires c κs =
     let G = L .inv .5 in
     let N = c .before .before .before .before .before .next .given .1 in
     let i = next-in text (L .next) _ N (L .inv .1) in
-    (search needs, (i .0, (i .1, (i .2, (table-room text _ _ _ _ _ _ _ (L .next) (L .entries) (L .items) (L .expectations) (L .store) (L .n) (L .i) (L .x) (L .b) G _ N, (items-room text _ _ _ _ _ _ _ (L .next) (L .entries) (L .items) (L .expectations) (L .store) (L .n) (L .i) (L .x) (L .b) G _ N, (items-fit text _ _ _ _ _ _ _ (L .next) (L .entries) (L .items) (L .expectations) (L .store) (L .n) (L .i) (L .x) (L .b) G _ N 0x8000 (L .inv .3), (expectations-room text _ _ _ _ _ _ _ (L .next) (L .entries) (L .items) (L .expectations) (L .store) (L .n) (L .i) (L .x) (L .b) G _ N, (expectations-fit text _ _ _ _ _ _ _ (L .next) (L .entries) (L .items) (L .expectations) (L .store) (L .n) (L .i) (L .x) (L .b) G _ N 0x8000 (L .inv .4), store-room text _ _ _ _ _ _ _ (L .next) (L .entries) (L .items) (L .expectations) (L .store) (L .n) (L .i) (L .x) (L .b) G _ N)))))))))
+    (search needs, (search needs, (i .0, (i .1, (i .2, (table-room text _ _ _ _ _ _ _ (L .next) (L .entries) (L .items) (L .expectations) (L .store) (L .n) (L .i) (L .x) (L .b) G _ N, (items-room text _ _ _ _ _ _ _ (L .next) (L .entries) (L .items) (L .expectations) (L .store) (L .n) (L .i) (L .x) (L .b) G _ N, (items-fit text _ _ _ _ _ _ _ (L .next) (L .entries) (L .items) (L .expectations) (L .store) (L .n) (L .i) (L .x) (L .b) G _ N 0x8000 (L .inv .3), (expectations-room text _ _ _ _ _ _ _ (L .next) (L .entries) (L .items) (L .expectations) (L .store) (L .n) (L .i) (L .x) (L .b) G _ N, (expectations-fit text _ _ _ _ _ _ _ (L .next) (L .entries) (L .items) (L .expectations) (L .store) (L .n) (L .i) (L .x) (L .b) G _ N 0x8000 (L .inv .4), store-room text _ _ _ _ _ _ _ (L .next) (L .entries) (L .items) (L .expectations) (L .store) (L .n) (L .i) (L .x) (L .b) G _ N))))))))))
 
 add-n : tie.Need-add-n Inv-loop μ-loop
 add-n c =
@@ -123,7 +123,7 @@ add-b c =
     let G = L .inv .5 in
     let N = c .before .before .before .before .before .before .before .before .before .before .before .before .before .before .next .given .1 in
     let R = c .before .before .before .before .before .before .before .before .read-entry in
-    search (needs, R .ensures .1 .1 .0, store-room text _ _ _ _ _ _ _ (L .next) (L .entries) (L .items) (L .expectations) (L .store) (L .n) (L .i) (L .x) (L .b) G _ N, gone-store text _ _ _ _ _ _ _ (L .next) (L .entries) (L .items) (L .expectations) (L .store) (L .n) (L .i) (L .x) (L .b) G, S .good .1 .1 .1 .1 .1 .1 .1 .0)
+    search (needs, R .ensures .1 .1 .0, store-room text _ _ _ _ _ _ _ (L .next) (L .entries) (L .items) (L .expectations) (L .store) (L .n) (L .i) (L .x) (L .b) G _ N, gone-store text _ _ _ _ _ _ _ (L .next) (L .entries) (L .items) (L .expectations) (L .store) (L .n) (L .i) (L .x) (L .b) G, S .good .1 .1 .1 .1 .1 .1 .1 .1 .0)
 
 loop-less : tie.Need-loop-less Inv-loop μ-loop
 loop-less c =

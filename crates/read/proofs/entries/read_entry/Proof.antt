@@ -41,10 +41,13 @@ read-lines-requires c κs =
             (
               search needs,
               (
-                lines-room text a i x b (T .result) (T .ensures) _ (search needs),
+                search needs,
                 (
-                  search needs,
-                  (lines-room text a i x b (T .result) (T .ensures) _ (search needs), search needs),
+                  lines-room text a i x b (T .result) (T .ensures) _ (search needs),
+                  (
+                    search needs,
+                    (lines-room text a i x b (T .result) (T .ensures) _ (search needs), search needs),
+                  ),
                 ),
               ),
             ),
@@ -71,7 +74,7 @@ put-values-requires c κs =
     let T = c .before .before .before .before .before .before .before .before .before .before .before .takes-pairs in
     let R = c .before .before .before .before .before .before .before .before .read-lines in
     let U = R .ensures .1 .1 .1 .1 .1 .1 in
-    (search needs, (said-in text a i x b (T .result) (T .ensures) _ _ U (search needs), (set-room text a i x b (T .result) (T .ensures) _ _ U (R .result .pairs) (R .ensures .0) _ (search needs), stored-room text a i x b (T .result) (T .ensures) _ _ U (R .result .pairs) (R .ensures .0) _ (S .pre .1 .1 .1 .1 .1 .1 .1 .1 .1))))
+    (search needs, (said-in text a i x b (T .result) (T .ensures) _ _ U (search needs), (set-room text a i x b (T .result) (T .ensures) _ _ U (R .result .pairs) (R .ensures .0) _ (search needs), stored-room text a i x b (T .result) (T .ensures) _ _ U (R .result .pairs) (R .ensures .0) _ (S .pre .1 .1 .1 .1 .1 .1 .1 .1 .1 .1))))
 
 slice-aggregate-entry-of : tie.Need-slice-aggregate-entry-of
 slice-aggregate-entry-of c = search needs
@@ -92,11 +95,11 @@ entry-of-requires c κs =
     let R = c .before .before .before .before .before .before .before .before .before .before .before .before .before .before .read-lines in
     let U = R .ensures .1 .1 .1 .1 .1 .1 in
     let P = c .before .before .before .before .before .put-values in
-    (search needs, (said-in text a i x b (T .result) (T .ensures) _ _ U (search needs), entry-fits text a i x b (T .result) (T .ensures) _ _ U (R .result .pairs) (R .ensures .0) (P .result) (P .ensures .0) (length (S .args .store .now)) _ (S .pre .1 .1 .1 .1 .1 .1 .1 .1 .1) (search (needs, S .good .1 .1 .1 .1 .1 .1 .1 .1 .0))))
+    (search needs, (said-in text a i x b (T .result) (T .ensures) _ _ U (search needs), entry-fits text a i x b (T .result) (T .ensures) _ _ U (R .result .pairs) (R .ensures .0) (P .result) (P .ensures .0) (length (S .args .store .now)) _ (S .pre .1 .1 .1 .1 .1 .1 .1 .1 .1 .1) (search (needs, S .good .1 .1 .1 .1 .1 .1 .1 .1 .1 .0))))
 
 put-entry-requires : tie.Need-put-entry-requires
 unfolding entryAt entryOf
-put-entry-requires c κs = c .before .before .before .before .before .before .before .before .before .before .before .before .before .before .before .before .before .before .before .before .before .before .before .before .before .before .pre .1 .1 .1 .1 .0
+put-entry-requires c κs = c .before .before .before .before .before .before .before .before .before .before .before .before .before .before .before .before .before .before .before .before .before .before .before .before .before .before .pre .1 .1 .1 .1 .1 .0
 
 advanced-requires : tie.Need-advanced-requires
 unfolding entryAt entryOf
@@ -111,7 +114,7 @@ advanced-requires c κs =
     let R = c .before .before .before .before .before .before .before .before .before .before .before .before .before .before .before .before .before .before .read-lines in
     let U = R .ensures .1 .1 .1 .1 .1 .1 in
     let P = c .before .before .before .before .before .before .before .before .before .put-values in
-    advanced-fits text a i x b (T .result) (T .ensures) _ _ U (R .result .pairs) (R .ensures .0) (P .result) (P .ensures .0) (length (S .args .store .now)) _ (S .pre .1 .1 .1 .1 .1 .1 .1 .1 .1) (search (needs, S .good .1 .1 .1 .1 .1 .1 .1 .1 .0))
+    advanced-fits text a i x b (T .result) (T .ensures) _ _ U (R .result .pairs) (R .ensures .0) (P .result) (P .ensures .0) (length (S .args .store .now)) _ (S .pre .1 .1 .1 .1 .1 .1 .1 .1 .1 .1) (search (needs, S .good .1 .1 .1 .1 .1 .1 .1 .1 .1 .0))
 
 same-length : tie.Need-same-length
 same-length c = search needs
@@ -129,7 +132,7 @@ same-length-2 c =
     let R = c .before .before .before .before .before .before .before .before .before .before .before .before .before .before .before .before .before .before .before .read-lines in
     let U = R .ensures .1 .1 .1 .1 .1 .1 in
     let P = c .before .before .before .before .before .before .before .before .before .before .put-values in
-    let k = items-same text a i x b (T .result) (T .ensures) _ _ U (R .result .pairs) (R .ensures .0) _ _ _ (S .pre .1 .1 .1 .1 .1 .0) (R .ensures .1 .1 .1 .1 .0) (P .ensures .1 .0) in
+    let k = items-same text a i x b (T .result) (T .ensures) _ _ U (R .result .pairs) (R .ensures .0) _ _ _ (S .pre .1 .1 .1 .1 .1 .1 .0) (R .ensures .1 .1 .1 .1 .0) (P .ensures .1 .0) in
     k
 
 same-length-3 : tie.Need-same-length-3
@@ -145,7 +148,7 @@ same-length-3 c =
     let R = c .before .before .before .before .before .before .before .before .before .before .before .before .before .before .before .before .before .before .before .read-lines in
     let U = R .ensures .1 .1 .1 .1 .1 .1 in
     let P = c .before .before .before .before .before .before .before .before .before .before .put-values in
-    kept _ _ _ _ (R .ensures .1 .1 .1 .1 .1 .0) (S .pre .1 .1 .1 .1 .1 .1 .1 .0)
+    kept _ _ _ _ (R .ensures .1 .1 .1 .1 .1 .0) (S .pre .1 .1 .1 .1 .1 .1 .1 .1 .0)
 
 same-length-4 : tie.Need-same-length-4
 same-length-4 c = search needs
@@ -178,7 +181,7 @@ returns c =
               (
                 entry-stored (S .args .entries .now) _ (S .args .n) (E .result) _ (Q .ensures) (entry-laid text a i x b (T .result) (T .ensures) _ _ U (R .result .pairs) (R .ensures .0) (P .result) (P .ensures .0) (R .result .expects) (E .result) (R .ensures .1 .0) (E .ensures)),
                 (
-                  items-written text a i x b (T .result) (T .ensures) _ _ U (R .result .pairs) (R .ensures .0) (S .args .items .now) _ _ (S .pre .1 .1 .1 .1 .1 .0) (R .ensures .1 .1 .1 .1 .0) (P .ensures .1 .0),
+                  items-written text a i x b (T .result) (T .ensures) _ _ U (R .result .pairs) (R .ensures .0) (S .args .items .now) _ _ (S .pre .1 .1 .1 .1 .1 .1 .0) (R .ensures .1 .1 .1 .1 .0) (P .ensures .1 .0),
                   (
                     R .ensures .1 .1 .1 .1 .1 .0,
                     store-written text a i x b (T .result) (T .ensures) _ _ U (S .args .store .now) _ (P .ensures .1 .1),

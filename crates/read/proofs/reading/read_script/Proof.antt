@@ -17,7 +17,7 @@ read-lines-requires : tie.Need-read-lines-requires
 read-lines-requires c κs =
     let S = c .before .before .before .before .before .before in
     let text = S .args .text .now in
-    (search needs, (search needs, (search needs, (search needs, (search needs, (pairs-room text _, (early-room text _ (S .pre .1 .1 .1 .1 .1 .1 .0), (pairs-room text _, early-room text _ (S .pre .1 .1 .1 .1 .1 .1 .1 .0)))))))))
+    (search needs, (search needs, (search needs, (search needs, (search needs, (search needs, (pairs-room text _, (early-room text _ (S .pre .1 .1 .1 .1 .1 .1 .1 .0), (pairs-room text _, early-room text _ (S .pre .1 .1 .1 .1 .1 .1 .1 .1 .0))))))))))
 
 slice-aggregate-put-front : tie.Need-slice-aggregate-put-front
 slice-aggregate-put-front c = search needs
@@ -31,7 +31,7 @@ put-front-requires c κs =
     let text = S .args .text .now in
     let R = c .before .before .before .before .before .before .before .read-lines in
     let U = R .ensures .1 .1 .1 .1 .1 .1 in
-    (said-in text _ _ U, front-room text _ _ U _ (search (needs, S .pre .1 .1 .1 .1 .0, kept _ _ _ _ (R .ensures .1 .1 .1 .1 .0) (pairs-room text _))))
+    (said-in text _ _ U, front-room text _ _ U _ (search (needs, S .pre .1 .1 .1 .1 .1 .0, kept _ _ _ _ (R .ensures .1 .1 .1 .1 .0) (pairs-room text _))))
 
 slice-aggregate-preamble-of : tie.Need-slice-aggregate-preamble-of
 slice-aggregate-preamble-of c = search needs
@@ -55,7 +55,7 @@ add-front c =
     let R = c .before .before .before .before .before .before .before .before .before .before .before .before .before .read-lines in
     let U = R .ensures .1 .1 .1 .1 .1 .1 in
     let F = c .before .before .before .before .before .put-front in
-    search (needs, front-fits text _ _ U (F .result .features) (F .result .server) (F .ensures .0) (F .ensures .1 .0) 0x8000 (S .pre .1 .1 .1 .1 .1 .0))
+    search (needs, front-fits text _ _ U (F .result .features) (F .result .server) (F .ensures .0) (F .ensures .1 .0) 0x8000 (S .pre .1 .1 .1 .1 .1 .1 .0))
 
 read-entries-requires : tie.Need-read-entries-requires
 read-entries-requires c κs =
@@ -66,16 +66,19 @@ read-entries-requires c κs =
     let F = c .before .before .before .before .before .before .before .before .before .put-front in (
       search needs,
       (
-        R .ensures .1 .1 .1 .0,
+        search needs,
         (
-          entries-room text _ _ U (F .result .features) (F .result .server) (F .ensures .0) (F .ensures .1 .0) (R .result .expects) (R .ensures .1 .0) (R .result .next) (R .ensures .1 .1 .0) _ (S .pre .1 .1 .0),
+          R .ensures .1 .1 .1 .0,
           (
             entries-room text _ _ U (F .result .features) (F .result .server) (F .ensures .0) (F .ensures .1 .0) (R .result .expects) (R .ensures .1 .0) (R .result .next) (R .ensures .1 .1 .0) _ (S .pre .1 .1 .1 .0),
             (
-              items-room text _ _ U (F .result .features) (F .result .server) (F .ensures .0) (F .ensures .1 .0) (R .result .expects) (R .ensures .1 .0) (R .result .next) (R .ensures .1 .1 .0) _ (search (needs, S .pre .1 .1 .1 .1 .0, kept _ _ _ _ (R .ensures .1 .1 .1 .1 .0) (pairs-room text _), F)),
+              entries-room text _ _ U (F .result .features) (F .result .server) (F .ensures .0) (F .ensures .1 .0) (R .result .expects) (R .ensures .1 .0) (R .result .next) (R .ensures .1 .1 .0) _ (S .pre .1 .1 .1 .1 .0),
               (
-                items-room text _ _ U (F .result .features) (F .result .server) (F .ensures .0) (F .ensures .1 .0) (R .result .expects) (R .ensures .1 .0) (R .result .next) (R .ensures .1 .1 .0) _ (S .pre .1 .1 .1 .1 .1 .0),
-                (expectations-room text _ _ U (F .result .features) (F .result .server) (F .ensures .0) (F .ensures .1 .0) (R .result .expects) (R .ensures .1 .0) (R .result .next) (R .ensures .1 .1 .0) _ (search (needs, S .pre .1 .1 .1 .1 .1 .1 .0, kept _ _ _ _ (R .ensures .1 .1 .1 .1 .1 .0) (early-room text _ (S .pre .1 .1 .1 .1 .1 .1 .0)))), (expectations-room text _ _ U (F .result .features) (F .result .server) (F .ensures .0) (F .ensures .1 .0) (R .result .expects) (R .ensures .1 .0) (R .result .next) (R .ensures .1 .1 .0) _ (S .pre .1 .1 .1 .1 .1 .1 .1 .0), store-room text _ _ U (F .result .features) (F .result .server) (F .ensures .0) (F .ensures .1 .0) (R .result .expects) (R .ensures .1 .0) (R .result .next) (R .ensures .1 .1 .0) _ (S .pre .1 .1 .1 .1 .1 .1 .1 .1))),
+                items-room text _ _ U (F .result .features) (F .result .server) (F .ensures .0) (F .ensures .1 .0) (R .result .expects) (R .ensures .1 .0) (R .result .next) (R .ensures .1 .1 .0) _ (search (needs, S .pre .1 .1 .1 .1 .1 .0, kept _ _ _ _ (R .ensures .1 .1 .1 .1 .0) (pairs-room text _), F)),
+                (
+                  items-room text _ _ U (F .result .features) (F .result .server) (F .ensures .0) (F .ensures .1 .0) (R .result .expects) (R .ensures .1 .0) (R .result .next) (R .ensures .1 .1 .0) _ (S .pre .1 .1 .1 .1 .1 .1 .0),
+                  (expectations-room text _ _ U (F .result .features) (F .result .server) (F .ensures .0) (F .ensures .1 .0) (R .result .expects) (R .ensures .1 .0) (R .result .next) (R .ensures .1 .1 .0) _ (search (needs, S .pre .1 .1 .1 .1 .1 .1 .1 .0, kept _ _ _ _ (R .ensures .1 .1 .1 .1 .1 .0) (early-room text _ (S .pre .1 .1 .1 .1 .1 .1 .1 .0)))), (expectations-room text _ _ U (F .result .features) (F .result .server) (F .ensures .0) (F .ensures .1 .0) (R .result .expects) (R .ensures .1 .0) (R .result .next) (R .ensures .1 .1 .0) _ (S .pre .1 .1 .1 .1 .1 .1 .1 .1 .0), store-room text _ _ U (F .result .features) (F .result .server) (F .ensures .0) (F .ensures .1 .0) (R .result .expects) (R .ensures .1 .0) (R .result .next) (R .ensures .1 .1 .0) _ (S .pre .1 .1 .1 .1 .1 .1 .1 .1 .1))),
+                ),
               ),
             ),
           ),
@@ -94,7 +97,7 @@ same-length c =
     let U = R .ensures .1 .1 .1 .1 .1 .1 in
     let F = c .before .before .before .before .before .before .before .before .before .before .before .before .before .before .before .before .put-front in
     let Q = c .before .before .before .before .before .before .read-entries in
-    written-kept _ _ _ (entries-written text _ _ U (F .result .features) (F .result .server) (F .ensures .0) (F .ensures .1 .0) (R .result .expects) (R .ensures .1 .0) (R .result .next) (R .ensures .1 .1 .0) _ _ (Q .ensures .0)) (S .pre .1 .1 .0)
+    written-kept _ _ _ (entries-written text _ _ U (F .result .features) (F .result .server) (F .ensures .0) (F .ensures .1 .0) (R .result .expects) (R .ensures .1 .0) (R .result .next) (R .ensures .1 .1 .0) _ _ (Q .ensures .0)) (S .pre .1 .1 .1 .0)
 
 same-length-2 : tie.Need-same-length-2
 same-length-2 c =
@@ -104,7 +107,7 @@ same-length-2 c =
     let U = R .ensures .1 .1 .1 .1 .1 .1 in
     let F = c .before .before .before .before .before .before .before .before .before .before .before .before .before .before .before .before .put-front in
     let Q = c .before .before .before .before .before .before .read-entries in
-    places-kept (readingOf text .tables .items) _ _ (items-written text _ _ U (F .result .features) (F .result .server) (F .ensures .0) (F .ensures .1 .0) (R .result .expects) (R .ensures .1 .0) (R .result .next) (R .ensures .1 .1 .0) _ _ _ _ (S .pre .1 .1 .1 .1 .0) (R .ensures .1 .1 .1 .1 .0) (F .ensures .1 .1) (Q .ensures .1 .0)) (S .pre .1 .1 .1 .1 .0)
+    places-kept (readingOf text .tables .items) _ _ (items-written text _ _ U (F .result .features) (F .result .server) (F .ensures .0) (F .ensures .1 .0) (R .result .expects) (R .ensures .1 .0) (R .result .next) (R .ensures .1 .1 .0) _ _ _ _ (S .pre .1 .1 .1 .1 .1 .0) (R .ensures .1 .1 .1 .1 .0) (F .ensures .1 .1) (Q .ensures .1 .0)) (S .pre .1 .1 .1 .1 .1 .0)
 
 same-length-3 : tie.Need-same-length-3
 same-length-3 c =
@@ -114,7 +117,7 @@ same-length-3 c =
     let U = R .ensures .1 .1 .1 .1 .1 .1 in
     let F = c .before .before .before .before .before .before .before .before .before .before .before .before .before .before .before .before .put-front in
     let Q = c .before .before .before .before .before .before .read-entries in
-    written-kept _ _ _ (expectations-written text _ _ U (F .result .features) (F .result .server) (F .ensures .0) (F .ensures .1 .0) (R .result .expects) (R .ensures .1 .0) (R .result .next) (R .ensures .1 .1 .0) _ _ _ (S .pre .1 .1 .1 .1 .1 .1 .0) (R .ensures .1 .1 .1 .1 .1 .0) (Q .ensures .1 .1 .0)) (S .pre .1 .1 .1 .1 .1 .1 .0)
+    written-kept _ _ _ (expectations-written text _ _ U (F .result .features) (F .result .server) (F .ensures .0) (F .ensures .1 .0) (R .result .expects) (R .ensures .1 .0) (R .result .next) (R .ensures .1 .1 .0) _ _ _ (S .pre .1 .1 .1 .1 .1 .1 .1 .0) (R .ensures .1 .1 .1 .1 .1 .0) (Q .ensures .1 .1 .0)) (S .pre .1 .1 .1 .1 .1 .1 .1 .0)
 
 same-length-4 : tie.Need-same-length-4
 same-length-4 c =
@@ -124,7 +127,7 @@ same-length-4 c =
     let U = R .ensures .1 .1 .1 .1 .1 .1 in
     let F = c .before .before .before .before .before .before .before .before .before .before .before .before .before .before .before .before .put-front in
     let Q = c .before .before .before .before .before .before .read-entries in
-    written-kept _ _ _ (store-written text _ _ U (F .result .features) (F .result .server) (F .ensures .0) (F .ensures .1 .0) (R .result .expects) (R .ensures .1 .0) (R .result .next) (R .ensures .1 .1 .0) _ _ (Q .ensures .1 .1 .1)) (S .pre .1 .1 .1 .1 .1 .1 .1 .1)
+    written-kept _ _ _ (store-written text _ _ U (F .result .features) (F .result .server) (F .ensures .0) (F .ensures .1 .0) (R .result .expects) (R .ensures .1 .0) (R .result .next) (R .ensures .1 .1 .0) _ _ (Q .ensures .1 .1 .1)) (S .pre .1 .1 .1 .1 .1 .1 .1 .1 .1)
 
 returns : tie.Need-returns
 returns c =
@@ -135,13 +138,13 @@ returns c =
     let F = c .before .before .before .before .before .before .before .before .before .before .before .before .before .before .before .before .put-front in
     let Q = c .before .before .before .before .before .before .read-entries in
     let P = c .before .before .before .before .before .before .before .before .before .before .before .before .preamble-of in (
-      script-laid text _ (S .args .counts) (c .script-of .result) (preamble-laid text _ _ U (F .result .features) (F .result .server) (F .ensures .0) (F .ensures .1 .0) (R .result .expects) (R .ensures .1 .0) (P .result) (P .ensures)) (S .pre .1 .0) (c .script-of .ensures),
+      script-laid text _ (S .args .counts) (c .script-of .result) (preamble-laid text _ _ U (F .result .features) (F .result .server) (F .ensures .0) (F .ensures .1 .0) (R .result .expects) (R .ensures .1 .0) (P .result) (P .ensures)) (S .pre .1 .1 .0) (c .script-of .ensures),
       (
         entries-written text _ _ U (F .result .features) (F .result .server) (F .ensures .0) (F .ensures .1 .0) (R .result .expects) (R .ensures .1 .0) (R .result .next) (R .ensures .1 .1 .0) _ _ (Q .ensures .0),
         (
-          items-written text _ _ U (F .result .features) (F .result .server) (F .ensures .0) (F .ensures .1 .0) (R .result .expects) (R .ensures .1 .0) (R .result .next) (R .ensures .1 .1 .0) _ _ _ _ (S .pre .1 .1 .1 .1 .0) (R .ensures .1 .1 .1 .1 .0) (F .ensures .1 .1) (Q .ensures .1 .0),
+          items-written text _ _ U (F .result .features) (F .result .server) (F .ensures .0) (F .ensures .1 .0) (R .result .expects) (R .ensures .1 .0) (R .result .next) (R .ensures .1 .1 .0) _ _ _ _ (S .pre .1 .1 .1 .1 .1 .0) (R .ensures .1 .1 .1 .1 .0) (F .ensures .1 .1) (Q .ensures .1 .0),
           (
-            expectations-written text _ _ U (F .result .features) (F .result .server) (F .ensures .0) (F .ensures .1 .0) (R .result .expects) (R .ensures .1 .0) (R .result .next) (R .ensures .1 .1 .0) _ _ _ (S .pre .1 .1 .1 .1 .1 .1 .0) (R .ensures .1 .1 .1 .1 .1 .0) (Q .ensures .1 .1 .0),
+            expectations-written text _ _ U (F .result .features) (F .result .server) (F .ensures .0) (F .ensures .1 .0) (R .result .expects) (R .ensures .1 .0) (R .result .next) (R .ensures .1 .1 .0) _ _ _ (S .pre .1 .1 .1 .1 .1 .1 .1 .0) (R .ensures .1 .1 .1 .1 .1 .0) (Q .ensures .1 .1 .0),
             store-written text _ _ U (F .result .features) (F .result .server) (F .ensures .0) (F .ensures .1 .0) (R .result .expects) (R .ensures .1 .0) (R .result .next) (R .ensures .1 .1 .0) _ _ (Q .ensures .1 .1 .1),
           ),
         ),
