@@ -7,7 +7,7 @@ ghost use mathlib.Core.List.{List};
 ghost use Rattle.text.specs.Parts.{sameBytes};
 ghost use Rattle.verdicts.specs.Decisions.{passedIf, decides};
 ghost use Rattle.verdicts.specs.Lookup.{lookedIn, toldIn};
-ghost use Rattle.joined.specs.Pieces.{listText};
+ghost use Rattle.joined.specs.Lists.{listText};
 ghost use Rattle.verdicts.specs.Verdicts.{valued, verdict};
 ghost use Rattle.verdicts.specs.Told.{greeting, reply};
 ghost use Rattle.verdicts.specs.Held.{textAt, textsIn, matchingOf, expectedOf, responseOf, infoOf, ranged};

@@ -3,7 +3,7 @@ use borrow.Author.Needs.{needs}
 use mathlib.Core.Path.{sym, ap, _∙_}
 use Rattle.text.specs.Unicode.{encoded}
 use Rattle.text.specs.Literal.{utf8}
-use Rattle.joined.specs.Pieces.{listText}
+use Rattle.joined.specs.Lists.{listText}
 use Rattle.verdicts.specs.Decisions.{decides}
 use Rattle.verdicts.specs.Verdicts.{valued}
 use Rattle.verdicts.specs.Held.{matchingOf}
