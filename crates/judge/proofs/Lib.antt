@@ -1,0 +1,5 @@
+pub mod Counting
+pub mod Orders
+pub mod Lines
+pub mod History
+pub mod Ours

@@ -1,0 +1,155 @@
+-- Document 01, Judge and Close: what they answer and what they leave, over the records of a script. The contracts cite these. Assumes nothing.
+use Prim.Native.Nat.{ℕ, _+_, _-_, min}
+use mathlib.Core.Bool.{Bool, true, false, not}
+use mathlib.Core.List.{List, [], _∷_, map}
+use mathlib.Core.Option.{Option, none, some}
+use lib.ListN.{length, getD}
+use lib.Dec.{ltb, eqb}
+use Rattle.text.specs.Base.{_&_, _or_, overlaid}
+use Rattle.script.specs.Reading.{room}
+use Rattle.script.specs.declared.records.Items.{Items}
+use Rattle.script.specs.declared.records.Entry.{Entry}
+use Rattle.script.specs.declared.records.Expectation.{Expectation}
+use Rattle.script.specs.declared.records.Refusal.{Refusal}
+use Rattle.script.specs.declared.records.Script.{Script}
+use Rattle.verdicts.specs.Expected.{Expected}
+use Rattle.verdicts.specs.Told.{Subject}
+use Rattle.verdicts.specs.Lookup.{looked}
+use Rattle.verdicts.specs.Verdicts.{verdict, code}
+use Rattle.verdicts.specs.Held.{expectedOf, ranged, inside, expectIn}
+use Rattle.verdicts.specs.declared.Verdict.{Verdict}
+use Rattle.tables.specs.Written.{writtenAt}
+use Rattle.slots.specs.Blank.{blankEntry}
+use Rattle.judge.specs.declared.tally.Tally.{Tally}
+use Rattle.judge.specs.declared.calls.Handed.{Handed}
+use Rattle.judge.specs.declared.calls.Handed.the-variants.{Info, Response}
+use Rattle.judge.specs.declared.calls.Answer.{Answer}
+use Rattle.judge.specs.Tally.{freshTally, addedAll, outcomeOf, overLimit}
+use Rattle.judge.specs.Calls.{Judging, Call, judge, close, subjectOf, wrongNumber, partOutside, tooLong, refusedIf, firstRefusal, judgedOr, closedOr}
+
+-- a script as it is kept: its text, its record, and the tables of entries and of expectations
+pub record Kept : Type 0 where
+  pub text : List ℕ
+  pub script : Script
+  pub entries : List Entry
+  pub expectations : List Expectation
+
+-- what the calls change: the tally, and the list of verdicts, which are bytes
+pub record JudgeState : Type 0 where
+  pub tally : Tally
+  pub verdicts : List ℕ
+
+-- where every list of calls begins
+abbrev pub judgeStart : (verdicts : List ℕ) → JudgeState
+judgeStart verdicts = record { tally = freshTally; verdicts = verdicts }
+
+-- ---- what is judged
+
+module _ (text : List ℕ) where
+  -- every part of the expectations lies inside the text
+  unfoldable pub allIn : List Expectation → Bool
+  allIn [] = true
+  allIn (e ∷ es) = expectIn (length text) (e .expect) & allIn es
+
+  -- what expectations say
+  unfoldable pub saying : List Expectation → List Expected
+  saying es = map (λ e. expectedOf text (e .expect)) es
+
+module _ (k : Kept) where
+  -- the range to be judged: the handshake's expectations, or those of the entry
+  unfoldable pub rangeFor : (number : ℕ) → Handed → Items
+  rangeFor number (Info i) = k .script .preamble .expects
+  rangeFor number (Response r) = getD (k .entries) (number - 1) blankEntry .expects
+
+  -- the expectations of a range
+  unfoldable pub recordsIn : Items → List Expectation
+  recordsIn r = ranged (k .expectations) r
+
+  unfoldable pub saidBy : Items → List Expected
+  saidBy r = saying (k .text) (recordsIn r)
+
+  -- ---- the refusals
+
+  -- 33: past the script's count of entries or the table's
+  unfoldable pub pastEntries : (number : ℕ) → Bool
+  pastEntries number = ltb (k .script .counts .entries) number or ltb (room (length (k .entries))) number
+
+  -- 31: an expectation to be judged outside the table or the script's count of expectations; where the range is empty there is none
+  unfoldable pub rangeOutside : Items → Bool
+  rangeOutside r = not (eqb (r .count) 0) & not (inside (min (k .script .counts .expectations) (room (length (k .expectations)))) (r .first) (r .count))
+
+  -- or part of it outside the text
+  unfoldable pub outOfReach : Items → Bool
+  outOfReach r = rangeOutside r or not (allIn (k .text) (recordsIn r))
+
+  -- 35: fewer verdict slots than the script's expectations
+  unfoldable pub fewSlots : (places : ℕ) → Bool
+  fewSlots places = ltb (room places) (k .script .counts .expectations)
+
+  -- of a range against a subject, in the order of document 01: 31, 32, 35, 34
+  unfoldable pub rangeRefusals : Items → (places : ℕ) → Judging → List (Option Refusal)
+  rangeRefusals r places j =
+      refusedIf 31 (outOfReach r)
+      ∷ refusedIf 32 (partOutside j)
+      ∷ refusedIf 35 (fewSlots places)
+      ∷ refusedIf 34 (tooLong (j .scratch) (map (looked (subjectOf j)) (saidBy r)))
+      ∷ []
+
+  -- the first refusal of a judging: 36 and 33 come before those
+  unfoldable pub judgeRefusal : Tally → (places : ℕ) → Judging → Option Refusal
+  judgeRefusal t places j =
+      firstRefusal
+      (refusedIf 36 (overLimit (t .counts))
+      ∷ refusedIf 33 (wrongNumber (t .next) (j .number) (pastEntries (j .number)) (j .handed))
+      ∷ rangeRefusals (rangeFor (j .number) (j .handed)) places j)
+
+  -- ---- a judging that is not refused
+
+  -- A range judged by a verdict function: each verdict is counted and lands at its expectation's place, other slots untouched; the next number goes up by 1.
+  unfoldable pub judgedBy : (Expected → Verdict) → Items → JudgeState → JudgeState
+  judgedBy f r s =
+      let verdicts = map f (saidBy r) in
+      record {
+        tally = record { next = s .tally .next + 1; counts = addedAll verdicts (s .tally .counts) };
+        verdicts = writtenAt (r .first) (map code verdicts) (s .verdicts);
+      }
+
+  -- Judge: its answer, and what it leaves
+  unfoldable pub judged : JudgeState → Judging → Answer × JudgeState
+  judged s j =
+      judgedOr
+      (judgeRefusal (s .tally) (length (s .verdicts)) j)
+      s
+      (judgedBy (verdict (subjectOf j)) (rangeFor (j .number) (j .handed)) s)
+
+  -- ---- the scratch
+
+  -- Present values are written at the start of the scratch, each over the last.
+  unfoldable pub overwritten : (values : List (Option (List ℕ))) → (scratch : List ℕ) → List ℕ
+  overwritten [] scratch = scratch
+  overwritten (none ∷ values) scratch = overwritten values scratch
+  overwritten (some value ∷ values) scratch = overwritten values (overlaid value scratch)
+
+  -- the scratch after a judging: as it was, where that is refused
+  unfoldable pub scratchOr : Option Refusal → Items → Subject → (scratch : List ℕ) → List ℕ
+  scratchOr none r s scratch = overwritten (map (looked s) (saidBy r)) scratch
+  scratchOr (some q) r s scratch = scratch
+
+  unfoldable pub scratchAfter : Tally → (places : ℕ) → Judging → (scratch : List ℕ) → List ℕ
+  scratchAfter t places j scratch = scratchOr (judgeRefusal t places j) (rangeFor (j .number) (j .handed)) (subjectOf j) scratch
+
+-- ---- Close
+
+-- 36; 37: the tally's next number is not the count of entries plus 1
+unfoldable pub closeRefusal : Tally → (entries : ℕ) → Option Refusal
+closeRefusal t entries = firstRefusal (refusedIf 36 (overLimit (t .counts)) ∷ refusedIf 37 (not (eqb (t .next) (entries + 1))) ∷ [])
+
+-- Close: its answer; it changes nothing
+unfoldable pub closeAnswer : Tally → (entries : ℕ) → Answer
+closeAnswer t entries = closedOr (closeRefusal t entries) (outcomeOf (t .counts))
+
+-- ---- a call
+
+unfoldable pub judgeStep : Kept → JudgeState → Call → Answer × JudgeState
+judgeStep k s (judge j) = judged k s j
+judgeStep k s close = (closeAnswer (s .tally) (k .script .counts .entries), s)

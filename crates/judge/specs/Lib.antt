@@ -1,0 +1,5 @@
+pub mod Tally
+pub mod Calls
+pub mod PlainJudge
+pub mod Judge
+pub mod Claim

@@ -1,0 +1,3 @@
+// Judging a script: the tally of its verdicts, and what a call is handed and answers.
+pub mod calls;
+pub mod tally;
