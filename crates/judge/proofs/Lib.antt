@@ -3,3 +3,5 @@ pub mod Orders
 pub mod Lines
 pub mod History
 pub mod Ours
+pub mod KeptRead
+pub mod DemandThree

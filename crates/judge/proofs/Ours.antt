@@ -235,7 +235,7 @@ module _ (k : Kept) (a : Agrees k) where
       rw (reached (j .number) (j .handed) g, short places, said-lines (j .number) (j .handed) g) (pass 31 _)))
 
   module _ (vs : List ℕ) where
-    pub shows : List Subject → JudgeState
+    unfoldable pub shows : List Subject → JudgeState
     shows h = stateOver vs (plainOf (k .text) (length vs) h)
 
     -- an unrefused judging leaves what shows the longer history
