@@ -18,7 +18,7 @@ use Rattle.judge.specs.declared.tally.Counts.{Counts}
 use Rattle.judge.specs.declared.tally.Outcome.{Outcome}
 use Rattle.judge.specs.declared.tally.Outcome.the-variants as Outcome
 use Rattle.judge.specs.Tally.{noCounts, added, addedAll, outcomeOf, overLimit}
-use Rattle.judge.specs.Claim.{given, counted}
+use Rattle.judge.specs.Claim.{verdictsIn, counted}
 
 -- ---- kind by kind
 
@@ -51,8 +51,8 @@ pub within-limit : (c : Counts) → ((v : Verdict) → count v c ≤ 0x8000) →
 unfolding overLimit
 within-limit c h = rw (le-ltb 0x8000 (c .passed) (h Passed), le-ltb 0x8000 (c .failed) (h Failed), le-ltb 0x8000 (c .undecided) (h Undecided))
 
-all-passed : (os : List (Option Verdict)) → counted os .failed ≡ 0 → counted os .undecided ≡ 0 → given os ≡ replicate (counted os .passed) Passed
-unfolding counted given
+all-passed : (os : List (Option Verdict)) → counted os .failed ≡ 0 → counted os .undecided ≡ 0 → verdictsIn os ≡ replicate (counted os .passed) Passed
+unfolding counted verdictsIn
 all-passed [] f u = refl
 all-passed (none ∷ os) f u = all-passed os f u
 all-passed (some Passed ∷ os) f u = rw add-one (ap (λ (r : List Verdict). Passed ∷ r) (all-passed os f u))
@@ -135,13 +135,13 @@ unfolding counted
 slot-stays none vs os ps e = e
 slot-stays (some w) vs os ps e = ap (added w) e ∙ sym (all-added vs w (counted ps))
 
-counted-given : (os : List (Option Verdict)) → counted os ≡ addedAll (given os) noCounts
-unfolding counted given addedAll
+counted-given : (os : List (Option Verdict)) → counted os ≡ addedAll (verdictsIn os) noCounts
+unfolding counted verdictsIn addedAll
 counted-given [] = refl
 counted-given (none ∷ os) = counted-given os
 counted-given (some v ∷ os) = ap (added v) (counted-given os)
 
-pub passed-exactly : (os : List (Option Verdict)) → (outcomeOf (counted os) ≡ Outcome.Passed) ↔ ((n : ℕ) × (given os ≡ replicate (suc n) Passed))
+pub passed-exactly : (os : List (Option Verdict)) → (outcomeOf (counted os) ≡ Outcome.Passed) ↔ ((n : ℕ) × (verdictsIn os ≡ replicate (suc n) Passed))
 passed-exactly os = (
   λ e. let w = outcome-passed (counted os) e in (counted os .passed - 1, all-passed os (w .0) (w .1) ∙ ap (λ (k : ℕ). replicate k Passed) (w .2)),
   λ w.

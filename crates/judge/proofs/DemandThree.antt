@@ -29,13 +29,13 @@ use Rattle.judge.specs.declared.calls.Answer.the-variants.{Refused, Clos
 use Rattle.judge.specs.Tally.{outcomeOf}
 use Rattle.judge.specs.Calls.{Call, close, refusedIf, closedOr, run}
 use Rattle.judge.specs.PlainJudge.{Owned, own, saidOn, entryCount, ownedLines, PlainState, plainClosing, plainCall, plainRun}
-use Rattle.judge.specs.Judge.{Kept, JudgeState, judgeStart, judgeStep}
+use Rattle.judge.specs.Judge.{Lent, JudgeState, judgeStart, judgeStep}
 use Rattle.judge.specs.Claim.{AsRead, slotsOver, stateOver, ourRun, accepted, verdictBy, lineVerdict, lineVerdicts, counted, numberOf, saidOf, InWords}
 use Rattle.judge.proofs.Counting.{passed-exactly}
 use Rattle.judge.proofs.Lines.{lines-numbers, lines-said, owners-below}
 use Rattle.judge.proofs.History.{run-shown, run-keeps, only, only-one, only-past, only-within, slotIn, slotsIn, plainOf, historyCall, plain-shown, Good, good-call, accepted-run, no-slots, none-counted, plain-begin}
 use Rattle.judge.proofs.Ours.{Agrees, shows, our-shown}
-use Rattle.judge.proofs.KeptRead.{read-agrees}
+use Rattle.judge.proofs.LentRead.{read-agrees}
 
 none-over : (n : ℕ) (vs : List ℕ) → slotsOver (replicate n none) vs ≡ vs
 unfolding slotsOver Rattle.judge.specs.Claim.slotOver
@@ -51,7 +51,7 @@ nearest up down l = owners-below 0 up (expects l ∷ down) ∙ ap (λ (n : ℕ).
     z : 0 + opened up ≡ opened up
     z = omega arith
 
-module _ (k : Kept) (a : Agrees k) (before : List ℕ) where
+module _ (k : Lent) (a : Agrees k) (before : List ℕ) where
   abbrev text : List ℕ
   text = k .text
 
@@ -117,6 +117,7 @@ module _ (k : Kept) (a : Agrees k) (before : List ℕ) where
           one-for-each = lines-said (saidOn text) 0 (plainLines text);
           nearest-above = λ up down l e. lines-numbers (saidOn text) 0 (plainLines text) ∙ ap (owners 0) e ∙ nearest up down l;
           only-one = λ n. rw (← was-accepted n) (only-one last n);
+          in-order = λ n. (λ h e. let g : length last ≤ n = only-within last n (was-accepted n ∙ e) in let z : ⊥ = omega arith in z, λ f. judged-up-to n f);
           verdicts = ap (λ (os : List (Option Verdict)). slotsOver os before) same-slots;
           told-by-its-byte = decode-code;
           in-reach = λ n f. let g : n < length last = judged-up-to n f in good .1 (omega arith);
@@ -133,11 +134,11 @@ module _ (k : Kept) (a : Agrees k) (before : List ℕ) where
 
 -- ---- the claim
 
-module _ (lent : Script.Counts) (entries : List Entry) (expectations : List Expectation) (r : Reading) (k : Kept) (a : AsRead lent entries expectations r k) (before : List ℕ) (calls : List Call) where
+module _ (sizes : Script.Counts) (entries : List Entry) (expectations : List Expectation) (r : Reading) (k : Lent) (a : AsRead sizes entries expectations r k) (before : List ℕ) (calls : List Call) where
   -- Every answer, the tally's next number and counts, and the verdict list are the plain judge's; where its slot is empty or missing, ours is as before the
   -- first call.
   pub demand-three : ourRun k before calls ≡ (plainRun (k .text) (length before) calls .0, stateOver before (plainRun (k .text) (length before) calls .1))
-  demand-three = same-run k (read-agrees lent entries expectations r k a) before calls
+  demand-three = same-run k (read-agrees sizes entries expectations r k a) before calls
 
   pub in-words : InWords k before calls (ourRun k before calls .0) (ourRun k before calls .1)
-  in-words = said-in-words k (read-agrees lent entries expectations r k a) before calls
+  in-words = said-in-words k (read-agrees sizes entries expectations r k a) before calls

@@ -3,5 +3,6 @@ pub mod Orders
 pub mod Lines
 pub mod History
 pub mod Ours
-pub mod KeptRead
+pub mod LentRead
 pub mod DemandThree
+pub mod JudgeExamples

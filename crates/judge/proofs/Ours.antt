@@ -26,9 +26,9 @@ use Rattle.tables.specs.Written.{writtenAt}
 use Rattle.judge.specs.declared.calls.Handed.{Handed}
 use Rattle.judge.specs.declared.calls.Answer.{Answer}
 use Rattle.judge.specs.Tally.{addedAll, outcomeOf, overLimit}
-use Rattle.judge.specs.Calls.{Judging, Call, judge, close, subjectOf, wrongNumber, partOutside, tooLong, refusedIf, firstRefusal, judgedOr, closedOr, run}
+use Rattle.judge.specs.Calls.{Judging, Call, judge, close, subjectOf, said, wrongNumber, partOutside, tooLong, refusedIf, firstRefusal, judgedOr, closedOr, run}
 use Rattle.judge.specs.PlainJudge.{Owned, own, saidOn, belonging, entryCount, ownedLines, PlainState, plainRefusal, plainClosing}
-use Rattle.judge.specs.Judge.{Kept, JudgeState, allIn, saying, rangeFor, recordsIn, saidBy, pastEntries, rangeOutside, outOfReach, fewSlots, rangeRefusals, judgeRefusal, judgedBy, judged, closeRefusal, closeAnswer, judgeStep}
+use Rattle.judge.specs.Judge.{Lent, JudgeState, allIn, rangeFor, recordsIn, saidBy, pastEntries, rangeOutside, outOfReach, fewSlots, rangeRefusals, judgeRefusal, judgedBy, judged, closeRefusal, closeAnswer, judgeStep}
 use Rattle.judge.specs.Claim.{saidOf, slotOver, slotsOver, stateOver, verdictBy}
 use Rattle.judge.proofs.Counting.{few-counted}
 use Rattle.judge.proofs.Orders.{Order, less, same, more, order}
@@ -38,7 +38,7 @@ use Rattle.judge.proofs.History.{only, length-snoc, slotIn, slotsIn, co
 -- ---- what reading ensures
 
 -- The tables hold what the lines of the text ask for.
-pub record Agrees (k : Kept) : Type 0 where
+pub record Agrees (k : Lent) : Type 0 where
   pub entries-counted : k .script .counts .entries ≡ entryCount (k .text)
   pub expectations-counted : k .script .counts .expectations ≡ length (ownedLines (k .text))
   pub entries-fit : entryCount (k .text) ≤ room (length (k .entries))
@@ -47,7 +47,7 @@ pub record Agrees (k : Kept) : Type 0 where
   pub sizes : (n : ℕ) (h : Handed) → Fits (entryCount (k .text)) n h → rangeFor k n h .count ≡ length (belonging n (ownedLines (k .text)))
   pub firsts : (n : ℕ) (h : Handed) → Fits (entryCount (k .text)) n h → 0 < rangeFor k n h .count → rangeFor k n h .first ≡ earlier n (ownedLines (k .text))
   pub all-inside : allIn (k .text) (take (length (ownedLines (k .text))) (k .expectations)) ≡ true
-  pub as-lines : saying (k .text) (take (length (ownedLines (k .text))) (k .expectations)) ≡ map saidOf (ownedLines (k .text))
+  pub as-lines : said (k .text) (take (length (ownedLines (k .text))) (k .expectations)) ≡ map saidOf (ownedLines (k .text))
   pub rising : Rising 0 (ownedLines (k .text))
 
 -- ---- cutting
@@ -166,7 +166,7 @@ not-outside n m b r e f h = go (order 0 (r .count))
     go (same p x y) = rw (eq-eqb (r .count) 0 (sym p)) refl
     go (more p x y) = absurd (not-suc-le-zero p)
 
-module _ (k : Kept) (a : Agrees k) where
+module _ (k : Lent) (a : Agrees k) where
   abbrev ls : List Owned
   ls = ownedLines (k .text)
 
@@ -182,7 +182,7 @@ module _ (k : Kept) (a : Agrees k) where
 
     -- what is judged is what the lines of the number say
     said-lines : saidBy k r ≡ belonging n ls
-    unfolding saidBy saying
+    unfolding saidBy said
     said-lines =
         let f : Expectation → Expected = λ e. expectedOf (k .text) (e .expect) in
         let m : ℕ = length (belonging n ls) in

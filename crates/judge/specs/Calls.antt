@@ -2,15 +2,17 @@
 -- Assumes nothing.
 use Prim.Native.Nat.{ℕ}
 use mathlib.Core.Bool.{Bool, false, not}
-use mathlib.Core.List.{List, [], _∷_}
+use mathlib.Core.List.{List, [], _∷_, map}
 use mathlib.Core.Option.{Option, none, some}
 use lib.ListN.{length}
 use lib.Dec.{ltb, eqb}
 use Rattle.text.specs.Base.{if_then_else_, _or_}
 use Rattle.script.specs.Reading.{refusal}
+use Rattle.script.specs.declared.records.Expectation.{Expectation}
 use Rattle.script.specs.declared.records.Refusal.{Refusal}
+use Rattle.verdicts.specs.Expected.{Expected}
 use Rattle.verdicts.specs.Told.{Subject, greeting, reply}
-use Rattle.verdicts.specs.Held.{responseOf, infoOf, responseIn, infoIn}
+use Rattle.verdicts.specs.Held.{expectedOf, responseOf, infoOf, responseIn, infoIn}
 use Rattle.judge.specs.declared.tally.Outcome.{Outcome}
 use Rattle.judge.specs.declared.calls.Handed.{Handed}
 use Rattle.judge.specs.declared.calls.Handed.the-variants.{Info, Response}
@@ -45,6 +47,10 @@ module _ (bytes : List ℕ) (lists : List (List ℕ)) where
 
 abbrev pub subjectOf : Judging → Subject
 subjectOf j = heldBy (j .bytes) (j .lists) (j .handed)
+
+-- what expectations say, their texts as bytes
+unfoldable pub said : (text : List ℕ) → List Expectation → List Expected
+said text es = map (λ e. expectedOf text (e .expect)) es
 
 -- ---- its refusals
 

@@ -1,5 +1,5 @@
 -- Demand 3 of document 01: what is claimed of the whole list of calls. Assumes nothing.
-use Prim.Native.Nat.{ℕ, suc, _≤_}
+use Prim.Native.Nat.{ℕ, suc, _≤_, _<_}
 use mathlib.Core.Path.{_≡_}
 use mathlib.Core.Logic.{_↔_, _≢_}
 use mathlib.Core.Bool.{Bool, true, false}
@@ -29,16 +29,16 @@ use Rattle.judge.specs.declared.calls.Answer.the-variants.{Refused, Judg
 use Rattle.judge.specs.Tally.{noCounts, added, outcomeOf}
 use Rattle.judge.specs.Calls.{Judging, Call, judge, close, subjectOf, run}
 use Rattle.judge.specs.PlainJudge.{Owned, own, saidOn, entryCount, ownedLines, PlainState}
-use Rattle.judge.specs.Judge.{Kept, JudgeState, judgeStart, judgeStep}
+use Rattle.judge.specs.Judge.{Lent, JudgeState, judgeStart, judgeStep}
 
 -- ---- the tables as Read left them
 
--- A script that is kept as Read, by its contract, answers it and leaves it: `lent` says how many records and bytes it was lent, `entries` and
--- `expectations` are the lent tables as they were before.
-pub record AsRead (lent : Script.Counts) (entries : List Entry) (expectations : List Expectation) (r : Reading) (k : Kept) : Type 0 where
-  pub entries-lent : lent .entries ≡ length entries
-  pub expectations-lent : lent .expectations ≡ length expectations
-  pub is-read : readInto lent (k .text) ≡ read r
+-- What is lent to the calls is as Read, by its contract, answered and left it: r is its reading, `entries` and `expectations` are the tables as they were
+-- before, and `sizes` says how many records and bytes it was lent.
+pub record AsRead (sizes : Script.Counts) (entries : List Entry) (expectations : List Expectation) (r : Reading) (k : Lent) : Type 0 where
+  pub entries-lent : sizes .entries ≡ length entries
+  pub expectations-lent : sizes .expectations ≡ length expectations
+  pub is-read : readInto sizes (k .text) ≡ read r
   pub script : k .script ≡ r .script
   pub entries-left : k .entries ≡ writtenAt 0 (r .tables .entries) entries
   pub expectations-left : k .expectations ≡ writtenAt 0 (r .tables .expectations) expectations
@@ -60,7 +60,7 @@ unfoldable pub stateOver : (before : List ℕ) → PlainState → JudgeState
 stateOver before p = record { tally = record { next = p .next; counts = p .counts }; verdicts = slotsOver (p .slots) before }
 
 -- every answer of ours, and the state after the last call, from a fresh tally
-abbrev pub ourRun : Kept → (verdicts : List ℕ) → List Call → List Answer × JudgeState
+abbrev pub ourRun : Lent → (verdicts : List ℕ) → List Call → List Answer × JudgeState
 ourRun k verdicts calls = run (judgeStep k) (judgeStart verdicts) calls
 
 -- ---- the same in the user's words
@@ -90,10 +90,10 @@ unfoldable pub lineVerdicts : (text : List ℕ) → List Call → List Answer �
 lineVerdicts text calls answers = map (lineVerdict calls answers) (ownedLines text)
 
 -- the verdicts, in line order
-unfoldable pub given : List (Option Verdict) → List Verdict
-given [] = []
-given (none ∷ slots) = given slots
-given (some v ∷ slots) = v ∷ given slots
+unfoldable pub verdictsIn : List (Option Verdict) → List Verdict
+verdictsIn [] = []
+verdictsIn (none ∷ slots) = verdictsIn slots
+verdictsIn (some v ∷ slots) = v ∷ verdictsIn slots
 
 -- how many there are of each kind
 unfoldable pub counted : List (Option Verdict) → Counts
@@ -108,7 +108,7 @@ unfoldable pub saidOf : Owned → Expected
 saidOf (own n e) = e
 
 -- `answers` and `last` are what the calls answered and left, from a fresh tally and the verdict list `before`.
-pub record InWords (k : Kept) (before : List ℕ) (calls : List Call) (answers : List Answer) (last : JudgeState) : Type 0 where
+pub record InWords (k : Lent) (before : List ℕ) (calls : List Call) (answers : List Answer) (last : JudgeState) : Type 0 where
   -- the expectation lines are the lines that, trimmed, begin with `expect`, in line order
   pub expect-lines : expectationLines (plainLines (k .text)) ≡ beginningLines (k .text) (lines (k .text))
   pub one-for-each : map saidOf (ownedLines (k .text)) ≡ map (saidOn (k .text)) (expectationLines (plainLines (k .text)))
@@ -117,6 +117,8 @@ pub record InWords (k : Kept) (before : List ℕ) (calls : List Call) (answers :
       → map numberOf (ownedLines (k .text)) ≡ owners 0 above ++ (opened above ∷ owners (opened above) below)
   -- no number is judged unrefused twice
   pub only-one : (n : ℕ) → length (accepted n calls answers) ≤ 1
+  -- they are judged in order: those below the next number were
+  pub in-order : (n : ℕ) → (n < last .tally .next) ↔ (accepted n calls answers ≢ [])
   -- the verdict list has the verdicts of the lines at their places, in line order, and is else as it was
   pub verdicts : last .verdicts ≡ slotsOver (lineVerdicts (k .text) calls answers) before
   pub told-by-its-byte : (v : Verdict) → decode (code v) ≡ v
@@ -131,4 +133,4 @@ pub record InWords (k : Kept) (before : List ℕ) (calls : List Call) (answers :
       → judgeStep k last close .0 ≡ Closed (outcomeOf (counted (lineVerdicts (k .text) calls answers)))
   -- passed exactly when there is a verdict and every one passed
   pub says-passed : (outcomeOf (counted (lineVerdicts (k .text) calls answers)) ≡ Outcome.Passed)
-      ↔ ((n : ℕ) × (given (lineVerdicts (k .text) calls answers) ≡ replicate (suc n) Verdict.Passed))
+      ↔ ((n : ℕ) × (verdictsIn (lineVerdicts (k .text) calls answers) ≡ replicate (suc n) Verdict.Passed))

@@ -13,10 +13,9 @@ use Rattle.script.specs.declared.records.Expectation.{Expectation}
 use Rattle.script.specs.declared.records.Refusal.{Refusal}
 use Rattle.script.specs.declared.records.Script.{Script}
 use Rattle.verdicts.specs.Expected.{Expected}
-use Rattle.verdicts.specs.Told.{Subject}
 use Rattle.verdicts.specs.Lookup.{looked}
 use Rattle.verdicts.specs.Verdicts.{verdict, code}
-use Rattle.verdicts.specs.Held.{expectedOf, ranged, inside, expectIn}
+use Rattle.verdicts.specs.Held.{ranged, inside, expectIn}
 use Rattle.verdicts.specs.declared.Verdict.{Verdict}
 use Rattle.tables.specs.Written.{writtenAt}
 use Rattle.slots.specs.Blank.{blankEntry}
@@ -25,10 +24,10 @@ use Rattle.judge.specs.declared.calls.Handed.{Handed}
 use Rattle.judge.specs.declared.calls.Handed.the-variants.{Info, Response}
 use Rattle.judge.specs.declared.calls.Answer.{Answer}
 use Rattle.judge.specs.Tally.{freshTally, addedAll, outcomeOf, overLimit}
-use Rattle.judge.specs.Calls.{Judging, Call, judge, close, subjectOf, wrongNumber, partOutside, tooLong, refusedIf, firstRefusal, judgedOr, closedOr}
+use Rattle.judge.specs.Calls.{Judging, Call, judge, close, subjectOf, said, wrongNumber, partOutside, tooLong, refusedIf, firstRefusal, judgedOr, closedOr}
 
--- a script as it is kept: its text, its record, and the tables of entries and of expectations
-pub record Kept : Type 0 where
+-- what a judging is lent to read: the text, the script's record, and the tables of entries and of expectations
+pub record Lent : Type 0 where
   pub text : List ℕ
   pub script : Script
   pub entries : List Entry
@@ -45,17 +44,12 @@ judgeStart verdicts = record { tally = freshTally; verdicts = verdicts }
 
 -- ---- what is judged
 
-module _ (text : List ℕ) where
-  -- every part of the expectations lies inside the text
-  unfoldable pub allIn : List Expectation → Bool
-  allIn [] = true
-  allIn (e ∷ es) = expectIn (length text) (e .expect) & allIn es
+-- every part of the expectations lies inside the text
+unfoldable pub allIn : (text : List ℕ) → List Expectation → Bool
+allIn text [] = true
+allIn text (e ∷ es) = expectIn (length text) (e .expect) & allIn text es
 
-  -- what expectations say
-  unfoldable pub saying : List Expectation → List Expected
-  saying es = map (λ e. expectedOf text (e .expect)) es
-
-module _ (k : Kept) where
+module _ (k : Lent) where
   -- the range to be judged: the handshake's expectations, or those of the entry
   unfoldable pub rangeFor : (number : ℕ) → Handed → Items
   rangeFor number (Info i) = k .script .preamble .expects
@@ -66,7 +60,7 @@ module _ (k : Kept) where
   recordsIn r = ranged (k .expectations) r
 
   unfoldable pub saidBy : Items → List Expected
-  saidBy r = saying (k .text) (recordsIn r)
+  saidBy r = said (k .text) (recordsIn r)
 
   -- ---- the refusals
 
@@ -122,21 +116,26 @@ module _ (k : Kept) where
       s
       (judgedBy (verdict (subjectOf j)) (rangeFor (j .number) (j .handed)) s)
 
-  -- ---- the scratch
+-- ---- the scratch
 
-  -- Present values are written at the start of the scratch, each over the last.
-  unfoldable pub overwritten : (values : List (Option (List ℕ))) → (scratch : List ℕ) → List ℕ
-  overwritten [] scratch = scratch
-  overwritten (none ∷ values) scratch = overwritten values scratch
-  overwritten (some value ∷ values) scratch = overwritten values (overlaid value scratch)
+-- Present values are written at the start of the scratch, each over the last.
+unfoldable pub overwritten : (values : List (Option (List ℕ))) → (scratch : List ℕ) → List ℕ
+overwritten [] scratch = scratch
+overwritten (none ∷ values) scratch = overwritten values scratch
+overwritten (some value ∷ values) scratch = overwritten values (overlaid value scratch)
 
-  -- the scratch after a judging: as it was, where that is refused
-  unfoldable pub scratchOr : Option Refusal → Items → Subject → (scratch : List ℕ) → List ℕ
-  scratchOr none r s scratch = overwritten (map (looked s) (saidBy r)) scratch
-  scratchOr (some q) r s scratch = scratch
+-- a scratch stays as it was where the judging is refused
+unfoldable pub overwrittenOr : Option Refusal → (values : List (Option (List ℕ))) → (scratch : List ℕ) → List ℕ
+overwrittenOr none values scratch = overwritten values scratch
+overwrittenOr (some r) values scratch = scratch
 
-  unfoldable pub scratchAfter : Tally → (places : ℕ) → Judging → (scratch : List ℕ) → List ℕ
-  scratchAfter t places j scratch = scratchOr (judgeRefusal t places j) (rangeFor (j .number) (j .handed)) (subjectOf j) scratch
+-- the scratch after a judging
+unfoldable pub scratchAfter : Lent → Tally → (places : ℕ) → Judging → (scratch : List ℕ) → List ℕ
+scratchAfter k t places j scratch =
+    overwrittenOr
+    (judgeRefusal k t places j)
+    (map (looked (subjectOf j)) (saidBy k (rangeFor k (j .number) (j .handed))))
+    scratch
 
 -- ---- Close
 
@@ -150,6 +149,6 @@ closeAnswer t entries = closedOr (closeRefusal t entries) (outcomeOf (t .counts)
 
 -- ---- a call
 
-unfoldable pub judgeStep : Kept → JudgeState → Call → Answer × JudgeState
+unfoldable pub judgeStep : Lent → JudgeState → Call → Answer × JudgeState
 judgeStep k s (judge j) = judged k s j
 judgeStep k s close = (closeAnswer (s .tally) (k .script .counts .entries), s)

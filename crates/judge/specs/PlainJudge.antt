@@ -4,23 +4,21 @@ use Prim.Native.Nat.{ℕ, _+_}
 use mathlib.Core.Bool.{not}
 use mathlib.Core.List.{List, [], _∷_, map}
 use mathlib.Core.Option.{Option, none, some}
-use lib.ListN.{length, replicate}
+use lib.ListN.{length, replicate, getD}
 use lib.Dec.{ltb, eqb}
 use Rattle.text.specs.Base.{if_then_else_}
 use Rattle.text.specs.declared.lines.Line.{Line}
 use Rattle.script.specs.Plain.{plainLines, opened, expectationLines, owners, stated}
-use Rattle.script.specs.declared.records.Expectation.{Expectation}
 use Rattle.script.specs.declared.records.Refusal.{Refusal}
 use Rattle.verdicts.specs.Expected.{Expected, terminal}
 use Rattle.verdicts.specs.Told.{Subject}
 use Rattle.verdicts.specs.Lookup.{looked}
 use Rattle.verdicts.specs.Verdicts.{verdict}
-use Rattle.verdicts.specs.Held.{expectedOf}
 use Rattle.verdicts.specs.declared.Verdict.{Verdict}
 use Rattle.judge.specs.declared.tally.Counts.{Counts}
 use Rattle.judge.specs.declared.calls.Answer.{Answer}
 use Rattle.judge.specs.Tally.{noCounts, addedAll, outcomeOf}
-use Rattle.judge.specs.Calls.{Judging, Call, judge, close, subjectOf, wrongNumber, partOutside, tooLong, refusedIf, firstRefusal, judgedOr, closedOr, run}
+use Rattle.judge.specs.Calls.{Judging, Call, judge, close, subjectOf, said, wrongNumber, partOutside, tooLong, refusedIf, firstRefusal, judgedOr, closedOr, run}
 
 -- ---- the lines
 
@@ -39,13 +37,9 @@ belonging n [] = []
 belonging n (own k e ∷ ls) = if eqb k n then (e ∷ belonging n ls) else belonging n ls
 
 module _ (text : List ℕ) where
-  -- What an expectation line says, its texts as bytes. A text with a line that says nothing is not read, so it does not matter what stands for that.
-  unfoldable pub saidIn : List Expectation → Expected
-  saidIn [] = terminal []
-  saidIn (e ∷ es) = expectedOf text (e .expect)
-
+  -- What an expectation line says. A text with a line that says nothing is not read, so it does not matter what stands for that.
   unfoldable pub saidOn : Line → Expected
-  saidOn l = saidIn (stated text l)
+  saidOn l = getD (said text (stated text l)) 0 (terminal [])
 
   -- the count of entries: opening lines number them from 1
   unfoldable pub entryCount : ℕ

@@ -1,4 +1,4 @@
--- A script that is kept as Read left it: its tables hold what the lines of the text ask for. Assumes nothing.
+-- What is lent is as Read left it: the tables hold what the lines of the text ask for. Assumes nothing.
 use mathlib.Core.Path.{_≡_, refl, sym, ap, ap₂, _∙_}
 use mathlib.Core.Bool.{Bool, true, false, not}
 use mathlib.Core.Option.{Option, none, some}
@@ -33,15 +33,16 @@ use Rattle.script.specs.declared.records.Expect.{Expect}
 use Rattle.script.specs.declared.records.Expect.the-variants.{Terminal, Result, ResultField, Error, StderrCount, Daemon, Trust, ServerFeatures}
 use Rattle.script.specs.declared.records.Entry.{Entry}
 use Rattle.script.specs.declared.records.Expectation.{Expectation}
-use Rattle.verdicts.specs.Expected.{Expected}
+use Rattle.verdicts.specs.Expected.{Expected, terminal}
 use Rattle.verdicts.specs.Held.{expectedOf, inside, placeIn, matcherIn, expectIn}
 use Rattle.tables.specs.Written.{writtenAt}
 use Rattle.tables.proofs.WrittenLaws.{written-length}
 use Rattle.slots.specs.Blank.{blankEntry}
 use Rattle.judge.specs.declared.calls.Handed.{Handed}
 use Rattle.judge.specs.declared.calls.Handed.the-variants.{Info, Response}
-use Rattle.judge.specs.PlainJudge.{Owned, own, owned, saidIn, saidOn, belonging, entryCount, ownedLines}
-use Rattle.judge.specs.Judge.{Kept, allIn, saying, rangeFor}
+use Rattle.judge.specs.Calls.{said}
+use Rattle.judge.specs.PlainJudge.{Owned, own, owned, saidOn, belonging, entryCount, ownedLines}
+use Rattle.judge.specs.Judge.{Lent, allIn, rangeFor}
 use Rattle.judge.specs.Claim.{saidOf, AsRead}
 use Rattle.judge.proofs.Lines.{linesBy, lines-said, Rising, lines-rise, earlier, earlier-none, belonging-none}
 use Rattle.judge.proofs.History.{Fits, handshake, entry}
@@ -50,18 +51,18 @@ use Rattle.judge.proofs.Ours.{Agrees}
 -- ---- what Read answered
 
 -- the reading itself, and room for it
-pub record Fitted (lent : Script.Counts) (text : List ℕ) (r : Reading) : Type 0 where
+pub record Fitted (sizes : Script.Counts) (text : List ℕ) (r : Reading) : Type 0 where
   pub is-parsed : parsedBy plainRules text ≡ read r
-  pub entries : r .script .counts .entries ≤ room (lent .entries)
-  pub expectations : r .script .counts .expectations ≤ room (lent .expectations)
+  pub entries : r .script .counts .entries ≤ room (sizes .entries)
+  pub expectations : r .script .counts .expectations ≤ room (sizes .expectations)
 
-module _ (lent : Script.Counts) (q : Reading) where
+module _ (sizes : Script.Counts) (q : Reading) where
   abbrev needed : Script.Counts
   needed = q .script .counts
 
-  fitted-by : (a b c d : Bool) → ltb (room (lent .entries)) (needed .entries) ≡ a → ltb (room (lent .items)) (needed .items) ≡ b → ltb (room (lent .expectations)) (needed .expectations) ≡ c
-      → ltb (lent .store) (needed .store) ≡ d
-      → fitted lent q ≡ (if a then refusedAt (refusal 21 0) else if b then refusedAt (refusal 22 0) else if c then refusedAt (refusal 23 0) else if d then refusedAt (refusal 24 0) else read q)
+  fitted-by : (a b c d : Bool) → ltb (room (sizes .entries)) (needed .entries) ≡ a → ltb (room (sizes .items)) (needed .items) ≡ b → ltb (room (sizes .expectations)) (needed .expectations) ≡ c
+      → ltb (sizes .store) (needed .store) ≡ d
+      → fitted sizes q ≡ (if a then refusedAt (refusal 21 0) else if b then refusedAt (refusal 22 0) else if c then refusedAt (refusal 23 0) else if d then refusedAt (refusal 24 0) else read q)
   unfolding fitted tooFew firstOf
   fitted-by true b c d p q s t = rw p
   fitted-by false true c d p q s t = rw (p, q)
@@ -69,20 +70,20 @@ module _ (lent : Script.Counts) (q : Reading) where
   fitted-by false false false true p q s t = rw (p, q, s, t)
   fitted-by false false false false p q s t = rw (p, q, s, t)
 
-  fitted-read : (r : Reading) → fitted lent q ≡ read r → (q ≡ r) × (needed .entries ≤ room (lent .entries)) × (needed .expectations ≤ room (lent .expectations))
+  fitted-read : (r : Reading) → fitted sizes q ≡ read r → (q ≡ r) × (needed .entries ≤ room (sizes .entries)) × (needed .expectations ≤ room (sizes .expectations))
   fitted-read r e =
       go
-      (ltb (room (lent .entries)) (needed .entries))
-      (ltb (room (lent .items)) (needed .items))
-      (ltb (room (lent .expectations)) (needed .expectations))
-      (ltb (lent .store) (needed .store))
+      (ltb (room (sizes .entries)) (needed .entries))
+      (ltb (room (sizes .items)) (needed .items))
+      (ltb (room (sizes .expectations)) (needed .expectations))
+      (ltb (sizes .store) (needed .store))
       refl
       refl
       refl
       refl
     where
-      go : (a b c d : Bool) → ltb (room (lent .entries)) (needed .entries) ≡ a → ltb (room (lent .items)) (needed .items) ≡ b → ltb (room (lent .expectations)) (needed .expectations) ≡ c
-          → ltb (lent .store) (needed .store) ≡ d → (q ≡ r) × (needed .entries ≤ room (lent .entries)) × (needed .expectations ≤ room (lent .expectations))
+      go : (a b c d : Bool) → ltb (room (sizes .entries)) (needed .entries) ≡ a → ltb (room (sizes .items)) (needed .items) ≡ b → ltb (room (sizes .expectations)) (needed .expectations) ≡ c
+          → ltb (sizes .store) (needed .store) ≡ d → (q ≡ r) × (needed .entries ≤ room (sizes .entries)) × (needed .expectations ≤ room (sizes .expectations))
       go true b c d p o s t = let f = sym (fitted-by true b c d p o s t) ∙ e in let z : _≡_ {A = ℕ} 0 1 = cc in absurd (omega arith)
       go false true c d p o s t = let f = sym (fitted-by false true c d p o s t) ∙ e in let z : _≡_ {A = ℕ} 0 1 = cc in absurd (omega arith)
       go false false true d p o s t = let f = sym (fitted-by false false true d p o s t) ∙ e in let z : _≡_ {A = ℕ} 0 1 = cc in absurd (omega arith)
@@ -90,16 +91,16 @@ module _ (lent : Script.Counts) (q : Reading) where
       go false false false false p o s t =
           let f = sym (fitted-by false false false false p o s t) ∙ e in
           let g : q ≡ r = cc in
-          (g, ltb-false (room (lent .entries)) (needed .entries) p, ltb-false (room (lent .expectations)) (needed .expectations) s)
+          (g, ltb-false (room (sizes .entries)) (needed .entries) p, ltb-false (room (sizes .expectations)) (needed .expectations) s)
 
 module _ (text : List ℕ) (r : Reading) where
-  pub into-read : (lent : Script.Counts) → readInto lent text ≡ read r → Fitted lent text r
+  pub into-read : (sizes : Script.Counts) → readInto sizes text ≡ read r → Fitted sizes text r
   unfolding readInto parsed
-  into-read lent e = go (parsedBy plainRules text) refl e
+  into-read sizes e = go (parsedBy plainRules text) refl e
     where
-      go : (p : Parsed Reading) → parsedBy plainRules text ≡ p → elim p as (λ _. Parsed Reading) [ refusedAt q ↦ refusedAt q | read q ↦ fitted lent q ] ≡ read r → Fitted lent text r
+      go : (p : Parsed Reading) → parsedBy plainRules text ≡ p → elim p as (λ _. Parsed Reading) [ refusedAt q ↦ refusedAt q | read q ↦ fitted sizes q ] ≡ read r → Fitted sizes text r
       go (refusedAt q) h f = let z : _≡_ {A = ℕ} 0 1 = cc in absurd (omega arith)
-      go (read q) h f = let w = fitted-read lent q r f in let g : q ≡ r = w .0 in record { is-parsed = h ∙ ap (λ (x : Reading). read x) g; entries = rw g at (w .1); expectations = rw g at (w .2) }
+      go (read q) h f = let w = fitted-read sizes q r f in let g : q ≡ r = w .0 in record { is-parsed = h ∙ ap (λ (x : Reading). read x) g; entries = rw g at (w .1); expectations = rw g at (w .2) }
 
   laid : (s : ScriptContents) → (laidScript s .script .counts .entries ≡ length (laidScript s .tables .entries)) × (laidScript s .script .counts .expectations ≡ length (laidScript s .tables .expectations))
   unfolding laidScript
@@ -136,12 +137,12 @@ module _ (text : List ℕ) where
   few-stated (l ∷ ls) = omega (arith, length-append (stated text l) (statedOn text ls), one-stated l, few-stated ls)
 
   -- where every line states something, the expectations say what the lines say
-  said-all : (ls : List Line) → length (statedOn text ls) ≡ length ls → saying text (statedOn text ls) ≡ map (saidOn text) ls
-  unfolding statedOn saying saidOn saidIn
+  said-all : (ls : List Line) → length (statedOn text ls) ≡ length ls → said text (statedOn text ls) ≡ map (saidOn text) ls
+  unfolding statedOn said saidOn
   said-all [] e = refl
   said-all (l ∷ ls) e = go (λ f. said-all ls f) (stated text l) refl
     where
-      go : (length (statedOn text ls) ≡ length ls → saying text (statedOn text ls) ≡ map (saidOn text) ls) → (x : List Expectation) → stated text l ≡ x → saying text (x ++ statedOn text ls) ≡ saidIn text x ∷ map (saidOn text) ls
+      go : (length (statedOn text ls) ≡ length ls → said text (statedOn text ls) ≡ map (saidOn text) ls) → (x : List Expectation) → stated text l ≡ x → said text (x ++ statedOn text ls) ≡ getD (said text x) 0 (terminal []) ∷ map (saidOn text) ls
       go ih [] f =
           let n : length (stated text l) ≡ 0 = ap length f in
           let z : ⊥ = omega (arith, length-append (stated text l) (statedOn text ls), few-stated ls) in absurd z
@@ -237,15 +238,15 @@ module _ {A : Type 0} (xs t : List A) where
 
 -- ---- all together
 
-module _ (lent : Script.Counts) (entries : List Entry) (expectations : List Expectation) (r : Reading) (k : Kept) (a : AsRead lent entries expectations r k) where
+module _ (sizes : Script.Counts) (entries : List Entry) (expectations : List Expectation) (r : Reading) (k : Lent) (a : AsRead sizes entries expectations r k) where
   abbrev text : List ℕ
   text = k .text
 
   abbrev ps : List PlainLine
   ps = plainLines text
 
-  fits : Fitted lent text r
-  fits = into-read text r lent (a .is-read)
+  fits : Fitted sizes text r
+  fits = into-read text r sizes (a .is-read)
 
   plain : AsPlain text r
   plain = as-plain plainRules text r (fits .is-parsed)
@@ -272,10 +273,10 @@ module _ (lent : Script.Counts) (entries : List Entry) (expectations : List Expe
   unfolding room
   expectations-room = omega (arith, fits .expectations, tables .1, a .expectations-lent)
 
-  entries-long : length (k .entries) ≡ lent .entries
+  entries-long : length (k .entries) ≡ sizes .entries
   entries-long = ap length (a .entries-left) ∙ written-length 0 (r .tables .entries) entries (omega (arith, entries-room)) ∙ sym (a .entries-lent)
 
-  expectations-long : length (k .expectations) ≡ lent .expectations
+  expectations-long : length (k .expectations) ≡ sizes .expectations
   expectations-long = ap length (a .expectations-left) ∙ written-length 0 (r .tables .expectations) expectations (omega (arith, expectations-room)) ∙ sym (a .expectations-lent)
 
   used : take (length (ownedLines text)) (k .expectations) ≡ r .tables .expectations
@@ -302,10 +303,10 @@ module _ (lent : Script.Counts) (entries : List Entry) (expectations : List Expe
       z : 0 + earlier (suc i) (ownedLines text) ≡ earlier (suc i) (ownedLines text)
       z = omega arith
 
-  said : saying text (r .tables .expectations) ≡ map saidOf (ownedLines text)
+  all-said : said text (r .tables .expectations) ≡ map saidOf (ownedLines text)
   unfolding ownedLines
-  said =
-      ap (saying text) (plain .stated)
+  all-said =
+      ap (said text) (plain .stated)
       ∙ said-all text (expectationLines ps) (sym (ap length (plain .stated)) ∙ plain .expectations)
       ∙ sym (lines-said (saidOn text) 0 ps)
 
@@ -322,6 +323,6 @@ module _ (lent : Script.Counts) (entries : List Entry) (expectations : List Expe
     sizes = λ n h f. rw (range-is n h f) (range-count _ _);
     firsts = λ n h f z. rw (range-is n h f) (range-first _ _ (rw (range-is n h f) at z));
     all-inside = rw used (every-in text (r .tables .expectations) (plain .inside));
-    as-lines = rw used said;
+    as-lines = rw used all-said;
     rising = rises;
   }
