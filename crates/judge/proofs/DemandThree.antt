@@ -114,7 +114,7 @@ module _ (k : Lent) (a : Agrees k) (before : List ℕ) where
         rw ours
         (record {
           expect-lines = expect-lines text;
-          one-for-each = lines-said (saidOn text) 0 (plainLines text);
+          one-for-each = lines-said (saidOn text) _ (plainLines text);
           nearest-above = λ up down l e. lines-numbers (saidOn text) 0 (plainLines text) ∙ ap (owners 0) e ∙ nearest up down l;
           only-one = λ n. rw (← was-accepted n) (only-one last n);
           in-order = λ n. (λ h e. let g : length last ≤ n = only-within last n (was-accepted n ∙ e) in let z : ⊥ = omega arith in z, λ f. judged-up-to n f);

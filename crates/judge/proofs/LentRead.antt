@@ -256,7 +256,7 @@ module _ (sizes : Script.Counts) (entries : List Entry) (expectations : List Exp
 
   as-many : length (ownedLines text) ≡ length (expectationLines ps)
   unfolding ownedLines
-  as-many = sym (length-map (ownedLines text) saidOf) ∙ ap length (lines-said (saidOn text) 0 ps) ∙ length-map (expectationLines ps) (saidOn text)
+  as-many = sym (length-map (ownedLines text) saidOf) ∙ ap length (lines-said (saidOn text) _ ps) ∙ length-map (expectationLines ps) (saidOn text)
 
   expectations-are : length (r .tables .expectations) ≡ length (ownedLines text)
   expectations-are = plain .expectations ∙ sym as-many
@@ -282,13 +282,17 @@ module _ (sizes : Script.Counts) (entries : List Entry) (expectations : List Exp
   used : take (length (ownedLines text)) (k .expectations) ≡ r .tables .expectations
   used = ap (take (length (ownedLines text))) (a .expectations-left) ∙ front-taken (r .tables .expectations) expectations (length (ownedLines text)) expectations-are
 
+  rises : Rising 0 (ownedLines text)
+  unfolding ownedLines
+  rises = lines-rise (saidOn text) 0 _ ps (omega arith)
+
   -- the range of each number
   range-is : (n : ℕ) (h : Handed) → Fits (entryCount text) n h → rangeFor k n h ≡ range (earlier n (ownedLines text)) (length (belonging n (ownedLines text)))
   unfolding rangeFor ownedLines entryCount
   range-is n (Info i) handshake =
       ap (λ s. s .preamble .expects) (a .script)
       ∙ plain .handshake
-      ∙ ap₂ range (sym (earlier-none 0 0 (ownedLines text) (le-refl 0) (lines-rise (saidOn text) 0 0 ps (le-refl 0)))) (leading-belong (saidOn text) 0 ps)
+      ∙ ap₂ range (sym (earlier-none 0 0 (ownedLines text) (le-refl 0) rises)) (leading-belong (saidOn text) 0 ps)
   range-is (suc i) (Response x) (entry g) =
       let l : i < length (r .tables .entries) = omega (arith, plain .entries) in
       let m : suc i - 1 ≡ i = omega arith in
@@ -308,11 +312,7 @@ module _ (sizes : Script.Counts) (entries : List Entry) (expectations : List Exp
   all-said =
       ap (said text) (plain .stated)
       ∙ said-all text (expectationLines ps) (sym (ap length (plain .stated)) ∙ plain .expectations)
-      ∙ sym (lines-said (saidOn text) 0 ps)
-
-  rises : Rising 0 (ownedLines text)
-  unfolding ownedLines
-  rises = lines-rise (saidOn text) 0 0 ps (le-refl 0)
+      ∙ sym (lines-said (saidOn text) _ ps)
 
   pub read-agrees : Agrees k
   read-agrees = record {
