@@ -47,6 +47,12 @@ count-added Undecided Passed c = omega arith
 count-added Undecided Failed c = omega arith
 count-added Undecided Undecided c = omega arith
 
+-- no count goes up by more than 1
+pub count-most : (v : Verdict) (c : Counts) → (added v c .passed ≤ c .passed + 1) × (added v c .failed ≤ c .failed + 1) × (added v c .undecided ≤ c .undecided + 1)
+count-most Passed c = (omega arith, omega arith, omega arith)
+count-most Failed c = (omega arith, omega arith, omega arith)
+count-most Undecided c = (omega arith, omega arith, omega arith)
+
 pub within-limit : (c : Counts) → ((v : Verdict) → count v c ≤ 0x8000) → overLimit c ≡ false
 unfolding overLimit
 within-limit c h = rw (le-ltb 0x8000 (c .passed) (h Passed), le-ltb 0x8000 (c .failed) (h Failed), le-ltb 0x8000 (c .undecided) (h Undecided))

@@ -28,6 +28,7 @@ use Rattle.judge.specs.Calls.{Judging, Call, judge, close, subjectOf, wr
 use Rattle.judge.specs.PlainJudge.{Owned, own, belonging, entryCount, ownedLines, PlainState, filled, plainStart, plainRefusal, plainJudged, plainClosing, plainCall, plainRun}
 use Rattle.judge.specs.Claim.{acceptedBy, accepted, verdictBy, lineVerdict, counted}
 use Rattle.judge.proofs.Counting.{slot-stays}
+use Rattle.judge.proofs.Refusals.{passed-by}
 use Rattle.judge.proofs.Orders.{neither, Order, less, same, more, order}
 
 -- ---- one judge shown by another
@@ -125,27 +126,7 @@ module _ (h : List Subject) (s : Subject) where
           rw (y, z) (ap (added (verdict s e)) ih)
       go (more g x y) ih = rw y (slot-stays (verdictBy (only h k) e) (map (verdict s) (belonging (length h) ls)) (slotsIn (h ++ (s ∷ [])) ls) (slotsIn h ls) ih)
 
--- ---- tests that do not apply
-
-pub passed-by : (n : ℕ) (b : Bool) (later : List (Option Refusal)) → firstRefusal (refusedIf n b ∷ later) ≡ none → (b ≡ false) × (firstRefusal later ≡ none)
-unfolding firstRefusal refusedIf
-passed-by n true later e = (cc, cc)
-passed-by n false later e = (refl, e)
-
-pub pass : (n : ℕ) (later : List (Option Refusal)) → firstRefusal (refusedIf n false ∷ later) ≡ firstRefusal later
-unfolding firstRefusal refusedIf
-pass n later = refl
-
-pub alone : (o : Option Refusal) → firstRefusal (o ∷ []) ≡ o
-unfolding firstRefusal
-alone none = refl
-alone (some r) = refl
-
--- two lists of tests that agree wherever a first test does not apply
-pub agree : (n : ℕ) (b : Bool) (xs ys : List (Option Refusal)) → (b ≡ false → firstRefusal xs ≡ firstRefusal ys) → firstRefusal (refusedIf n b ∷ xs) ≡ firstRefusal (refusedIf n b ∷ ys)
-unfolding firstRefusal refusedIf
-agree n true xs ys f = refl
-agree n false xs ys f = f refl
+-- ---- numbers
 
 -- a number that is not refused is the next, and is 0 for the handshake or one of the entries
 pub data Fits (entries : ℕ) : ℕ → Handed → Type 0 where

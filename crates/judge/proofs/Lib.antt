@@ -1,8 +1,11 @@
 pub mod Counting
 pub mod Orders
+pub mod Refusals
 pub mod Lines
 pub mod History
 pub mod Ours
 pub mod LentRead
 pub mod DemandThree
 pub mod JudgeExamples
+pub mod JudgeLaws
+pub mod RangeLaws

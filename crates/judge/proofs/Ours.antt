@@ -31,9 +31,10 @@ use Rattle.judge.specs.PlainJudge.{Owned, own, saidOn, belonging, entryC
 use Rattle.judge.specs.Judge.{Lent, JudgeState, allIn, rangeFor, recordsIn, saidBy, pastEntries, rangeOutside, outOfReach, fewSlots, rangeRefusals, judgeRefusal, judgedBy, judged, closeRefusal, closeAnswer, judgeStep}
 use Rattle.judge.specs.Claim.{saidOf, slotOver, slotsOver, stateOver, verdictBy}
 use Rattle.judge.proofs.Counting.{few-counted}
+use Rattle.judge.proofs.Refusals.{pass, alone, agree}
 use Rattle.judge.proofs.Orders.{Order, less, same, more, order}
 use Rattle.judge.proofs.Lines.{Rising, lines-rise, earlier, earlier-none, belonging-none, belonging-fit, belonging-cut}
-use Rattle.judge.proofs.History.{only, length-snoc, slotIn, slotsIn, countsIn, slot-snoc, count-slots, pass, alone, agree, Fits, right-number, plainOf, historyCall, Unrefused, unrefused}
+use Rattle.judge.proofs.History.{only, length-snoc, slotIn, slotsIn, countsIn, slot-snoc, count-slots, Fits, right-number, plainOf, historyCall, Unrefused, unrefused}
 
 -- ---- what reading ensures
 

@@ -118,11 +118,15 @@ module _ (k : Lent) where
 
 -- ---- the scratch
 
--- Present values are written at the start of the scratch, each over the last.
+-- A present value is written at the start of the scratch.
+unfoldable pub overwrittenBy : (value : Option (List ℕ)) → (scratch : List ℕ) → List ℕ
+overwrittenBy none scratch = scratch
+overwrittenBy (some value) scratch = overlaid value scratch
+
+-- each over the last
 unfoldable pub overwritten : (values : List (Option (List ℕ))) → (scratch : List ℕ) → List ℕ
 overwritten [] scratch = scratch
-overwritten (none ∷ values) scratch = overwritten values scratch
-overwritten (some value ∷ values) scratch = overwritten values (overlaid value scratch)
+overwritten (value ∷ values) scratch = overwritten values (overwrittenBy value scratch)
 
 -- a scratch stays as it was where the judging is refused
 unfoldable pub overwrittenOr : Option Refusal → (values : List (Option (List ℕ))) → (scratch : List ℕ) → List ℕ

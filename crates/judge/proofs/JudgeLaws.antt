@@ -1,0 +1,124 @@
+-- What holds where a judging is not refused, as its code needs it; and that judging the handshake does not look at the entries. Assumes nothing.
+use mathlib.Core.Path.{_≡_, refl, sym, ap, _∙_}
+use mathlib.Core.Bool.{Bool, true, false, not}
+use mathlib.Core.Option.{Option, none, some}
+use mathlib.Core.List.{List, [], _∷_, map}
+use Prim.Native.Nat.{ℕ, zero, suc, _+_, _-_, _≤_, _<_, min}
+use native.Mathlib.Omega.{arith}
+use lib.ListN.{length}
+use lib.Dec.{ltb, leb, eqb}
+use borrow.Author.Tests.{ltb-false, leb-true, eqb-true, eqb-false, not-false, not-true}
+use Rattle.text.specs.Base.{_&_, _or_}
+use Rattle.text.proofs.Scan.{both, never}
+use Rattle.script.specs.Reading.{room}
+use Rattle.script.specs.declared.records.Items.{Items}
+use Rattle.script.specs.declared.records.Entry.{Entry}
+use Rattle.script.specs.declared.records.Expectation.{Expectation}
+use Rattle.script.specs.declared.records.Script.{Script}
+use Rattle.script.specs.declared.response.HandshakeInfo.{HandshakeInfo}
+use Rattle.script.specs.declared.response.DaemonResponse.{DaemonResponse}
+use Rattle.verdicts.specs.Lookup.{looked}
+use Rattle.verdicts.specs.Held.{inside}
+use Rattle.judge.specs.declared.tally.Counts.{Counts}
+use Rattle.judge.specs.declared.tally.Tally.{Tally}
+use Rattle.judge.specs.declared.calls.Handed.{Handed}
+use Rattle.judge.specs.declared.calls.Handed.the-variants.{Info, Response}
+use Rattle.judge.specs.Tally.{overLimit}
+use Rattle.judge.specs.Calls.{Judging, Call, judge, subjectOf, wrongNumber, partOutside, tooLong}
+use Rattle.judge.specs.Judge.{Lent, JudgeState, allIn, rangeFor, recordsIn, saidBy, pastEntries, rangeOutside, outOfReach, fewSlots, rangeRefusals, judgeRefusal, judgedBy, judged, scratchAfter, judgeStep}
+use Rattle.judge.proofs.Orders.{neither}
+use Rattle.judge.proofs.Refusals.{passed-by}
+
+-- ---- no test applies
+
+pub record Clear (k : Lent) (t : Tally) (places : ℕ) (j : Judging) : Type 0 where
+  pub few : overLimit (t .counts) ≡ false
+  pub number : wrongNumber (t .next) (j .number) (pastEntries k (j .number)) (j .handed) ≡ false
+  pub reach : outOfReach k (rangeFor k (j .number) (j .handed)) ≡ false
+  pub parts : partOutside j ≡ false
+  pub slots : fewSlots k places ≡ false
+  pub values : tooLong (j .scratch) (map (looked (subjectOf j)) (saidBy k (rangeFor k (j .number) (j .handed)))) ≡ false
+
+pub clear : (k : Lent) (t : Tally) (places : ℕ) (j : Judging) → judgeRefusal k t places j ≡ none → Clear k t places j
+unfolding judgeRefusal rangeRefusals
+clear k t places j e =
+    let r : Items = rangeFor k (j .number) (j .handed) in
+    let a = passed-by 36 (overLimit (t .counts)) _ e in
+    let b = passed-by 33 (wrongNumber (t .next) (j .number) (pastEntries k (j .number)) (j .handed)) _ (a .1) in
+    let c = passed-by 31 (outOfReach k r) _ (b .1) in
+    let d = passed-by 32 (partOutside j) _ (c .1) in
+    let f = passed-by 35 (fewSlots k places) _ (d .1) in
+    let g = passed-by 34 (tooLong (j .scratch) (map (looked (subjectOf j)) (saidBy k r))) _ (f .1) in
+    record { few = a .0; number = b .0; reach = c .0; parts = d .0; slots = f .0; values = g .0 }
+
+-- ---- what each says
+
+pub few-counts : (c : Counts) → overLimit c ≡ false → (c .passed ≤ 0x8000) × (c .failed ≤ 0x8000) × (c .undecided ≤ 0x8000)
+unfolding overLimit
+few-counts c e =
+    let a = neither (ltb 0x8000 (c .passed)) _ e in
+    let b = neither (ltb 0x8000 (c .failed)) _ (a .1) in
+    (ltb-false 0x8000 (c .passed) (a .0), ltb-false 0x8000 (c .failed) (b .0), ltb-false 0x8000 (c .undecided) (b .1))
+
+-- the handshake is number 0, and next
+pub handshake-next : (next n : ℕ) (past : Bool) (i : HandshakeInfo) → wrongNumber next n past (Info i) ≡ false → (n ≡ next) × (n ≡ 0)
+unfolding wrongNumber
+handshake-next next n past i e =
+    let a = neither (not (eqb n next)) _ e in
+    (eqb-true n next (not-false (eqb n next) (a .0)), eqb-true n 0 (not-false (eqb n 0) (a .1)))
+
+-- an entry is next, and stands in the table
+pub entry-next : (k : Lent) (next n : ℕ) (r : DaemonResponse) → wrongNumber next n (pastEntries k n) (Response r) ≡ false
+    → (n ≡ next) × (0 < n) × (n ≤ k .script .counts .entries) × (n ≤ length (k .entries)) × (n ≤ 0x8000)
+unfolding wrongNumber pastEntries room
+entry-next k next n r e =
+    let a = neither (not (eqb n next)) (eqb n 0 or ltb (k .script .counts .entries) n or ltb (min 0x8000 (length (k .entries))) n) e in
+    let b = neither (eqb n 0) (ltb (k .script .counts .entries) n or ltb (min 0x8000 (length (k .entries))) n) (a .1) in
+    let c = neither (ltb (k .script .counts .entries) n) (ltb (min 0x8000 (length (k .entries))) n) (b .1) in
+    let z : n ≡ 0 → ⊥ = eqb-false n 0 (b .0) in
+    let l : n ≤ min 0x8000 (length (k .entries)) = ltb-false (min 0x8000 (length (k .entries))) n (c .1) in
+    (eqb-true n next (not-false (eqb n next) (a .0)), omega arith, ltb-false (k .script .counts .entries) n (c .0), omega arith, omega arith)
+
+-- a range that is not empty lies in the table and in the verdict list, and all of it in the text
+module _ (k : Lent) (r : Items) (places : ℕ) (reach : outOfReach k r ≡ false) where
+  pub all-in-text : allIn (k .text) (recordsIn k r) ≡ true
+  unfolding outOfReach
+  all-in-text = not-false (allIn (k .text) (recordsIn k r)) (neither (rangeOutside k r) _ reach .1)
+
+  pub range-fits : fewSlots k places ≡ false → 0 < r .count
+      → (r .first + r .count ≤ length (k .expectations)) × (r .first + r .count ≤ places) × (r .first + r .count ≤ 0x8000)
+  unfolding outOfReach rangeOutside fewSlots room inside
+  range-fits slots nonempty =
+      let n : ℕ = min (k .script .counts .expectations) (min 0x8000 (length (k .expectations))) in
+      let a = neither (not (eqb (r .count) 0) & not (leb (r .first) n & leb (r .count) (n - r .first))) _ reach in
+      let b : leb (r .first) n & leb (r .count) (n - r .first) ≡ true = go (eqb (r .count) 0) (leb (r .first) n & leb (r .count) (n - r .first)) refl (a .0) in
+      let c = both (leb (r .first) n) (leb (r .count) (n - r .first)) b in
+      let d : r .first ≤ n = leb-true (r .first) n (c .0) in
+      let e : r .count ≤ n - r .first = leb-true (r .count) (n - r .first) (c .1) in
+      let f : k .script .counts .expectations ≤ min 0x8000 places = ltb-false (min 0x8000 places) (k .script .counts .expectations) slots in
+      (omega arith, omega arith, omega arith)
+    where
+      go : (z b : Bool) → eqb (r .count) 0 ≡ z → (not z & not b) ≡ false → b ≡ true
+      go true b h e = let q : r .count ≡ 0 = eqb-true (r .count) 0 h in let w : ⊥ = omega arith in absurd w
+      go false b h e = not-false b e
+
+-- ---- the handshake needs no table of entries
+
+module _ (text : List ℕ) (script : Script) (expectations : List Expectation) (entries : List Entry) where
+  abbrev alone : Lent
+  alone = record { text = text; script = script; entries = []; expectations = expectations }
+
+  abbrev whole : Lent
+  whole = record { text = text; script = script; entries = entries; expectations = expectations }
+
+  module _ (i : HandshakeInfo) (number : ℕ) (bytes : List ℕ) (lists : List (List ℕ)) (scratch : ℕ) where
+    abbrev greeted : Judging
+    greeted = record { number = number; handed = Info i; bytes = bytes; lists = lists; scratch = scratch }
+
+    pub no-entries : (s : JudgeState) → judgeStep alone s (judge greeted) ≡ judgeStep whole s (judge greeted)
+    unfolding judgeStep judged judgeRefusal rangeRefusals wrongNumber rangeFor outOfReach rangeOutside fewSlots recordsIn saidBy judgedBy
+    no-entries s = refl
+
+    pub no-entries-scratch : (t : Tally) (places : ℕ) (old : List ℕ) → scratchAfter alone t places greeted old ≡ scratchAfter whole t places greeted old
+    unfolding scratchAfter judgeRefusal rangeRefusals wrongNumber rangeFor outOfReach rangeOutside fewSlots recordsIn saidBy
+    no-entries-scratch t places old = refl
