@@ -2,8 +2,8 @@
 -- answers, tally and verdict list are the plain judge's. `in-words`: the same in the user's words. Assumes nothing.
 use mathlib.Core.Path.{_≡_, refl, sym, ap, ap₂, _∙_}
 use mathlib.Core.Logic.{_≢_}
-use mathlib.Core.Bool.{Bool, true, false, not}
-use mathlib.Core.Option.{Option, none, some}
+use mathlib.Core.Bool.{not}
+use mathlib.Core.Option.{Option, none}
 use mathlib.Core.List.{List, [], _∷_, _++_, map}
 use Prim.Native.Nat.{ℕ, zero, suc, _+_, _≤_, _<_}
 use native.Mathlib.Omega.{arith}
@@ -14,26 +14,23 @@ use lib.Dec.{eqb}
 use borrow.Author.Tests.{eq-eqb, ne-eqb}
 use Rattle.text.specs.declared.lines.Line.{Line}
 use Rattle.script.specs.Layout.{Reading}
-use Rattle.script.specs.Reading.{refusal}
-use Rattle.script.specs.Plain.{PlainLine, expects, plainLines, opened, expectationLines, owners}
+use Rattle.script.specs.Plain.{PlainLine, expects, plainLines, opened, owners}
 use Rattle.script.proofs.ExpectLines.{expect-lines}
 use Rattle.script.specs.declared.records.Counts as Script
 use Rattle.script.specs.declared.records.Entry.{Entry}
 use Rattle.script.specs.declared.records.Expectation.{Expectation}
-use Rattle.script.specs.declared.records.Refusal.{Refusal}
 use Rattle.verdicts.specs.Told.{Subject}
 use Rattle.verdicts.specs.declared.Verdict.{Verdict}
 use Rattle.verdicts.proofs.CodeLaws.{decode-code}
 use Rattle.judge.specs.declared.calls.Answer.{Answer}
-use Rattle.judge.specs.declared.calls.Answer.the-variants.{Refused, Closed}
 use Rattle.judge.specs.Tally.{outcomeOf}
 use Rattle.judge.specs.Calls.{Call, close, refusedIf, closedOr, run}
-use Rattle.judge.specs.PlainJudge.{Owned, own, saidOn, entryCount, ownedLines, PlainState, plainClosing, plainCall, plainRun}
+use Rattle.judge.specs.PlainJudge.{Owned, own, saidOn, entryCount, ownedLines, plainClosing, plainCall, plainRun}
 use Rattle.judge.specs.Judge.{Lent, JudgeState, judgeStart, judgeStep}
-use Rattle.judge.specs.Claim.{AsRead, slotsOver, stateOver, ourRun, accepted, verdictBy, lineVerdict, lineVerdicts, counted, numberOf, saidOf, InWords}
+use Rattle.judge.specs.Claim.{AsRead, slotsOver, stateOver, ourRun, accepted, verdictBy, lineVerdict, lineVerdicts, counted, InWords}
 use Rattle.judge.proofs.Counting.{passed-exactly}
 use Rattle.judge.proofs.Lines.{lines-numbers, lines-said, owners-below}
-use Rattle.judge.proofs.History.{run-shown, run-keeps, only, only-one, only-past, only-within, slotIn, slotsIn, plainOf, historyCall, plain-shown, Good, good-call, accepted-run, no-slots, none-counted, plain-begin}
+use Rattle.judge.proofs.History.{run-shown, run-keeps, only, only-one, only-past, only-within, slotsIn, plainOf, historyCall, plain-shown, Good, good-call, accepted-run, no-slots, none-counted, plain-begin}
 use Rattle.judge.proofs.Ours.{Agrees, shows, our-shown}
 use Rattle.judge.proofs.LentRead.{read-agrees}
 

@@ -1,32 +1,29 @@
 -- A run is settled by its history: what the unrefused judgings were judged against, in order, the first of number 0, the next of number 1 and so on.
 -- The plain judge's state is a function of the history, and each call adds one to it or none. Assumes nothing.
 use mathlib.Core.Path.{_≡_, refl, sym, ap, ap₂, _∙_}
-use mathlib.Core.Bool.{Bool, true, false, not}
+use mathlib.Core.Bool.{true, false, not}
 use mathlib.Core.Option.{Option, none, some}
 use mathlib.Core.List.{List, [], _∷_, _++_, map, append-assoc, append-nil}
 use Prim.Native.Nat.{ℕ, zero, suc, _+_, _≤_, _<_}
 use native.Mathlib.Omega.{arith}
 use lib.ListN.{length, replicate}
 use lib.Dec.{ltb, eqb, eqb·suc-suc, eqb·zero-suc, eqb·suc-zero}
-use borrow.Author.Tests.{lt-ltb, le-ltb, eq-eqb, ne-eqb, ltb-false, eqb-true, not-false}
+use borrow.Author.Tests.{eq-eqb, ne-eqb, ltb-false, eqb-true, not-false}
 use Rattle.text.specs.Base.{if_then_else_, _or_}
 use Rattle.text.proofs.Scan.{never}
-use Rattle.script.specs.Reading.{refusal}
 use Rattle.script.specs.declared.records.Refusal.{Refusal}
 use Rattle.verdicts.specs.Expected.{Expected}
 use Rattle.verdicts.specs.Told.{Subject}
-use Rattle.verdicts.specs.Lookup.{looked}
 use Rattle.verdicts.specs.Verdicts.{verdict}
 use Rattle.verdicts.specs.declared.Verdict.{Verdict}
 use Rattle.judge.specs.declared.tally.Counts.{Counts}
 use Rattle.judge.specs.declared.calls.Handed.{Handed}
 use Rattle.judge.specs.declared.calls.Handed.the-variants.{Info, Response}
 use Rattle.judge.specs.declared.calls.Answer.{Answer}
-use Rattle.judge.specs.declared.calls.Answer.the-variants.{Refused, Judged, Closed}
-use Rattle.judge.specs.Tally.{noCounts, added, addedAll, outcomeOf}
-use Rattle.judge.specs.Calls.{Judging, Call, judge, close, subjectOf, wrongNumber, partOutside, tooLong, refusedIf, firstRefusal, judgedOr, closedOr, run}
-use Rattle.judge.specs.PlainJudge.{Owned, own, belonging, entryCount, ownedLines, PlainState, filled, plainStart, plainRefusal, plainJudged, plainClosing, plainCall, plainRun}
-use Rattle.judge.specs.Claim.{acceptedBy, accepted, verdictBy, lineVerdict, counted}
+use Rattle.judge.specs.Tally.{noCounts, added, addedAll}
+use Rattle.judge.specs.Calls.{Judging, Call, judge, close, subjectOf, wrongNumber, partOutside, judgedOr, run}
+use Rattle.judge.specs.PlainJudge.{Owned, own, belonging, entryCount, ownedLines, PlainState, filled, plainStart, plainRefusal, plainJudged, plainClosing, plainCall}
+use Rattle.judge.specs.Claim.{acceptedBy, accepted, verdictBy, counted}
 use Rattle.judge.proofs.Counting.{slot-stays}
 use Rattle.judge.proofs.Refusals.{passed-by}
 use Rattle.judge.proofs.Orders.{neither, Order, less, same, more, order}

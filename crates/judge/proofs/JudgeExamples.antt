@@ -3,8 +3,8 @@
 use Prim.Native.Nat.{ℕ}
 use Prim.Native.String.{String}
 use mathlib.Core.Path.{_≡_, refl}
-use mathlib.Core.List.{List, [], _∷_, map}
-use mathlib.Core.Option.{Option, none, some}
+use mathlib.Core.List.{List, [], _∷_}
+use mathlib.Core.Option.{some}
 use Rattle.text.specs.Base as text-Base
 use Rattle.text.specs.Lines as text-Lines
 use Rattle.text.specs.Literal as text-Literal
@@ -35,7 +35,6 @@ use Rattle.script.specs.Timestamps as script-Timestamps
 use Rattle.script.specs.Values as script-Values
 use Rattle.script.specs.Layout.{Reading}
 use Rattle.script.specs.Reading.{Parsed, refusedAt, read, refusal, parsed}
-use Rattle.script.specs.declared.records.Place.{Place}
 use Rattle.script.specs.declared.records.Items.{Items}
 use Rattle.script.specs.declared.records.Maybe.the-variants as Maybe
 use Rattle.script.specs.declared.response.MaybeNumber.{MaybeNumber}
@@ -46,8 +45,7 @@ use Rattle.verdicts.specs.Decisions as verdicts-Decisions
 use Rattle.verdicts.specs.Held as verdicts-Held
 use Rattle.verdicts.specs.Lookup as verdicts-Lookup
 use Rattle.verdicts.specs.Verdicts as verdicts-Verdicts
-use Rattle.verdicts.specs.declared.Verdict.{Verdict}
-use Rattle.verdicts.specs.declared.Verdict.the-variants.{Passed, Failed, Undecided}
+use Rattle.verdicts.specs.declared.Verdict.the-variants.{Passed, Failed}
 use Rattle.tables.specs.Written as tables-Written
 use Rattle.judge.specs.Tally as judge-Tally
 use Rattle.judge.specs.Calls as judge-Calls

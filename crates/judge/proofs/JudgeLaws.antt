@@ -1,15 +1,15 @@
 -- What holds where a judging is not refused, as its code needs it; and that judging the handshake does not look at the entries. Assumes nothing.
-use mathlib.Core.Path.{_≡_, refl, sym, ap, _∙_}
+use mathlib.Core.Path.{_≡_, refl}
 use mathlib.Core.Bool.{Bool, true, false, not}
-use mathlib.Core.Option.{Option, none, some}
-use mathlib.Core.List.{List, [], _∷_, map}
-use Prim.Native.Nat.{ℕ, zero, suc, _+_, _-_, _≤_, _<_, min}
+use mathlib.Core.Option.{none}
+use mathlib.Core.List.{List, [], map}
+use Prim.Native.Nat.{ℕ, _+_, _-_, _≤_, _<_, min}
 use native.Mathlib.Omega.{arith}
 use lib.ListN.{length}
 use lib.Dec.{ltb, leb, eqb}
-use borrow.Author.Tests.{ltb-false, leb-true, eqb-true, eqb-false, not-false, not-true}
+use borrow.Author.Tests.{ltb-false, leb-true, eqb-true, eqb-false, not-false}
 use Rattle.text.specs.Base.{_&_, _or_}
-use Rattle.text.proofs.Scan.{both, never}
+use Rattle.text.proofs.Scan.{both}
 use Rattle.script.specs.Reading.{room}
 use Rattle.script.specs.declared.records.Items.{Items}
 use Rattle.script.specs.declared.records.Entry.{Entry}
@@ -21,10 +21,9 @@ use Rattle.verdicts.specs.Lookup.{looked}
 use Rattle.verdicts.specs.Held.{inside}
 use Rattle.judge.specs.declared.tally.Counts.{Counts}
 use Rattle.judge.specs.declared.tally.Tally.{Tally}
-use Rattle.judge.specs.declared.calls.Handed.{Handed}
 use Rattle.judge.specs.declared.calls.Handed.the-variants.{Info, Response}
 use Rattle.judge.specs.Tally.{overLimit}
-use Rattle.judge.specs.Calls.{Judging, Call, judge, subjectOf, wrongNumber, partOutside, tooLong}
+use Rattle.judge.specs.Calls.{Judging, judge, subjectOf, wrongNumber, partOutside, tooLong}
 use Rattle.judge.specs.Judge.{Lent, JudgeState, allIn, rangeFor, recordsIn, saidBy, pastEntries, rangeOutside, outOfReach, fewSlots, rangeRefusals, judgeRefusal, judgedBy, judged, scratchAfter, judgeStep}
 use Rattle.judge.proofs.Orders.{neither}
 use Rattle.judge.proofs.Refusals.{passed-by}

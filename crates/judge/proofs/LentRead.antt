@@ -1,16 +1,15 @@
 -- What is lent is as Read left it: the tables hold what the lines of the text ask for. Assumes nothing.
 use mathlib.Core.Path.{_≡_, refl, sym, ap, ap₂, _∙_}
-use mathlib.Core.Bool.{Bool, true, false, not}
-use mathlib.Core.Option.{Option, none, some}
+use mathlib.Core.Bool.{Bool, true, false}
 use mathlib.Core.List.{List, [], _∷_, _++_, map}
-use Prim.Native.Nat.{ℕ, zero, suc, _+_, _-_, _≤_, _<_, min}
+use Prim.Native.Nat.{ℕ, zero, suc, _+_, _-_, _≤_, _<_}
 use native.Mathlib.Omega.{arith}
 use native.Mathlib.Nat.{le-refl, le-of-suc-le-suc, not-suc-le-zero}
 use lib.ListN.{length, take, drop, getD, length-append, length-map, List·getD-append, List·getD-map}
-use lib.Dec.{ltb, leb, eqb}
+use lib.Dec.{ltb}
 use lib.Seq.{take-at}
-use borrow.Author.Tests.{lt-ltb, le-ltb, le-leb, eq-eqb, ne-eqb, ltb-false}
-use Rattle.text.specs.Base.{if_then_else_, _&_}
+use borrow.Author.Tests.{lt-ltb, le-leb, eq-eqb, ne-eqb, ltb-false}
+use Rattle.text.specs.Base.{if_then_else_}
 use Rattle.text.specs.declared.lines.Line.{Line}
 use Rattle.script.specs.Answers.{firstOf}
 use Rattle.script.specs.Values.{plainRules}
@@ -41,7 +40,7 @@ use Rattle.slots.specs.Blank.{blankEntry}
 use Rattle.judge.specs.declared.calls.Handed.{Handed}
 use Rattle.judge.specs.declared.calls.Handed.the-variants.{Info, Response}
 use Rattle.judge.specs.Calls.{said}
-use Rattle.judge.specs.PlainJudge.{Owned, own, owned, saidOn, belonging, entryCount, ownedLines}
+use Rattle.judge.specs.PlainJudge.{owned, saidOn, belonging, entryCount, ownedLines}
 use Rattle.judge.specs.Judge.{Lent, allIn, rangeFor}
 use Rattle.judge.specs.Claim.{saidOf, AsRead}
 use Rattle.judge.proofs.Lines.{linesBy, lines-said, Rising, lines-rise, earlier, earlier-none, belonging-none}

@@ -1,14 +1,13 @@
 -- The expectation lines in line order: their numbers never fall, so those that belong to n stand together, behind those of smaller numbers.
 -- Assumes nothing.
-use mathlib.Core.Path.{_≡_, refl, sym, ap, _∙_}
-use mathlib.Core.Bool.{true, false}
+use mathlib.Core.Path.{_≡_, refl, ap, _∙_}
 use mathlib.Core.List.{List, [], _∷_, _++_, map}
-use Prim.Native.Nat.{ℕ, zero, suc, _+_, _≤_, _<_}
+use Prim.Native.Nat.{ℕ, suc, _+_, _≤_, _<_}
 use native.Mathlib.Omega.{arith}
 use native.Mathlib.Nat.{le-refl}
 use lib.ListN.{length, take, drop}
-use lib.Dec.{ltb, eqb}
-use borrow.Author.Tests.{lt-ltb, le-ltb, eq-eqb, ne-eqb}
+use lib.Dec.{ltb}
+use borrow.Author.Tests.{le-ltb, ne-eqb}
 use Rattle.text.specs.Base.{if_then_else_}
 use Rattle.text.specs.declared.lines.Line.{Line}
 use Rattle.script.specs.Plain.{PlainLine, expects, opens, other, opened, expectationLines, owners}

@@ -1,6 +1,6 @@
 -- Our judge over tables that hold what the lines of the text ask for: its refusals and its verdict list are those that the history says. Assumes nothing.
-use mathlib.Core.Path.{_≡_, refl, sym, ap, ap₂, _∙_}
-use mathlib.Core.Bool.{Bool, true, false, not}
+use mathlib.Core.Path.{_≡_, refl, sym, ap, _∙_}
+use mathlib.Core.Bool.{true, false, not}
 use mathlib.Core.Option.{Option, none, some}
 use mathlib.Core.List.{List, [], _∷_, _++_, map, append-assoc}
 use Prim.Native.Nat.{ℕ, zero, suc, _+_, _-_, _≤_, _<_, min}
@@ -18,22 +18,20 @@ use Rattle.script.specs.declared.records.Expectation.{Expectation}
 use Rattle.script.specs.declared.records.Refusal.{Refusal}
 use Rattle.verdicts.specs.Expected.{Expected}
 use Rattle.verdicts.specs.Told.{Subject}
-use Rattle.verdicts.specs.Lookup.{looked}
 use Rattle.verdicts.specs.Verdicts.{verdict, code}
-use Rattle.verdicts.specs.Held.{expectedOf, expectIn, ranged, inside}
+use Rattle.verdicts.specs.Held.{expectedOf, expectIn, inside}
 use Rattle.verdicts.specs.declared.Verdict.{Verdict}
 use Rattle.tables.specs.Written.{writtenAt}
 use Rattle.judge.specs.declared.calls.Handed.{Handed}
-use Rattle.judge.specs.declared.calls.Answer.{Answer}
-use Rattle.judge.specs.Tally.{addedAll, outcomeOf, overLimit}
-use Rattle.judge.specs.Calls.{Judging, Call, judge, close, subjectOf, said, wrongNumber, partOutside, tooLong, refusedIf, firstRefusal, judgedOr, closedOr, run}
-use Rattle.judge.specs.PlainJudge.{Owned, own, saidOn, belonging, entryCount, ownedLines, PlainState, plainRefusal, plainClosing}
+use Rattle.judge.specs.Tally.{outcomeOf, overLimit}
+use Rattle.judge.specs.Calls.{Judging, Call, judge, close, subjectOf, said, wrongNumber, judgedOr, closedOr}
+use Rattle.judge.specs.PlainJudge.{Owned, own, belonging, entryCount, ownedLines, plainRefusal, plainClosing}
 use Rattle.judge.specs.Judge.{Lent, JudgeState, allIn, rangeFor, recordsIn, saidBy, pastEntries, rangeOutside, outOfReach, fewSlots, rangeRefusals, judgeRefusal, judgedBy, judged, closeRefusal, closeAnswer, judgeStep}
 use Rattle.judge.specs.Claim.{saidOf, slotOver, slotsOver, stateOver, verdictBy}
 use Rattle.judge.proofs.Counting.{few-counted}
 use Rattle.judge.proofs.Refusals.{pass, alone, agree}
 use Rattle.judge.proofs.Orders.{Order, less, same, more, order}
-use Rattle.judge.proofs.Lines.{Rising, lines-rise, earlier, earlier-none, belonging-none, belonging-fit, belonging-cut}
+use Rattle.judge.proofs.Lines.{Rising, earlier, earlier-none, belonging-none, belonging-fit, belonging-cut}
 use Rattle.judge.proofs.History.{only, length-snoc, slotIn, slotsIn, countsIn, slot-snoc, count-slots, Fits, right-number, plainOf, historyCall, Unrefused, unrefused}
 
 -- ---- what reading ensures

@@ -1,10 +1,10 @@
 -- A loop over the expectations of a range, one after another: what is left of the range, and a judging that stores, counts and looks up as it goes.
 -- Assumes nothing.
 use mathlib.Core.Path.{_≡_, refl, sym, ap, _∙_}
-use mathlib.Core.Bool.{Bool, true, false, not}
+use mathlib.Core.Bool.{false}
 use mathlib.Core.Option.{Option, none, some}
-use mathlib.Core.List.{List, [], _∷_, _++_, map, append-nil}
-use Prim.Native.Nat.{ℕ, zero, suc, _+_, _-_, _≤_, _<_}
+use mathlib.Core.List.{List, [], _∷_, map, append-nil}
+use Prim.Native.Nat.{ℕ, suc, _+_, _-_, _≤_, _<_}
 use native.Mathlib.Omega.{arith}
 use native.Mathlib.Decide.{decLe}
 use native.Mathlib.Nat.{add-zero}
@@ -12,7 +12,7 @@ use lib.ListN.{length, take, drop, getD, set, length-set, length-take, take-appe
 use lib.Seq.{drop-cons}
 use lib.Dec.{ltb}
 use borrow.Author.Tests.{le-leb, ltb-false}
-use Rattle.text.specs.Base.{_or_, overlaid}
+use Rattle.text.specs.Base.{overlaid}
 use Rattle.script.specs.declared.records.Items.{Items}
 use Rattle.script.specs.declared.records.Expectation.{Expectation}
 use Rattle.verdicts.specs.Expected.{Expected}

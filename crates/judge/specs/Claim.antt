@@ -2,7 +2,6 @@
 use Prim.Native.Nat.{ℕ, suc, _≤_, _<_}
 use mathlib.Core.Path.{_≡_}
 use mathlib.Core.Logic.{_↔_, _≢_}
-use mathlib.Core.Bool.{Bool, true, false}
 use mathlib.Core.List.{List, [], _∷_, _++_, map}
 use mathlib.Core.Option.{Option, none, some}
 use lib.ListN.{length, replicate}
@@ -27,7 +26,7 @@ use Rattle.judge.specs.declared.tally.Outcome.the-variants as Outcome
 use Rattle.judge.specs.declared.calls.Answer.{Answer}
 use Rattle.judge.specs.declared.calls.Answer.the-variants.{Refused, Judged, Closed}
 use Rattle.judge.specs.Tally.{noCounts, added, outcomeOf}
-use Rattle.judge.specs.Calls.{Judging, Call, judge, close, subjectOf, run}
+use Rattle.judge.specs.Calls.{Call, judge, close, subjectOf, run}
 use Rattle.judge.specs.PlainJudge.{Owned, own, saidOn, entryCount, ownedLines, PlainState}
 use Rattle.judge.specs.Judge.{Lent, JudgeState, judgeStart, judgeStep}
 

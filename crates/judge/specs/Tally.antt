@@ -1,6 +1,6 @@
 -- Document 01, "Verdicts": a tally holds the next number (0 handshake, entries from 1) and counts of passed, failed, undecided. Closing says: failed if any
 -- failed; else undecided if any; else nothing checked if there is no verdict; else passed. Assumes nothing.
-use Prim.Native.Nat.{ℕ, _+_}
+use Prim.Native.Nat.{_+_}
 use mathlib.Core.Bool.{Bool}
 use mathlib.Core.List.{List, [], _∷_}
 use lib.Dec.{ltb, eqb}
