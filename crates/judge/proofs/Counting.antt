@@ -52,9 +52,28 @@ count-most Passed c = (omega arith, omega arith, omega arith)
 count-most Failed c = (omega arith, omega arith, omega arith)
 count-most Undecided c = (omega arith, omega arith, omega arith)
 
-pub within-limit : (c : Counts) → ((v : Verdict) → count v c ≤ 0x8000) → overLimit c ≡ false
+-- ---- 36
+
+pub over-passed : (c : Counts) → 0x8000 < c .passed → overLimit c ≡ true
 unfolding overLimit
-within-limit c h = rw (le-ltb 0x8000 (c .passed) (h Passed), le-ltb 0x8000 (c .failed) (h Failed), le-ltb 0x8000 (c .undecided) (h Undecided))
+over-passed c h = rw (lt-ltb 0x8000 (c .passed) h)
+
+pub over-failed : (c : Counts) → c .passed ≤ 0x8000 → 0x8000 < c .failed → overLimit c ≡ true
+unfolding overLimit
+over-failed c g h = rw (le-ltb 0x8000 (c .passed) g, lt-ltb 0x8000 (c .failed) h)
+
+pub over-undecided : (c : Counts) → c .passed ≤ 0x8000 → c .failed ≤ 0x8000 → 0x8000 < c .undecided → overLimit c ≡ true
+unfolding overLimit
+over-undecided c f g h = rw (le-ltb 0x8000 (c .passed) f, le-ltb 0x8000 (c .failed) g, lt-ltb 0x8000 (c .undecided) h)
+
+pub over-none : (c : Counts) → c .passed ≤ 0x8000 → c .failed ≤ 0x8000 → c .undecided ≤ 0x8000 → overLimit c ≡ false
+unfolding overLimit
+over-none c f g h = rw (le-ltb 0x8000 (c .passed) f, le-ltb 0x8000 (c .failed) g, le-ltb 0x8000 (c .undecided) h)
+
+within-limit : (c : Counts) → ((v : Verdict) → count v c ≤ 0x8000) → overLimit c ≡ false
+within-limit c h = over-none c (h Passed) (h Failed) (h Undecided)
+
+-- ---- all passed
 
 all-passed : (os : List (Option Verdict)) → counted os .failed ≡ 0 → counted os .undecided ≡ 0 → verdictsIn os ≡ replicate (counted os .passed) Passed
 unfolding counted verdictsIn

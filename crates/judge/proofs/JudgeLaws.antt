@@ -1,19 +1,22 @@
--- What holds where a judging is not refused, as its code needs it; and that judging the handshake does not look at the entries. Assumes nothing.
-use mathlib.Core.Path.{_≡_, refl}
+-- Laws for the code of Judge and Close: which refusal comes first, what holds where there is none, what Close answers; and that judging the handshake does not
+-- look at the entries. Assumes nothing.
+use mathlib.Core.Path.{_≡_, refl, sym, ap, _∙_}
+use mathlib.Core.Logic.{_≢_}
 use mathlib.Core.Bool.{Bool, true, false, not}
-use mathlib.Core.Option.{none}
+use mathlib.Core.Option.{Option, none, some}
 use mathlib.Core.List.{List, [], map}
 use Prim.Native.Nat.{ℕ, _+_, _-_, _≤_, _<_, min}
 use native.Mathlib.Omega.{arith}
 use lib.ListN.{length}
 use lib.Dec.{ltb, leb, eqb}
-use borrow.Author.Tests.{ltb-false, leb-true, eqb-true, eqb-false, not-false}
+use borrow.Author.Tests.{eq-eqb, ne-eqb, ltb-false, leb-true, eqb-true, eqb-false, not-false}
 use Rattle.text.specs.Base.{_&_, _or_}
 use Rattle.text.proofs.Scan.{both}
-use Rattle.script.specs.Reading.{room}
+use Rattle.script.specs.Reading.{refusal, room}
 use Rattle.script.specs.declared.records.Items.{Items}
 use Rattle.script.specs.declared.records.Entry.{Entry}
 use Rattle.script.specs.declared.records.Expectation.{Expectation}
+use Rattle.script.specs.declared.records.Refusal.{Refusal}
 use Rattle.script.specs.declared.records.Script.{Script}
 use Rattle.script.specs.declared.response.HandshakeInfo.{HandshakeInfo}
 use Rattle.script.specs.declared.response.DaemonResponse.{DaemonResponse}
@@ -22,11 +25,73 @@ use Rattle.verdicts.specs.Held.{inside}
 use Rattle.judge.specs.declared.tally.Counts.{Counts}
 use Rattle.judge.specs.declared.tally.Tally.{Tally}
 use Rattle.judge.specs.declared.calls.Handed.the-variants.{Info, Response}
-use Rattle.judge.specs.Tally.{overLimit}
-use Rattle.judge.specs.Calls.{Judging, judge, subjectOf, wrongNumber, partOutside, tooLong}
-use Rattle.judge.specs.Judge.{Lent, JudgeState, allIn, rangeFor, recordsIn, saidBy, pastEntries, rangeOutside, outOfReach, fewSlots, rangeRefusals, judgeRefusal, judgedBy, judged, scratchAfter, judgeStep}
+use Rattle.judge.specs.declared.calls.Answer.the-variants.{Refused, Closed}
+use Rattle.judge.specs.Tally.{outcomeOf, overLimit}
+use Rattle.judge.specs.Calls.{Judging, judge, subjectOf, wrongNumber, partOutside, tooLong, firstRefusal, closedOr}
+use Rattle.judge.specs.Judge.{Lent, JudgeState, allIn, rangeFor, recordsIn, saidBy, pastEntries, rangeOutside, outOfReach, fewSlots, rangeRefusals, judgeRefusal, judgedBy, judged, scratchAfter, closeRefusal, closeAnswer, judgeStep}
 use Rattle.judge.proofs.Orders.{neither}
-use Rattle.judge.proofs.Refusals.{passed-by}
+use Rattle.judge.proofs.Refusals.{no-test, hit, pass, passed-by}
+
+-- ---- the first test that applies, where those before it do not
+
+module _ (k : Lent) (t : Tally) (places : ℕ) (j : Judging) where
+  abbrev r : Items
+  r = rangeFor k (j .number) (j .handed)
+
+  pub refuse-36 : overLimit (t .counts) ≡ true → some (refusal 36 0) ≡ judgeRefusal k t places j
+  unfolding judgeRefusal
+  refuse-36 e = rw e (sym (hit 36 _))
+
+  module _ (few : overLimit (t .counts) ≡ false) where
+    pub refuse-33 : wrongNumber (t .next) (j .number) (pastEntries k (j .number)) (j .handed) ≡ true → some (refusal 33 0) ≡ judgeRefusal k t places j
+    unfolding judgeRefusal
+    refuse-33 e = rw (few, e) (sym (pass 36 _ ∙ hit 33 _))
+
+    module _ (number : wrongNumber (t .next) (j .number) (pastEntries k (j .number)) (j .handed) ≡ false) where
+      -- those of the range
+      pub refuse-range : firstRefusal (rangeRefusals k r places j) ≡ judgeRefusal k t places j
+      unfolding judgeRefusal
+      refuse-range = rw (few, number) (sym (pass 36 _ ∙ pass 33 _))
+
+module _ (k : Lent) (i : Items) (places : ℕ) (j : Judging) where
+  pub refuse-31 : outOfReach k i ≡ true → some (refusal 31 0) ≡ firstRefusal (rangeRefusals k i places j)
+  unfolding rangeRefusals
+  refuse-31 e = rw e (sym (hit 31 _))
+
+  module _ (reach : outOfReach k i ≡ false) where
+    pub refuse-32 : partOutside j ≡ true → some (refusal 32 0) ≡ firstRefusal (rangeRefusals k i places j)
+    unfolding rangeRefusals
+    refuse-32 e = rw (reach, e) (sym (pass 31 _ ∙ hit 32 _))
+
+    module _ (parts : partOutside j ≡ false) where
+      pub refuse-35 : fewSlots k places ≡ true → some (refusal 35 0) ≡ firstRefusal (rangeRefusals k i places j)
+      unfolding rangeRefusals
+      refuse-35 e = rw (reach, parts, e) (sym (pass 31 _ ∙ pass 32 _ ∙ hit 35 _))
+
+      module _ (slots : fewSlots k places ≡ false) where
+        pub refuse-34 : tooLong (j .scratch) (map (looked (subjectOf j)) (saidBy k i)) ≡ true → some (refusal 34 0) ≡ firstRefusal (rangeRefusals k i places j)
+        unfolding rangeRefusals
+        refuse-34 e = rw (reach, parts, slots, e) (sym (pass 31 _ ∙ pass 32 _ ∙ pass 35 _ ∙ hit 34 _))
+
+        pub refuse-none : tooLong (j .scratch) (map (looked (subjectOf j)) (saidBy k i)) ≡ false → none ≡ firstRefusal (rangeRefusals k i places j)
+        unfolding rangeRefusals
+        refuse-none e = rw (reach, parts, slots, e) (sym (pass 31 _ ∙ pass 32 _ ∙ pass 35 _ ∙ pass 34 _ ∙ no-test))
+
+-- ---- Close
+
+module _ (t : Tally) (entries : ℕ) where
+  pub close-36 : overLimit (t .counts) ≡ true → Refused (refusal 36 0) ≡ closeAnswer t entries
+  unfolding closeAnswer closeRefusal closedOr
+  close-36 e = rw e (sym (ap (λ (o : Option Refusal). closedOr o (outcomeOf (t .counts))) (hit 36 _)))
+
+  module _ (few : overLimit (t .counts) ≡ false) where
+    pub close-37 : t .next ≢ entries + 1 → Refused (refusal 37 0) ≡ closeAnswer t entries
+    unfolding closeAnswer closeRefusal closedOr
+    close-37 h = rw (few, ne-eqb (t .next) (entries + 1) h) (sym (ap (λ (o : Option Refusal). closedOr o (outcomeOf (t .counts))) (pass 36 _ ∙ hit 37 _)))
+
+    pub close-says : t .next ≡ entries + 1 → Closed (outcomeOf (t .counts)) ≡ closeAnswer t entries
+    unfolding closeAnswer closeRefusal closedOr
+    close-says h = rw (few, eq-eqb (t .next) (entries + 1) h) (sym (ap (λ (o : Option Refusal). closedOr o (outcomeOf (t .counts))) (pass 36 _ ∙ pass 37 _ ∙ no-test)))
 
 -- ---- no test applies
 

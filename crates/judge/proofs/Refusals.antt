@@ -8,6 +8,10 @@ use Rattle.script.specs.Reading.{refusal}
 use Rattle.script.specs.declared.records.Refusal.{Refusal}
 use Rattle.judge.specs.Calls.{refusedIf, firstRefusal}
 
+pub no-test : firstRefusal [] ≡ none
+unfolding firstRefusal
+no-test = refl
+
 -- a test that applies
 pub hit : (n : ℕ) (later : List (Option Refusal)) → firstRefusal (refusedIf n true ∷ later) ≡ some (refusal n 0)
 unfolding firstRefusal refusedIf
