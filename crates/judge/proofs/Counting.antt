@@ -62,13 +62,12 @@ pub over-failed : (c : Counts) → c .passed ≤ 0x8000 → 0x8000 < c .failed �
 unfolding overLimit
 over-failed c g h = rw (le-ltb 0x8000 (c .passed) g, lt-ltb 0x8000 (c .failed) h)
 
-pub over-undecided : (c : Counts) → c .passed ≤ 0x8000 → c .failed ≤ 0x8000 → 0x8000 < c .undecided → overLimit c ≡ true
+pub over-last : (c : Counts) → c .passed ≤ 0x8000 → c .failed ≤ 0x8000 → overLimit c ≡ ltb 0x8000 (c .undecided)
 unfolding overLimit
-over-undecided c f g h = rw (le-ltb 0x8000 (c .passed) f, le-ltb 0x8000 (c .failed) g, lt-ltb 0x8000 (c .undecided) h)
+over-last c f g = rw (le-ltb 0x8000 (c .passed) f, le-ltb 0x8000 (c .failed) g)
 
 pub over-none : (c : Counts) → c .passed ≤ 0x8000 → c .failed ≤ 0x8000 → c .undecided ≤ 0x8000 → overLimit c ≡ false
-unfolding overLimit
-over-none c f g h = rw (le-ltb 0x8000 (c .passed) f, le-ltb 0x8000 (c .failed) g, le-ltb 0x8000 (c .undecided) h)
+over-none c f g h = over-last c f g ∙ le-ltb 0x8000 (c .undecided) h
 
 within-limit : (c : Counts) → ((v : Verdict) → count v c ≤ 0x8000) → overLimit c ≡ false
 within-limit c h = over-none c (h Passed) (h Failed) (h Undecided)
