@@ -1,6 +1,6 @@
 // The lines of a listing. Each function writes from `at` on and says where the next byte goes.
 ghost use mathlib.Core.Path.{_≡_};
-ghost use Prim.Native.Nat.{_+_, _≤_, _<_};
+ghost use Prim.Native.Nat.{_+_, _≤_};
 ghost use lib.ListN.{length};
 ghost use Rattle.tables.specs.Written.{writtenAt};
 ghost use Rattle.listing.specs.Listing.{opOf, versionWords, headerLine, entryLine, refusalLine};

@@ -1,7 +1,8 @@
 -- `dump::bytes::unsigned` meets its contract. Assumes nothing.
 use mir.Syntax.{w64}
 use mir.Val.{SFits}
-use Rattle.dump.proofs.SignedLaws.{one-more, taken-off, no-sign, n-fits, n-room, low-is, high-sign, high-fits, high-is}
+use Rattle.writing.proofs.SignedLaws.{one-more, taken-off, no-sign, n-fits, high-sign, high-fits}
+use Rattle.dump.proofs.SignedLaws.{n-room, low-is, high-is}
 use borrow.Author.Needs.{needs}
 use Rattle.dump.proofs.bytes.unsigned.Statement.{statement}
 use Rattle.dump.proofs.bytes.unsigned.Tie as tie
