@@ -3,8 +3,6 @@ use Prim.Native.Nat.{ℕ, _+_, _-_, _≤_}
 use mathlib.Core.Path.{_≡_, refl, sym, ap, _∙_}
 use mathlib.Core.List.{List, [], _++_, append-assoc}
 use native.Mathlib.Omega.{arith}
-use lib.Dec.{leb}
-use borrow.Author.Tests.{le-leb}
 use lib.ListN.{length, take, drop, length-drop, length-append}
 use lib.Seq.{length-take-le}
 use Rattle.text.specs.Base.{part, overlaid}
@@ -17,7 +15,7 @@ use Rattle.writing.specs.Room.{left, lessBy}
 use Rattle.writing.specs.declared.room.Room.{Room}
 use Rattle.writing.specs.declared.room.Room.the-variants.{Left, Short}
 use Rattle.writing.proofs.RoomLaws.{left-more}
-use Rattle.writing.proofs.PutLaws.{Wrote, wrote-then, wrote-length}
+use Rattle.writing.proofs.PutLaws.{Wrote, wrote-then, wrote-front}
 use Rattle.frames.specs.Words.{wordBytes, allWords, Spelt}
 use Rattle.frames.specs.Frames.{pieceBytes, frameBytes}
 use Rattle.frames.specs.declared.words.Word.{Word}
@@ -110,14 +108,6 @@ same-wrote at xs ys t u next e w = (w .0 ∙ ap (λ (l : List ℕ). at + length 
 pub wrote-none : (at : ℕ) (t : List ℕ) → at ≤ length t → Wrote at [] t t at
 wrote-none at t h = (omega arith, sym (written-none at t h))
 
--- what stands at the front
-pub at-front : (xs t u : List ℕ) (next : ℕ) → Wrote 0 xs t u next → length xs ≤ length t → (next ≡ length xs) × (u ≡ overlaid xs t)
-unfolding overlaid writtenAt
-at-front xs t u next w h = (omega (arith, w .0), w .1 ∙ front)
-  where
-    front : writtenAt 0 xs t ≡ overlaid xs t
-    front = let e : 0 + length xs ≡ length xs = omega arith in rw (le-leb (length xs) (length t) h, e)
-
 -- three words, each with its piece
 pub three-wrote : (text bytes value : List ℕ) (f : Frame) (t u v w : List ℕ) (a b c : ℕ)
     → Wrote 0 (wordBytes (f .first) ++ pieceBytes text bytes value (f .a)) t u a
@@ -133,4 +123,4 @@ three-wrote text bytes value f t u v w a b c p q r room =
     let Z = wordBytes (f .third) ++ pieceBytes text bytes value (f .c) in
     let xy = wrote-then 0 X Y t u v a b p q (omega (arith, n, length-append (X ++ Y) Z, length-append X Y)) in
     let xyz = wrote-then 0 (X ++ Y) Z t v w b c xy r (omega (arith, n, length-append (X ++ Y) Z)) in
-    at-front (frameBytes text bytes value f) t w c (same-wrote 0 (X ++ Y ++ Z) (frameBytes text bytes value f) t w c (sym e) xyz) room
+    wrote-front (frameBytes text bytes value f) t w c room (same-wrote 0 (X ++ Y ++ Z) (frameBytes text bytes value f) t w c (sym e) xyz)
