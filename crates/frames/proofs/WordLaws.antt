@@ -1,6 +1,6 @@
 -- Where the words stand in their table: each is computed. Assumes nothing.
 use Prim.Native.Nat.{ℕ, _+_, _≤_}
-use mathlib.Core.Path.{_≡_, refl, sym, subst}
+use mathlib.Core.Path.{_≡_, refl}
 use native.Mathlib.Omega.{arith}
 use Rattle.text.specs.Unicode.{encoded}
 use Rattle.text.specs.Literal.{utf8}
@@ -73,6 +73,6 @@ spelt InPreamble = record { inside = omega arith; bytes = refl }
 spelt UndecidedWord = record { inside = omega arith; bytes = refl }
 spelt Slash = record { inside = omega arith; bytes = refl }
 
--- the word w, which is v
-pub spelt-as : (v w : Word) → w ≡ v → Spelt w (wordAt v)
-spelt-as v w e = subst (λ (x : Word). Spelt x (wordAt v)) (sym e) (spelt v)
+-- the word w, which is v, at the place of v
+pub spelt-as : (v w : Word) (p : Place) → w ≡ v → p ≡ wordAt v → Spelt w p
+spelt-as v w p e q = rw (e, q) (spelt v)

@@ -1,8 +1,6 @@
 // The fixed words of messages (script/expect.rs), one behind the other in one table.
 ghost use mathlib.Core.Path.{_≡_};
-ghost use Prim.Native.Nat.{_+_, _≤_};
-ghost use Rattle.text.specs.Base.{part};
-ghost use Rattle.frames.specs.Words.{wordBytes, allWords, Spelt};
+ghost use Rattle.frames.specs.Words.{allWords, Spelt};
 use script::records::Place;
 
 pub enum Word {
@@ -73,74 +71,45 @@ pub fn words() -> [u8; 366]
     WORDS
 }
 
+// A part of the table: where it starts, and how many bytes it has.
+fn part(start: usize, len: usize) -> Place
+    ensures { λ r. ⌜ r ≡ record { start = start; len = len } ⌝ }
+{
+    Place { start, len }
+}
+
 // Where a word stands in the table.
 pub fn word_place(w: Word) -> Place
     ensures { λ r. ⌜ Spelt w r ⌝ }
 {
     match w {
-        Word::Nothing => Place { start: 0, len: 0 },
-        Word::TerminalIs => Place { start: 0, len: 11 },
-        Word::ExpectedTerminal => Place { start: 11, len: 18 },
-        Word::Got => Place { start: 29, len: 6 },
-        Word::PatternGot => Place { start: 35, len: 7 },
-        Word::ResultWord => Place { start: 42, len: 6 },
-        Word::ResultDot => Place { start: 48, len: 7 },
-        Word::Is => Place { start: 55, len: 3 },
-        Word::ExpectedWord => Place { start: 58, len: 11 },
-        Word::ExpectedPattern => Place { start: 69, len: 12 },
-        Word::ExpectedAbove => Place { start: 81, len: 13 },
-        Word::ExpectedBelow => Place { start: 94, len: 13 },
-        Word::ExpectedAtLeast => Place {
-            start: 107,
-            len: 14,
-        },
-        Word::ExpectedAtMost => Place {
-            start: 121,
-            len: 14,
-        },
-        Word::NoResult => Place {
-            start: 135,
-            len: 29,
-        },
-        Word::NoField => Place {
-            start: 164,
-            len: 20,
-        },
-        Word::NotFound => Place {
-            start: 184,
-            len: 10,
-        },
-        Word::ErrorMatched => Place {
-            start: 194,
-            len: 15,
-        },
-        Word::ErrorWord => Place { start: 209, len: 5 },
-        Word::NoError => Place {
-            start: 214,
-            len: 32,
-        },
-        Word::CountWord => Place {
-            start: 246,
-            len: 12,
-        },
-        Word::DaemonWord => Place { start: 258, len: 6 },
-        Word::TrustWord => Place { start: 264, len: 5 },
-        Word::FeaturesWord => Place {
-            start: 269,
-            len: 15,
-        },
-        Word::InEntry => Place {
-            start: 284,
-            len: 35,
-        },
-        Word::InPreamble => Place {
-            start: 319,
-            len: 34,
-        },
-        Word::UndecidedWord => Place {
-            start: 353,
-            len: 12,
-        },
-        Word::Slash => Place { start: 365, len: 1 },
+        Word::Nothing => part(0, 0),
+        Word::TerminalIs => part(0, 11),
+        Word::ExpectedTerminal => part(11, 18),
+        Word::Got => part(29, 6),
+        Word::PatternGot => part(35, 7),
+        Word::ResultWord => part(42, 6),
+        Word::ResultDot => part(48, 7),
+        Word::Is => part(55, 3),
+        Word::ExpectedWord => part(58, 11),
+        Word::ExpectedPattern => part(69, 12),
+        Word::ExpectedAbove => part(81, 13),
+        Word::ExpectedBelow => part(94, 13),
+        Word::ExpectedAtLeast => part(107, 14),
+        Word::ExpectedAtMost => part(121, 14),
+        Word::NoResult => part(135, 29),
+        Word::NoField => part(164, 20),
+        Word::NotFound => part(184, 10),
+        Word::ErrorMatched => part(194, 15),
+        Word::ErrorWord => part(209, 5),
+        Word::NoError => part(214, 32),
+        Word::CountWord => part(246, 12),
+        Word::DaemonWord => part(258, 6),
+        Word::TrustWord => part(264, 5),
+        Word::FeaturesWord => part(269, 15),
+        Word::InEntry => part(284, 35),
+        Word::InPreamble => part(319, 34),
+        Word::UndecidedWord => part(353, 12),
+        Word::Slash => part(365, 1),
     }
 }
