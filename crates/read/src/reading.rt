@@ -171,7 +171,7 @@ pub fn read(
     ensures { λ _. ⌜ now (expectations .exit) ≡ writtenAt 0 (tablesOr (readInto (lentOf (now (entries .entry)) (now (items .entry)) (now (expectations .entry)) (now (store .entry))) (now (text .entry))) .expectations) (now (expectations .entry)) ⌝ }
     ensures { λ _. ⌜ now (store .exit) ≡ writtenAt 0 (tablesOr (readInto (lentOf (now (entries .entry)) (now (items .entry)) (now (expectations .entry)) (now (store .entry))) (now (text .entry))) .store) (now (store .entry)) ⌝ }
 {
-    let mut kept = kept::blanks();
+    let mut kept = [kept::blank(); 1024];
     let measured = parse::measure::measure_keeping(text, &mut kept);
     match measured {
         Measured::Refused(r) => Answer::Refused(r),

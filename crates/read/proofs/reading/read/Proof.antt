@@ -1,6 +1,7 @@
 -- `read::reading::read` meets its contract. Assumes nothing.
 mod Tie
 use mathlib.Core.Path.{_≡_}
+use Rattle.kept.proofs.KeptLaws.{blank-memo}
 use Rattle.read.specs.declared.reading.Fit.the-variants.{Enough}
 use Rattle.read.specs.Read.{lentOf}
 use Rattle.read.specs.ReadWalk.{readingOf}
@@ -10,14 +11,14 @@ use borrow.Author.Needs.{needs}
 use Rattle.read.proofs.reading.read.Statement.{statement}
 use Rattle.read.proofs.reading.read.Proof.Tie as tie
 
-blanks-requires : tie.Need-blanks-requires
-blanks-requires c κs = search needs
+blank-requires : tie.Need-blank-requires
+blank-requires c κs = search needs
 
 slice-aggregate-measure-keeping : tie.Need-slice-aggregate-measure-keeping
 slice-aggregate-measure-keeping c = search needs
 
 measure-keeping-requires : tie.Need-measure-keeping-requires
-measure-keeping-requires c κs = search (needs, c .before .blanks .ensures)
+measure-keeping-requires c κs = rw (c .before .blank .ensures) (blank-memo _ 1024)
 
 enum-known-measured : tie.Need-enum-known-measured
 enum-known-measured c = search needs
@@ -143,7 +144,7 @@ pub read-spec : {M : Type 1} → statement M
 read-spec =
     tie.close
     (tie.spec
-    blanks-requires
+    blank-requires
     slice-aggregate-measure-keeping
     measure-keeping-requires
     enum-known-measured

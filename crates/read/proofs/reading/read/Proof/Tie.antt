@@ -1,8 +1,8 @@
 -- The needs of `reading::read` at its contract. Made by tools/walk.py, from what Rattle makes for a twin in which the elements are arrays.
 -- Assumes nothing.
-use Rattle.kept.proofs.blanks.Met
-use Rattle.kept.proofs.blanks.Reads
-use Rattle.kept.proofs.blanks.Symbol
+use Rattle.kept.proofs.blank.Met
+use Rattle.kept.proofs.blank.Reads
+use Rattle.kept.proofs.blank.Symbol
 use Rattle.parse.proofs.Made.MeasureMeasureKeepingReads as Reads'
 use Rattle.parse.proofs.measure.measure_keeping.Met as Met'
 use Rattle.parse.proofs.measure.measure_keeping.Symbol as Symbol'
@@ -34,8 +34,8 @@ After-shared-slice-known = Lts.After-shared-slice-known (Reads.Asked, Reads.Lear
 abbrev pub After-slice-known : Type 0
 After-slice-known = Lts.After-slice-known (Reads.Asked, Reads.Learnt, Reads'.Asked, Reads'.Learnt, Reads''.Asked, Reads''.Learnt, Reads'5.Asked, Reads'5.Learnt, Reads'4.Asked, Reads'4.Learnt) Reads'3.Pre Reads'3.Post
 
-abbrev pub After-blanks : Type 0
-After-blanks = Lts.After-blanks (Reads.Asked, Reads.Learnt, Reads'.Asked, Reads'.Learnt, Reads''.Asked, Reads''.Learnt, Reads'5.Asked, Reads'5.Learnt, Reads'4.Asked, Reads'4.Learnt) Reads'3.Pre Reads'3.Post
+abbrev pub After-blank : Type 0
+After-blank = Lts.After-blank (Reads.Asked, Reads.Learnt, Reads'.Asked, Reads'.Learnt, Reads''.Asked, Reads''.Learnt, Reads'5.Asked, Reads'5.Learnt, Reads'4.Asked, Reads'4.Learnt) Reads'3.Pre Reads'3.Post
 
 abbrev pub After-kept : Type 0
 After-kept = Lts.After-kept (Reads.Asked, Reads.Learnt, Reads'.Asked, Reads'.Learnt, Reads''.Asked, Reads''.Learnt, Reads'5.Asked, Reads'5.Learnt, Reads'4.Asked, Reads'4.Learnt) Reads'3.Pre Reads'3.Post
@@ -118,8 +118,8 @@ After-store = Lts.After-store (Reads.Asked, Reads.Learnt, Reads'.Asked, Reads'.L
 abbrev pub After-slice-known2 : Type 0
 After-slice-known2 = Lts.After-slice-known2 (Reads.Asked, Reads.Learnt, Reads'.Asked, Reads'.Learnt, Reads''.Asked, Reads''.Learnt, Reads'5.Asked, Reads'5.Learnt, Reads'4.Asked, Reads'4.Learnt) Reads'3.Pre Reads'3.Post
 
-abbrev pub Need-blanks-requires : Type 0
-Need-blanks-requires = Lts.Need-blanks-requires (Reads.Asked, Reads.Learnt, Reads'.Asked, Reads'.Learnt, Reads''.Asked, Reads''.Learnt, Reads'5.Asked, Reads'5.Learnt, Reads'4.Asked, Reads'4.Learnt) Reads'3.Pre Reads'3.Post
+abbrev pub Need-blank-requires : Type 0
+Need-blank-requires = Lts.Need-blank-requires (Reads.Asked, Reads.Learnt, Reads'.Asked, Reads'.Learnt, Reads''.Asked, Reads''.Learnt, Reads'5.Asked, Reads'5.Learnt, Reads'4.Asked, Reads'4.Learnt) Reads'3.Pre Reads'3.Post
 
 abbrev pub Need-slice-aggregate-measure-keeping : Type 0
 Need-slice-aggregate-measure-keeping = Lts.Need-slice-aggregate-measure-keeping (Reads.Asked, Reads.Learnt, Reads'.Asked, Reads'.Learnt, Reads''.Asked, Reads''.Learnt, Reads'5.Asked, Reads'5.Learnt, Reads'4.Asked, Reads'4.Learnt) Reads'3.Pre Reads'3.Post
@@ -173,9 +173,9 @@ abbrev pub Need-returns-3 : Type 0
 Need-returns-3 = Lts.Need-returns-3 (Reads.Asked, Reads.Learnt, Reads'.Asked, Reads'.Learnt, Reads''.Asked, Reads''.Learnt, Reads'5.Asked, Reads'5.Learnt, Reads'4.Asked, Reads'4.Learnt) Reads'3.Pre Reads'3.Post
 
 module _ {M : Type 1} where
-  pub spec : (answer : Need-blanks-requires) → (answer : Need-slice-aggregate-measure-keeping) → (answer : Need-measure-keeping-requires) → (answer : Need-enum-known-measured) → (answer : Need-enum-known-measured-2) → (answer : Need-lent-of-requires) → (answer : Need-room-for-requires) → (answer : Need-enum-known-r) → (answer : Need-enum-told) → (answer : Need-slice-aggregate-read-script) → (answer : Need-read-script-requires) → (answer : Need-returns) → (answer : Need-returns-2) → (answer : Need-same-length) → (answer : Need-same-length-2) → (answer : Need-same-length-3) → (answer : Need-same-length-4) → (answer : Need-returns-3) → Lts.Closed (Reads.Asked, Reads.Learnt, Reads'.Asked, Reads'.Learnt, Reads''.Asked, Reads''.Learnt, Reads'5.Asked, Reads'5.Learnt, Reads'4.Asked, Reads'4.Learnt) Reads'3.Pre Reads'3.Post M
+  pub spec : (answer : Need-blank-requires) → (answer : Need-slice-aggregate-measure-keeping) → (answer : Need-measure-keeping-requires) → (answer : Need-enum-known-measured) → (answer : Need-enum-known-measured-2) → (answer : Need-lent-of-requires) → (answer : Need-room-for-requires) → (answer : Need-enum-known-r) → (answer : Need-enum-told) → (answer : Need-slice-aggregate-read-script) → (answer : Need-read-script-requires) → (answer : Need-returns) → (answer : Need-returns-2) → (answer : Need-same-length) → (answer : Need-same-length-2) → (answer : Need-same-length-3) → (answer : Need-same-length-4) → (answer : Need-returns-3) → Lts.Closed (Reads.Asked, Reads.Learnt, Reads'.Asked, Reads'.Learnt, Reads''.Asked, Reads''.Learnt, Reads'5.Asked, Reads'5.Learnt, Reads'4.Asked, Reads'4.Learnt) Reads'3.Pre Reads'3.Post M
   spec = λ answer answer' answer'' answer'3 answer'4 answer'5 answer'6 answer'7 answer'8 answer'9 answer'10 answer'11 answer'12 answer'13 answer'14 answer'15 answer'16 answer'17. Lts.spec (Reads.Asked, Reads.Learnt, Reads'.Asked, Reads'.Learnt, Reads''.Asked, Reads''.Learnt, Reads'5.Asked, Reads'5.Learnt, Reads'4.Asked, Reads'4.Learnt) Reads'3.Pre Reads'3.Post answer answer' answer'' answer'3 answer'4 answer'5 answer'6 answer'7 answer'8 answer'9 answer'10 answer'11 answer'12 answer'13 answer'14 answer'15 answer'16 answer'17
 
   pub close : Lts.Closed (Reads.Asked, Reads.Learnt, Reads'.Asked, Reads'.Learnt, Reads''.Asked, Reads''.Learnt, Reads'5.Asked, Reads'5.Learnt, Reads'4.Asked, Reads'4.Learnt) Reads'3.Pre Reads'3.Post M → Statement.statement M
   unfolding Code.routine Running.tablesOf
-  close = λ closed 𝓤 H 𝓜 𝓖 𝓡. Written.close 5 Kinds.ps Kinds.r Reads'3.Ghost Reads'3.requires Reads'3.ensures Reads'3.pre-read Reads'3.Pinned Reads'3.Owned Reads'3.post-read record { M = M; 𝓤 = 𝓤; H = H; 𝓜 = 𝓜; 𝓖 = 𝓖; 𝓡 = 𝓡 } Code.env Key.name Code.function (Code.unfolded 𝓤 H 𝓜 𝓡) (λ κs a g. tt) (λ κs. Reads'3.owns κs record { M = M; 𝓤 = 𝓤; H = H; 𝓜 = 𝓜; 𝓖 = 𝓖; 𝓡 = 𝓡 }) (Reads'3.passes record { M = M; 𝓤 = 𝓤; H = H; 𝓜 = 𝓜; 𝓖 = 𝓖; 𝓡 = 𝓡 }) λ g. closed 𝓤 H (𝓖 .A) (Running.givenOf 𝓤 H 𝓜 𝓖) (Run.Over 𝓤 H 𝓜 𝓖 𝓡 Code.env) (Reads.known record { M = M; 𝓤 = 𝓤; H = H; 𝓜 = 𝓜; 𝓖 = 𝓖; 𝓡 = 𝓡 } Code.env Symbol.name Symbol.routine Code.calls-kept·blanks (Met.met 𝓤 H 𝓜 𝓖 𝓡)) (Reads'.known record { M = M; 𝓤 = 𝓤; H = H; 𝓜 = 𝓜; 𝓖 = 𝓖; 𝓡 = 𝓡 } Code.env Symbol'.name Symbol'.routine Code.calls-parse·measure·measure-keeping (Met'.met 𝓤 H 𝓜 𝓖 𝓡)) (Reads''.known record { M = M; 𝓤 = 𝓤; H = H; 𝓜 = 𝓜; 𝓖 = 𝓖; 𝓡 = 𝓡 } Code.env Symbol''.name Symbol''.routine Code.calls-read·reading·lent-of (Met''.met 𝓤 H 𝓜 𝓖 𝓡)) (Reads'5.known record { M = M; 𝓤 = 𝓤; H = H; 𝓜 = 𝓜; 𝓖 = 𝓖; 𝓡 = 𝓡 } Code.env Symbol'4.name Symbol'4.routine Code.calls-read·reading·room-for (Met'4.met 𝓤 H 𝓜 𝓖 𝓡)) (Reads'4.known record { M = M; 𝓤 = 𝓤; H = H; 𝓜 = 𝓜; 𝓖 = 𝓖; 𝓡 = 𝓡 } Code.env Symbol'3.name Symbol'3.routine Code.calls-read·reading·read-script (Met'3.met 𝓤 H 𝓜 𝓖 𝓡))
+  close = λ closed 𝓤 H 𝓜 𝓖 𝓡. Written.close 5 Kinds.ps Kinds.r Reads'3.Ghost Reads'3.requires Reads'3.ensures Reads'3.pre-read Reads'3.Pinned Reads'3.Owned Reads'3.post-read record { M = M; 𝓤 = 𝓤; H = H; 𝓜 = 𝓜; 𝓖 = 𝓖; 𝓡 = 𝓡 } Code.env Key.name Code.function (Code.unfolded 𝓤 H 𝓜 𝓡) (λ κs a g. tt) (λ κs. Reads'3.owns κs record { M = M; 𝓤 = 𝓤; H = H; 𝓜 = 𝓜; 𝓖 = 𝓖; 𝓡 = 𝓡 }) (Reads'3.passes record { M = M; 𝓤 = 𝓤; H = H; 𝓜 = 𝓜; 𝓖 = 𝓖; 𝓡 = 𝓡 }) λ g. closed 𝓤 H (𝓖 .A) (Running.givenOf 𝓤 H 𝓜 𝓖) (Run.Over 𝓤 H 𝓜 𝓖 𝓡 Code.env) (Reads.known record { M = M; 𝓤 = 𝓤; H = H; 𝓜 = 𝓜; 𝓖 = 𝓖; 𝓡 = 𝓡 } Code.env Symbol.name Symbol.routine Code.calls-kept·blank (Met.met 𝓤 H 𝓜 𝓖 𝓡)) (Reads'.known record { M = M; 𝓤 = 𝓤; H = H; 𝓜 = 𝓜; 𝓖 = 𝓖; 𝓡 = 𝓡 } Code.env Symbol'.name Symbol'.routine Code.calls-parse·measure·measure-keeping (Met'.met 𝓤 H 𝓜 𝓖 𝓡)) (Reads''.known record { M = M; 𝓤 = 𝓤; H = H; 𝓜 = 𝓜; 𝓖 = 𝓖; 𝓡 = 𝓡 } Code.env Symbol''.name Symbol''.routine Code.calls-read·reading·lent-of (Met''.met 𝓤 H 𝓜 𝓖 𝓡)) (Reads'5.known record { M = M; 𝓤 = 𝓤; H = H; 𝓜 = 𝓜; 𝓖 = 𝓖; 𝓡 = 𝓡 } Code.env Symbol'4.name Symbol'4.routine Code.calls-read·reading·room-for (Met'4.met 𝓤 H 𝓜 𝓖 𝓡)) (Reads'4.known record { M = M; 𝓤 = 𝓤; H = H; 𝓜 = 𝓜; 𝓖 = 𝓖; 𝓡 = 𝓡 } Code.env Symbol'3.name Symbol'3.routine Code.calls-read·reading·read-script (Met'3.met 𝓤 H 𝓜 𝓖 𝓡))
