@@ -86,13 +86,6 @@ pub fn blank() -> Kept
     }
 }
 
-// Room for the lines of a common script.
-pub fn blanks() -> [Kept; 1024]
-    ensures { λ r. ⌜ ((text : List ℕ) → Memo text r) ⌝ }
-{
-    [blank(); 1024]
-}
-
 // Room for no line: they are numbered from 1.
 pub fn no_room() -> [Kept; 1]
     ensures { λ r. ⌜ ((text : List ℕ) → Memo text r) ⌝ }
