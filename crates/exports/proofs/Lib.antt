@@ -1,2 +1,4 @@
 pub mod Answering
 pub mod Giving
+pub mod MessageLaws
+pub mod Telling

@@ -1,2 +1,3 @@
 pub mod Answered
 pub mod Given
+pub mod Messages

@@ -18,6 +18,9 @@ ghost use Rattle.exports.specs.Answered.{refusedAs, lineOf, countsOr};
 ghost use Rattle.exports.specs.Given.{isGiven, givenOr};
 ghost use Rattle.dump.specs.Dump.{readDump};
 ghost use Rattle.dump.specs.Times.{lastNumber};
+
+pub mod messages;
+
 use parse::measure::Measured;
 use values::number::Integer;
 use values::number::Number;
