@@ -239,10 +239,19 @@ pub fn pattern(pattern: &[u8], value: &[u8]) -> u8 {
     unsafe { exports::nwscript_pattern(pattern.as_ptr(), pattern.len(), value.as_ptr(), value.len()) }
 }
 
-/// What an ordering matcher with the number n decides of a value. The kinds 1 to 4 are `>`, `<`, `>=`, `<=`; any other
-/// reads as `<=`.
-pub fn ordering(kind: u8, n: i64, value: &[u8]) -> u8 {
-    unsafe { exports::nwscript_ordering(kind, n, value.as_ptr(), value.len()) }
+/// How an ordering matcher compares a value with its number.
+#[derive(Debug, Clone, Copy, PartialEq, Eq)]
+#[repr(u8)]
+pub enum Order {
+    GreaterThan = 1,
+    LessThan = 2,
+    GreaterOrEqual = 3,
+    LessOrEqual = 4,
+}
+
+/// What an ordering matcher with the number n decides of a value.
+pub fn ordering(order: Order, n: i64, value: &[u8]) -> u8 {
+    unsafe { exports::nwscript_ordering(order as u8, n, value.as_ptr(), value.len()) }
 }
 
 /// What an expectation is judged against.
