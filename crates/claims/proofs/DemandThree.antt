@@ -14,10 +14,10 @@ use Rattle.tables.specs.Written.{writtenAt}
 use Rattle.read.specs.Read.{lentOf, answerOf, scriptOr, tablesOr}
 use Rattle.read.specs.declared.reading.Answer.the-variants as Answer
 use Rattle.judge.specs.Calls.{Call}
-use Rattle.judge.specs.PlainJudge.{plainRun}
+use Rattle.plain.specs.PlainJudge.{plainRun}
 use Rattle.judge.specs.Judge.{Lent}
-use Rattle.judge.specs.Claim.{AsRead, stateOver, ourRun, InWords}
-use Rattle.judge.proofs.DemandThree as judge
+use Rattle.plain.specs.Claim.{AsRead, stateOver, ourRun, InWords}
+use Rattle.plain.proofs.DemandThree as plain
 
 module _
     -- the text, and what is lent to Read
@@ -47,8 +47,8 @@ module _
     -- From a fresh tally and a verdict list that holds `before`: every answer, the tally's next number and counts, and the verdict list are those of the
     -- plain judge, which sees the text alone; where its slot is empty or missing, ours is as before the first call.
     pub demand-three : ourRun lent before calls ≡ (plainRun text (length before) calls .0, stateOver before (plainRun text (length before) calls .1))
-    demand-three = judge.demand-three (lentOf entries items expectations store) entries expectations (as-read .0) lent (as-read .1) before calls
+    demand-three = plain.demand-three (lentOf entries items expectations store) entries expectations (as-read .0) lent (as-read .1) before calls
 
     -- the same in the user's words
     pub in-words : InWords lent before calls (ourRun lent before calls .0) (ourRun lent before calls .1)
-    in-words = judge.in-words (lentOf entries items expectations store) entries expectations (as-read .0) lent (as-read .1) before calls
+    in-words = plain.in-words (lentOf entries items expectations store) entries expectations (as-read .0) lent (as-read .1) before calls

@@ -58,7 +58,7 @@ fn is_missing(v: Value) -> bool
 }
 
 // The first 32,768 records of a table of places.
-fn counted_of(lists: &[[usize; 2]]) -> &[[usize; 2]]
+pub fn counted_of(lists: &[[usize; 2]]) -> &[[usize; 2]]
     ensures { λ r. ⌜ now r ≡ counted (now (lists .entry)) ⌝ }
 {
     if lists.len() <= 0x8000 {

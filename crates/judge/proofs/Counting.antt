@@ -1,4 +1,4 @@
--- The laws of the counts of verdicts: the only proofs that go through the kinds one by one. Assumes nothing.
+-- The laws of the counts of verdicts. Assumes nothing.
 use mathlib.Core.Path.{_≡_, refl, sym, ap, _∙_}
 use mathlib.Core.Logic.{_↔_}
 use mathlib.Core.Bool.{Bool, true, false}
@@ -17,7 +17,6 @@ use Rattle.judge.specs.declared.tally.Counts.{Counts}
 use Rattle.judge.specs.declared.tally.Outcome.{Outcome}
 use Rattle.judge.specs.declared.tally.Outcome.the-variants as Outcome
 use Rattle.judge.specs.Tally.{noCounts, added, addedAll, outcomeOf, overLimit}
-use Rattle.judge.specs.Claim.{verdictsIn, counted}
 
 -- ---- kind by kind
 
@@ -31,10 +30,10 @@ counts-same : (c d : Counts) → ((v : Verdict) → count v c ≡ count v d) →
 counts-same c d e = λ i. record { passed = e Passed i; failed = e Failed i; undecided = e Undecided i }
 
 -- 1 where the kinds are the same, and else 0
-unit : Verdict → Verdict → ℕ
+pub unit : Verdict → Verdict → ℕ
 unit v w = count v (added w noCounts)
 
-count-added : (v w : Verdict) (c : Counts) → (count v (added w c) ≡ unit v w + count v c) × (unit v w ≤ 1)
+pub count-added : (v w : Verdict) (c : Counts) → (count v (added w c) ≡ unit v w + count v c) × (unit v w ≤ 1)
 unfolding unit
 count-added Passed Passed c = omega arith
 count-added Passed Failed c = omega arith
@@ -69,23 +68,8 @@ over-last c f g = rw (le-ltb 0x8000 (c .passed) f, le-ltb 0x8000 (c .failed) g)
 pub over-none : (c : Counts) → c .passed ≤ 0x8000 → c .failed ≤ 0x8000 → c .undecided ≤ 0x8000 → overLimit c ≡ false
 over-none c f g h = over-last c f g ∙ le-ltb 0x8000 (c .undecided) h
 
-within-limit : (c : Counts) → ((v : Verdict) → count v c ≤ 0x8000) → overLimit c ≡ false
+pub within-limit : (c : Counts) → ((v : Verdict) → count v c ≤ 0x8000) → overLimit c ≡ false
 within-limit c h = over-none c (h Passed) (h Failed) (h Undecided)
-
--- ---- all passed
-
-all-passed : (os : List (Option Verdict)) → counted os .failed ≡ 0 → counted os .undecided ≡ 0 → verdictsIn os ≡ replicate (counted os .passed) Passed
-unfolding counted verdictsIn
-all-passed [] f u = refl
-all-passed (none ∷ os) f u = all-passed os f u
-all-passed (some Passed ∷ os) f u = rw add-one (ap (λ (r : List Verdict). Passed ∷ r) (all-passed os f u))
-all-passed (some Failed ∷ os) f u = let z : ⊥ = omega arith in absurd z
-all-passed (some Undecided ∷ os) f u = let z : ⊥ = omega arith in absurd z
-
-only-passed : (k : ℕ) → addedAll (replicate k Passed) noCounts ≡ record { passed = k; failed = 0; undecided = 0 }
-unfolding addedAll
-only-passed zero = refl
-only-passed (suc k) = ap (added Passed) (only-passed k) ∙ rw (add-one k) refl
 
 -- ---- what closing says
 
@@ -106,7 +90,7 @@ module _ (c : Counts) (none-failed : c .failed ≤ 0) where
   unfolding outcomeOf
   says-passed g h = rw (le-ltb 0 (c .failed) none-failed, le-ltb 0 (c .undecided) g, ne-eqb (c .passed) 0 h)
 
-outcome-passed : (c : Counts) → outcomeOf c ≡ Outcome.Passed → (c .failed ≡ 0) × (c .undecided ≡ 0) × (c .passed ≡ suc (c .passed - 1))
+pub outcome-passed : (c : Counts) → outcomeOf c ≡ Outcome.Passed → (c .failed ≡ 0) × (c .undecided ≡ 0) × (c .passed ≡ suc (c .passed - 1))
 unfolding outcomeOf
 outcome-passed c e = go (ltb 0 (c .failed)) (ltb 0 (c .undecided)) (eqb (c .passed) 0) refl refl refl e
   where
@@ -122,27 +106,7 @@ outcome-passed c e = go (ltb 0 (c .failed)) (ltb 0 (c .undecided)) (eqb (c .pass
       let q : c .passed ≡ 0 → ⊥ = eqb-false (c .passed) 0 z in omega arith,
     )
 
--- ---- the slots that are counted
-
--- a slot's part in a count
-pub worth : Verdict → Option Verdict → ℕ
-worth v none = 0
-worth v (some w) = unit v w
-
-pub count-slot : (v : Verdict) (o : Option Verdict) (os : List (Option Verdict)) → (count v (counted (o ∷ os)) ≡ worth v o + count v (counted os)) × (worth v o ≤ 1)
-unfolding worth counted
-count-slot v none os = omega arith
-count-slot v (some w) os = count-added v w (counted os)
-
-count-le : (v : Verdict) (os : List (Option Verdict)) → count v (counted os) ≤ length os
-unfolding counted
-count-le Passed [] = omega arith
-count-le Failed [] = omega arith
-count-le Undecided [] = omega arith
-count-le v (o ∷ os) = omega (arith, count-slot v o os, count-le v os)
-
-pub few-counted : (os : List (Option Verdict)) → length os ≤ 0x8000 → overLimit (counted os) ≡ false
-few-counted os h = within-limit (counted os) (λ v. omega (arith, count-le v os))
+-- ---- in any order
 
 pub all-added : (vs : List Verdict) (w : Verdict) (c : Counts) → addedAll vs (added w c) ≡ added w (addedAll vs c)
 unfolding addedAll
@@ -151,23 +115,3 @@ all-added (v ∷ vs) w c = ap (added v) (all-added vs w c) ∙ swap v w (addedAl
   where
     swap : (v w : Verdict) (c : Counts) → added v (added w c) ≡ added w (added v c)
     swap v w c = counts-same _ _ (λ x. omega (arith, count-added x v (added w c), count-added x w c, count-added x w (added v c), count-added x v c))
-
--- a slot that stays as it was
-pub slot-stays : (o : Option Verdict) (vs : List Verdict) (os ps : List (Option Verdict)) → counted os ≡ addedAll vs (counted ps) → counted (o ∷ os) ≡ addedAll vs (counted (o ∷ ps))
-unfolding counted
-slot-stays none vs os ps e = e
-slot-stays (some w) vs os ps e = ap (added w) e ∙ sym (all-added vs w (counted ps))
-
-counted-given : (os : List (Option Verdict)) → counted os ≡ addedAll (verdictsIn os) noCounts
-unfolding counted verdictsIn addedAll
-counted-given [] = refl
-counted-given (none ∷ os) = counted-given os
-counted-given (some v ∷ os) = ap (added v) (counted-given os)
-
-pub passed-exactly : (os : List (Option Verdict)) → (outcomeOf (counted os) ≡ Outcome.Passed) ↔ ((n : ℕ) × (verdictsIn os ≡ replicate (suc n) Passed))
-passed-exactly os = (
-  λ e. let w = outcome-passed (counted os) e in (counted os .passed - 1, all-passed os (w .0) (w .1) ∙ ap (λ (k : ℕ). replicate k Passed) (w .2)),
-  λ w.
-      let c : counted os ≡ record { passed = suc (w .0); failed = 0; undecided = 0 } = counted-given os ∙ ap (λ (vs : List Verdict). addedAll vs noCounts) (w .1) ∙ only-passed (suc (w .0)) in
-      rw c (sym (says-passed (record { passed = suc (w .0); failed = 0; undecided = 0 }) (omega arith) (omega arith) (λ h. omega arith))),
-)

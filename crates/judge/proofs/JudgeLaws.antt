@@ -24,33 +24,30 @@ use Rattle.verdicts.specs.Lookup.{looked}
 use Rattle.verdicts.specs.Held.{inside}
 use Rattle.judge.specs.declared.tally.Counts.{Counts}
 use Rattle.judge.specs.declared.tally.Tally.{Tally}
-use Rattle.judge.specs.declared.calls.Handed.the-variants.{Info, Response}
+use Rattle.subjects.specs.declared.handed.Handed.the-variants.{Info, Response}
 use Rattle.judge.specs.declared.calls.Answer.the-variants.{Refused, Closed}
 use Rattle.judge.specs.Tally.{outcomeOf, overLimit}
 use Rattle.judge.specs.Calls.{Judging, judge, subjectOf, wrongNumber, partOutside, tooLong, firstRefusal, closedOr}
-use Rattle.judge.specs.Judge.{Lent, JudgeState, allIn, rangeFor, recordsIn, saidBy, pastEntries, rangeOutside, outOfReach, fewSlots, rangeRefusals, judgeRefusal, judgedBy, judged, scratchAfter, closeRefusal, closeAnswer, judgeStep}
+use Rattle.judge.specs.Judge.{Lent, JudgeState, allIn, rangeFor, recordsIn, saidBy, pastEntries, rangeOutside, outOfReach, fewSlots, rangeRefusals, judgeRefusal, judgedBy, judged, scratchAfter, closeRefusal, closeAnswer, judgeStep, refusalOn, judgedOn, scratchOn}
 use Rattle.judge.proofs.Orders.{neither}
 use Rattle.judge.proofs.Refusals.{no-test, hit, pass, passed-by}
 
 -- ---- the first test that applies, where those before it do not
 
-module _ (k : Lent) (t : Tally) (places : ℕ) (j : Judging) where
-  abbrev r : Items
-  r = rangeFor k (j .number) (j .handed)
-
-  pub refuse-36 : overLimit (t .counts) ≡ true → some (refusal 36 0) ≡ judgeRefusal k t places j
-  unfolding judgeRefusal
+module _ (k : Lent) (past : Bool) (r : Items) (t : Tally) (places : ℕ) (j : Judging) where
+  pub refuse-36 : overLimit (t .counts) ≡ true → some (refusal 36 0) ≡ refusalOn k past r t places j
+  unfolding refusalOn
   refuse-36 e = rw e (sym (hit 36 _))
 
   module _ (few : overLimit (t .counts) ≡ false) where
-    pub refuse-33 : wrongNumber (t .next) (j .number) (pastEntries k (j .number)) (j .handed) ≡ true → some (refusal 33 0) ≡ judgeRefusal k t places j
-    unfolding judgeRefusal
+    pub refuse-33 : wrongNumber (t .next) (j .number) past (j .handed) ≡ true → some (refusal 33 0) ≡ refusalOn k past r t places j
+    unfolding refusalOn
     refuse-33 e = rw (few, e) (sym (pass 36 _ ∙ hit 33 _))
 
-    module _ (number : wrongNumber (t .next) (j .number) (pastEntries k (j .number)) (j .handed) ≡ false) where
+    module _ (number : wrongNumber (t .next) (j .number) past (j .handed) ≡ false) where
       -- those of the range
-      pub refuse-range : firstRefusal (rangeRefusals k r places j) ≡ judgeRefusal k t places j
-      unfolding judgeRefusal
+      pub refuse-range : firstRefusal (rangeRefusals k r places j) ≡ refusalOn k past r t places j
+      unfolding refusalOn
       refuse-range = rw (few, number) (sym (pass 36 _ ∙ pass 33 _))
 
 module _ (k : Lent) (i : Items) (places : ℕ) (j : Judging) where
@@ -95,20 +92,19 @@ module _ (t : Tally) (entries : ℕ) where
 
 -- ---- no test applies
 
-pub record Clear (k : Lent) (t : Tally) (places : ℕ) (j : Judging) : Type 0 where
+pub record Clear (k : Lent) (past : Bool) (r : Items) (t : Tally) (places : ℕ) (j : Judging) : Type 0 where
   pub few : overLimit (t .counts) ≡ false
-  pub number : wrongNumber (t .next) (j .number) (pastEntries k (j .number)) (j .handed) ≡ false
-  pub reach : outOfReach k (rangeFor k (j .number) (j .handed)) ≡ false
+  pub number : wrongNumber (t .next) (j .number) past (j .handed) ≡ false
+  pub reach : outOfReach k r ≡ false
   pub parts : partOutside j ≡ false
   pub slots : fewSlots k places ≡ false
-  pub values : tooLong (j .scratch) (map (looked (subjectOf j)) (saidBy k (rangeFor k (j .number) (j .handed)))) ≡ false
+  pub values : tooLong (j .scratch) (map (looked (subjectOf j)) (saidBy k r)) ≡ false
 
-pub clear : (k : Lent) (t : Tally) (places : ℕ) (j : Judging) → judgeRefusal k t places j ≡ none → Clear k t places j
-unfolding judgeRefusal rangeRefusals
-clear k t places j e =
-    let r : Items = rangeFor k (j .number) (j .handed) in
+pub clear : (k : Lent) (past : Bool) (r : Items) (t : Tally) (places : ℕ) (j : Judging) → refusalOn k past r t places j ≡ none → Clear k past r t places j
+unfolding refusalOn rangeRefusals
+clear k past r t places j e =
     let a = passed-by 36 (overLimit (t .counts)) _ e in
-    let b = passed-by 33 (wrongNumber (t .next) (j .number) (pastEntries k (j .number)) (j .handed)) _ (a .1) in
+    let b = passed-by 33 (wrongNumber (t .next) (j .number) past (j .handed)) _ (a .1) in
     let c = passed-by 31 (outOfReach k r) _ (b .1) in
     let d = passed-by 32 (partOutside j) _ (c .1) in
     let f = passed-by 35 (fewSlots k places) _ (d .1) in
@@ -180,9 +176,9 @@ module _ (text : List ℕ) (script : Script) (expectations : List Expectation) (
     greeted = record { number = number; handed = Info i; bytes = bytes; lists = lists; scratch = scratch }
 
     pub no-entries : (s : JudgeState) → judgeStep alone s (judge greeted) ≡ judgeStep whole s (judge greeted)
-    unfolding judgeStep judged judgeRefusal rangeRefusals wrongNumber rangeFor outOfReach rangeOutside fewSlots recordsIn saidBy judgedBy
+    unfolding judgeStep judged judgedOn judgeRefusal refusalOn rangeRefusals wrongNumber rangeFor outOfReach rangeOutside fewSlots recordsIn saidBy judgedBy
     no-entries s = refl
 
     pub no-entries-scratch : (t : Tally) (places : ℕ) (old : List ℕ) → scratchAfter alone t places greeted old ≡ scratchAfter whole t places greeted old
-    unfolding scratchAfter judgeRefusal rangeRefusals wrongNumber rangeFor outOfReach rangeOutside fewSlots recordsIn saidBy
+    unfolding scratchAfter scratchOn judgeRefusal refusalOn rangeRefusals wrongNumber rangeFor outOfReach rangeOutside fewSlots recordsIn saidBy
     no-entries-scratch t places old = refl

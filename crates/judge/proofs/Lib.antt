@@ -1,11 +1,9 @@
 pub mod Counting
 pub mod Orders
 pub mod Refusals
-pub mod Lines
-pub mod History
-pub mod Ours
-pub mod LentRead
-pub mod DemandThree
-pub mod JudgeExamples
 pub mod JudgeLaws
 pub mod RangeLaws
+pub mod Made
+pub mod EveryLaws
+pub mod CheckLaws
+pub mod StepLaws

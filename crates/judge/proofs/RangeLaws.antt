@@ -16,6 +16,7 @@ use Rattle.text.specs.Base.{overlaid}
 use Rattle.script.specs.declared.records.Items.{Items}
 use Rattle.script.specs.declared.records.Expectation.{Expectation}
 use Rattle.verdicts.specs.Expected.{Expected}
+use Rattle.frames.specs.Frames.{presentBytes}
 use Rattle.verdicts.specs.Verdicts.{code}
 use Rattle.verdicts.specs.Held.{expectedOf, ranged}
 use Rattle.verdicts.specs.declared.Verdict.{Verdict}
@@ -65,7 +66,7 @@ unfolding said
 nothing-said text = refl
 
 -- nothing is written, wherever it begins
-written-nothing : (at : ℕ) (t : List ℕ) → writtenAt at [] t ≡ t
+pub written-nothing : (at : ℕ) (t : List ℕ) → writtenAt at [] t ≡ t
 unfolding writtenAt
 written-nothing at t = rw (add-zero at, append-nil (take at t)) (take-append-drop at t)
 
@@ -87,6 +88,35 @@ pub later-fit : (scratch : ℕ) (value : Option (List ℕ)) (values : List (Opti
 unfolding tooLong
 later-fit scratch none values e = e
 later-fit scratch (some value) values e = neither (ltb scratch (length value)) _ e .1
+
+-- a value is written over the last, a missing one is not
+pub overlaid-present : (o : Option (List ℕ)) (scratch : List ℕ) → overlaid (presentBytes o) scratch ≡ overwrittenBy o scratch
+unfolding overwrittenBy presentBytes overlaid
+overlaid-present none scratch = rw (le-leb 0 (length scratch) (omega arith)) refl
+overlaid-present (some value) scratch = refl
+
+present-none : length (presentBytes none) ≡ 0
+unfolding presentBytes
+present-none = refl
+
+present-some : (value : List ℕ) → presentBytes (some value) ≡ value
+unfolding presentBytes
+present-some value = refl
+
+-- where none of the values left is too long, the next is not, and none of those after it
+pub next-fits : (text : List ℕ) (table : List Expectation) (r : Items) (g : Expected → Option (List ℕ)) (room i : ℕ) → i < r .count → r .first + r .count ≤ length table
+    → tooLong room (map g (said text (leftOf table r i))) ≡ false
+    → (length (presentBytes (g (expectedOf text (getD table (r .first + i) blankExpectation .expect)))) ≤ room) × (tooLong room (map g (said text (leftOf table r (i + 1)))) ≡ false)
+unfolding said
+next-fits text table r g room i more in-table e =
+    let l = left-more table r blankExpectation i more in-table in
+    let h = ap (λ (es : List Expectation). tooLong room (map g (map (λ (x : Expectation). expectedOf text (x .expect)) es))) (sym l) ∙ e in
+    let o = g (expectedOf text (getD table (r .first + i) blankExpectation .expect)) in
+    (one o _ h, later-fit room o _ h)
+  where
+    one : (o : Option (List ℕ)) (later : List (Option (List ℕ))) → tooLong room (o ∷ later) ≡ false → length (presentBytes o) ≤ room
+    one none later e = omega (arith, present-none)
+    one (some value) later e = rw (present-some value) (first-fits room value later e)
 
 -- ---- a judging on its way
 

@@ -11,11 +11,12 @@ use Rattle.script.specs.Reading.{refusal}
 use Rattle.script.specs.declared.records.Expectation.{Expectation}
 use Rattle.script.specs.declared.records.Refusal.{Refusal}
 use Rattle.verdicts.specs.Expected.{Expected}
-use Rattle.verdicts.specs.Told.{Subject, greeting, reply}
-use Rattle.verdicts.specs.Held.{expectedOf, responseOf, infoOf, responseIn, infoIn}
+use Rattle.verdicts.specs.Told.{Subject}
+use Rattle.verdicts.specs.Held.{expectedOf}
+use Rattle.subjects.specs.Subjects.{heldBy, partsIn}
 use Rattle.judge.specs.declared.tally.Outcome.{Outcome}
-use Rattle.judge.specs.declared.calls.Handed.{Handed}
-use Rattle.judge.specs.declared.calls.Handed.the-variants.{Info, Response}
+use Rattle.subjects.specs.declared.handed.Handed.{Handed}
+use Rattle.subjects.specs.declared.handed.Handed.the-variants.{Info, Response}
 use Rattle.judge.specs.declared.calls.Answer.{Answer}
 use Rattle.judge.specs.declared.calls.Answer.the-variants.{Refused, Judged, Closed}
 
@@ -34,17 +35,7 @@ pub data Call : Type 0 where
   judge : Judging → Call
   close : Call
 
-module _ (bytes : List ℕ) (lists : List (List ℕ)) where
-  -- what the expectations are judged against
-  unfoldable pub heldBy : Handed → Subject
-  heldBy (Info i) = greeting (infoOf bytes lists i)
-  heldBy (Response r) = reply (responseOf bytes lists r)
-
-  -- every part of it lies inside its bytes
-  unfoldable pub partsIn : Handed → Bool
-  partsIn (Info i) = infoIn (length bytes) lists i
-  partsIn (Response r) = responseIn (length bytes) lists r
-
+-- what its expectations are judged against
 abbrev pub subjectOf : Judging → Subject
 subjectOf j = heldBy (j .bytes) (j .lists) (j .handed)
 

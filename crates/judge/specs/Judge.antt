@@ -20,8 +20,8 @@ use Rattle.verdicts.specs.declared.Verdict.{Verdict}
 use Rattle.tables.specs.Written.{writtenAt}
 use Rattle.slots.specs.Blank.{blankEntry}
 use Rattle.judge.specs.declared.tally.Tally.{Tally}
-use Rattle.judge.specs.declared.calls.Handed.{Handed}
-use Rattle.judge.specs.declared.calls.Handed.the-variants.{Info, Response}
+use Rattle.subjects.specs.declared.handed.Handed.{Handed}
+use Rattle.subjects.specs.declared.handed.Handed.the-variants.{Info, Response}
 use Rattle.judge.specs.declared.calls.Answer.{Answer}
 use Rattle.judge.specs.Tally.{freshTally, addedAll, outcomeOf, overLimit}
 use Rattle.judge.specs.Calls.{Judging, Call, judge, close, subjectOf, said, wrongNumber, partOutside, tooLong, refusedIf, firstRefusal, judgedOr, closedOr}
@@ -89,13 +89,17 @@ module _ (k : Lent) where
       ∷ refusedIf 34 (tooLong (j .scratch) (map (looked (subjectOf j)) (saidBy r)))
       ∷ []
 
-  -- the first refusal of a judging: 36 and 33 come before those
-  unfoldable pub judgeRefusal : Tally → (places : ℕ) → Judging → Option Refusal
-  judgeRefusal t places j =
+  -- the first refusal of the judging of a range: 36 and 33 come before those; `past` says that the number is past the entries
+  unfoldable pub refusalOn : (past : Bool) → Items → Tally → (places : ℕ) → Judging → Option Refusal
+  refusalOn past r t places j =
       firstRefusal
       (refusedIf 36 (overLimit (t .counts))
-      ∷ refusedIf 33 (wrongNumber (t .next) (j .number) (pastEntries (j .number)) (j .handed))
-      ∷ rangeRefusals (rangeFor (j .number) (j .handed)) places j)
+      ∷ refusedIf 33 (wrongNumber (t .next) (j .number) past (j .handed))
+      ∷ rangeRefusals r places j)
+
+  -- of a judging
+  unfoldable pub judgeRefusal : Tally → (places : ℕ) → Judging → Option Refusal
+  judgeRefusal t places j = refusalOn (pastEntries (j .number)) (rangeFor (j .number) (j .handed)) t places j
 
   -- ---- a judging that is not refused
 
@@ -108,13 +112,13 @@ module _ (k : Lent) where
         verdicts = writtenAt (r .first) (map code verdicts) (s .verdicts);
       }
 
-  -- Judge: its answer, and what it leaves
+  -- the judging of a range: its answer, and what it leaves
+  unfoldable pub judgedOn : (past : Bool) → Items → JudgeState → Judging → Answer × JudgeState
+  judgedOn past r s j = judgedOr (refusalOn past r (s .tally) (length (s .verdicts)) j) s (judgedBy (verdict (subjectOf j)) r s)
+
+  -- Judge
   unfoldable pub judged : JudgeState → Judging → Answer × JudgeState
-  judged s j =
-      judgedOr
-      (judgeRefusal (s .tally) (length (s .verdicts)) j)
-      s
-      (judgedBy (verdict (subjectOf j)) (rangeFor (j .number) (j .handed)) s)
+  judged s j = judgedOn (pastEntries (j .number)) (rangeFor (j .number) (j .handed)) s j
 
 -- ---- the scratch
 
@@ -133,13 +137,13 @@ unfoldable pub overwrittenOr : Option Refusal → (values : List (Option (List �
 overwrittenOr none values scratch = overwritten values scratch
 overwrittenOr (some r) values scratch = scratch
 
--- the scratch after a judging
+-- the scratch after the judging of a range
+unfoldable pub scratchOn : Lent → (past : Bool) → Items → Tally → (places : ℕ) → Judging → (scratch : List ℕ) → List ℕ
+scratchOn k past r t places j scratch = overwrittenOr (refusalOn k past r t places j) (map (looked (subjectOf j)) (saidBy k r)) scratch
+
+-- after Judge
 unfoldable pub scratchAfter : Lent → Tally → (places : ℕ) → Judging → (scratch : List ℕ) → List ℕ
-scratchAfter k t places j scratch =
-    overwrittenOr
-    (judgeRefusal k t places j)
-    (map (looked (subjectOf j)) (saidBy k (rangeFor k (j .number) (j .handed))))
-    scratch
+scratchAfter k t places j scratch = scratchOn k (pastEntries k (j .number)) (rangeFor k (j .number) (j .handed)) t places j scratch
 
 -- ---- Close
 

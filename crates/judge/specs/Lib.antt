@@ -1,5 +1,4 @@
 pub mod Tally
 pub mod Calls
-pub mod PlainJudge
 pub mod Judge
-pub mod Claim
+pub mod Judging

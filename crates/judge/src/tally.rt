@@ -1,7 +1,26 @@
 // The tally of a script's verdicts, and what closing says of it.
 ghost use mathlib.Core.Path.{_≡_};
 ghost use Prim.Native.Nat.{_<_};
+ghost use mathlib.Core.List.{[]};
+ghost use lib.ListN.{length};
+ghost use Rattle.expect.specs.Told.{counted};
+ghost use Rattle.subjects.specs.declared.handed.Handed.the-variants.{Info, Response};
 ghost use Rattle.judge.specs.Tally.{freshTally, added, outcomeOf};
+ghost use Rattle.judge.specs.Calls.{judge};
+ghost use Rattle.judge.specs.Judge.{scratchAfter, judgeStep};
+ghost use Rattle.judge.specs.Judging.{turned, lentOf, askedOf};
+use crate::calls::Turn;
+use crate::checks::counting;
+use crate::judging::entry_range;
+use crate::judging::handshake_range;
+use crate::judging::judge_on;
+use expect::message::counted_of;
+use script::records::Entry;
+use script::records::Expectation;
+use script::records::Script;
+use script::response::DaemonResponse;
+use script::response::HandshakeInfo;
+use subjects::handed::Handed;
 use verdicts::Verdict;
 
 // How many verdicts of each kind there are.
@@ -68,5 +87,77 @@ impl Tally {
                 undecided: 0,
             },
         }
+    }
+
+    // Judges the expectations of the preamble against what the handshake told. No entry is looked at.
+    pub fn handshake(
+        mut self,
+        text: &[u8],
+        script: Script,
+        expectations: &[Expectation],
+        number: usize,
+        i: HandshakeInfo,
+        bytes: &[u8],
+        lists: &[[usize; 2]],
+        verdicts: &mut [u8],
+        scratch: &mut [u8],
+    ) -> Turn
+        ensures { λ x. ⌜ turned x (now (verdicts .exit)) ≡ judgeStep (lentOf (now (text .entry)) script [] (now (expectations .entry))) (record { tally = self; verdicts = now (verdicts .entry) }) (judge (askedOf number (Info i) (now (bytes .entry)) (counted (now (lists .entry))) (length (now (scratch .entry))))) ⌝ }
+        ensures { λ _. ⌜ now (scratch .exit) ≡ scratchAfter (lentOf (now (text .entry)) script [] (now (expectations .entry))) self (length (now (verdicts .entry))) (askedOf number (Info i) (now (bytes .entry)) (counted (now (lists .entry))) (length (now (scratch .entry)))) (now (scratch .entry)) ⌝ }
+    {
+        let r = handshake_range(script);
+        let h = Handed::Info(i);
+        let table = counted_of(lists);
+        judge_on(
+            self,
+            text,
+            script,
+            expectations,
+            0,
+            r,
+            number,
+            h,
+            bytes,
+            table,
+            verdicts,
+            scratch,
+        )
+    }
+
+    // Judges the expectations of an entry against a response.
+    pub fn entry(
+        mut self,
+        text: &[u8],
+        script: Script,
+        entries: &[Entry],
+        expectations: &[Expectation],
+        number: usize,
+        response: DaemonResponse,
+        bytes: &[u8],
+        lists: &[[usize; 2]],
+        verdicts: &mut [u8],
+        scratch: &mut [u8],
+    ) -> Turn
+        ensures { λ x. ⌜ turned x (now (verdicts .exit)) ≡ judgeStep (lentOf (now (text .entry)) script (now (entries .entry)) (now (expectations .entry))) (record { tally = self; verdicts = now (verdicts .entry) }) (judge (askedOf number (Response response) (now (bytes .entry)) (counted (now (lists .entry))) (length (now (scratch .entry))))) ⌝ }
+        ensures { λ _. ⌜ now (scratch .exit) ≡ scratchAfter (lentOf (now (text .entry)) script (now (entries .entry)) (now (expectations .entry))) self (length (now (verdicts .entry))) (askedOf number (Response response) (now (bytes .entry)) (counted (now (lists .entry))) (length (now (scratch .entry)))) (now (scratch .entry)) ⌝ }
+    {
+        let n = counting(script.counts.entries, entries.len());
+        let r = entry_range(entries, number);
+        let h = Handed::Response(response);
+        let table = counted_of(lists);
+        judge_on(
+            self,
+            text,
+            script,
+            expectations,
+            n,
+            r,
+            number,
+            h,
+            bytes,
+            table,
+            verdicts,
+            scratch,
+        )
     }
 }

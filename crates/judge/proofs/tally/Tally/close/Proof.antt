@@ -1,0 +1,13 @@
+-- `Tally::close` meets its contract. Assumes nothing.
+use borrow.Author.Needs.{needs}
+use Rattle.judge.proofs.tally.Tally.close.Statement.{statement}
+use Rattle.judge.proofs.tally.Tally.close.Tie as tie
+
+close-answer-requires : tie.Need-close-answer-requires
+close-answer-requires c κs = search needs
+
+returns : tie.Need-returns
+returns c = cc
+
+pub close-spec : {M : Type 1} → statement M
+close-spec = tie.close (tie.spec close-answer-requires returns)

@@ -1,0 +1,2 @@
+pub mod PlainJudge
+pub mod Claim
