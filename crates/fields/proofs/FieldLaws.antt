@@ -1,35 +1,38 @@
 -- The laws of fields: what the code finds at a word is what the definitions say, and a field's word ends on the line. Assumes nothing.
 use Prim.Native.Nat.{ℕ, zero, suc, _+_, _-_, _*_, _^_, _≤_, _<_}
 use mathlib.Core.Path.{_≡_, refl, sym, ap, _∙_}
-use mathlib.Core.Bool.{Bool, true, false}
 use mathlib.Core.List.{List, [], _∷_, _++_, append-assoc, append-nil}
 use mathlib.Core.Option.{Option, none, some}
 use native.Mathlib.Nat.{sub-zero}
 use native.Mathlib.Numerals.{add-one}
 use native.Mathlib.Omega.{arith}
-use lib.Dec.{eqb, leb}
+use lib.IntN.{ℤ}
 use lib.ListN.{length, getD, take, drop, set, length-set, length-drop}
 use lib.Seq.{take-at, take-all, take-suc-set}
 use borrow.Author.Tests.{eq-eqb, ne-eqb, le-leb, lt-leb}
-use Rattle.text.specs.Base.{if_then_else_, _&_, part, overlaid}
+use Rattle.text.specs.Base.{part, overlaid}
 use Rattle.text.specs.Words.{wordAt}
 use Rattle.text.specs.declared.parts.Span.{Span}
 use Rattle.text.proofs.Scan.{rest-more}
 use Rattle.text.proofs.WordLaws.{known}
-use Rattle.values.specs.Numbers.{number, numberOf}
+use Rattle.values.specs.Numbers.{number, signed, numberOf, integerOf}
 use Rattle.values.specs.Hex.{hexDecoded}
 use Rattle.values.specs.declared.number.Number.{Number}
 use Rattle.values.specs.declared.number.Number.the-variants as Number
+use Rattle.values.specs.declared.number.Integer.{Integer}
+use Rattle.values.specs.declared.number.Integer.the-variants as Integer
 use Rattle.values.proofs.HexLaws.{hex-half}
 use Rattle.fields.specs.declared.numbers.NumberAt.{NumberAt}
 use Rattle.fields.specs.declared.numbers.NumberAt.the-variants as NumberAt
+use Rattle.fields.specs.declared.numbers.IntegerAt.{IntegerAt}
+use Rattle.fields.specs.declared.numbers.IntegerAt.the-variants as IntegerAt
 use Rattle.fields.specs.declared.numbers.NumbersAt.{NumbersAt}
 use Rattle.fields.specs.declared.numbers.NumbersAt.the-variants as NumbersAt
 use Rattle.fields.specs.declared.bytes.BytesAt.{BytesAt}
 use Rattle.fields.specs.declared.bytes.BytesAt.the-variants as BytesAt
 use Rattle.fields.specs.declared.bytes.Bytes.{Bytes}
 use Rattle.fields.specs.declared.bytes.Bytes.the-variants as Bytes
-use Rattle.fields.specs.Fields.{Field, field, bad, after, fieldOf, behind, wordBytes, numberAt, numbersAt, hexFor, markedHex, bytesAt, numberField, numbersField, bytesIn, byteCount, bytesField, fieldCount}
+use Rattle.fields.specs.Fields.{Field, field, bad, after, fieldOf, behind, wordBytes, numberAt, integerAt, numbersAt, hexFor, markedHex, bytesAt, numberField, integerField, numbersField, bytesIn, byteCount, bytesField, fieldCount}
 
 -- ---- numbers
 
@@ -43,6 +46,17 @@ module _ (line : List ℕ) (at : ℕ) (w : Span) (n : Number) (e : w ≡ wordAt 
   no-number r = rw (← e, ← q, r)
 
 pub ruleset number-laws = (number-is, no-number)
+
+module _ (line : List ℕ) (at : ℕ) (w : Span) (n : Integer) (e : w ≡ wordAt line at) (q : integerOf n ≡ signed (wordBytes line w)) where
+  pub integer-is : (v : ℤ) → n ≡ Integer.Value v → field v (w .end) ≡ integerAt line at
+  unfolding integerAt integerOf
+  integer-is v r = rw (← e, ← q, r)
+
+  pub no-integer : n ≡ Integer.Bad → bad ≡ integerAt line at
+  unfolding integerAt integerOf
+  no-integer r = rw (← e, ← q, r)
+
+pub ruleset integer-laws = (integer-is, no-integer)
 
 -- ---- several numbers
 
@@ -116,6 +130,10 @@ number-in : (line : List ℕ) (at : ℕ) → at ≤ length line → EndsIn (numb
 unfolding numberAt
 number-in line at h = field-in (length line) (number (2 ^ 64) (wordBytes line (wordAt line at))) (wordAt line at .end) (known line at (wordAt line at) h refl .inside)
 
+integer-in : (line : List ℕ) (at : ℕ) → at ≤ length line → EndsIn (integerAt line at) (length line)
+unfolding integerAt
+integer-in line at h = field-in (length line) (signed (wordBytes line (wordAt line at))) (wordAt line at .end) (known line at (wordAt line at) h refl .inside)
+
 numbers-in : (count : ℕ) (line : List ℕ) (at : ℕ) → at ≤ length line → EndsIn (numbersAt count line at) (length line)
 unfolding numbersAt
 numbers-in zero line at h = h
@@ -131,6 +149,9 @@ module _ (line : List ℕ) (at : ℕ) (end : ℕ) where
   pub number-inside : (r : NumberAt) (v : ℕ) → numberField r ≡ numberAt line at → r ≡ NumberAt.Value v end → at ≤ length line → end ≤ length line
   number-inside r v q b h = rw (← q, b) at (number-in line at h)
 
+  pub integer-inside : (r : IntegerAt) (v : ℤ) → integerField r ≡ integerAt line at → r ≡ IntegerAt.Value v end → at ≤ length line → end ≤ length line
+  integer-inside r v q b h = rw (← q, b) at (integer-in line at h)
+
   pub numbers-inside : (count : ℕ) (r : NumbersAt) (out : List ℕ) → numbersField out r ≡ numbersAt count line at → r ≡ NumbersAt.End end → at ≤ length line → end ≤ length line
   numbers-inside count r out q b h = rw (← q, b) at (numbers-in count line at h)
 
@@ -141,7 +162,7 @@ pub field-bound : (r : BytesAt) (n end most : ℕ) → r ≡ BytesAt.Are n end �
 field-bound r n end most e h = rw e at h
 
 -- for the callers
-pub ruleset field-laws = (numbers-inside, bytes-inside, field-bound)
+pub ruleset field-laws = (integer-inside, numbers-inside, bytes-inside, field-bound)
 
 -- what is left of a line from a place on
 pub rest-of : (s : List ℕ) (p : ℕ) → take (length s - p) (drop p s) ≡ drop p s

@@ -3,14 +3,17 @@ use Prim.Native.Nat.{ℕ, zero, suc, _-_, _*_, _^_}
 use mathlib.Core.List.{List, [], _∷_, _++_}
 use mathlib.Core.Option.{Option, none, some}
 use lib.Dec.{eqb, leb}
+use lib.IntN.{ℤ}
 use lib.ListN.{length, take}
 use Rattle.text.specs.Base.{if_then_else_, _&_, part}
 use Rattle.text.specs.Words.{wordAt}
 use Rattle.text.specs.declared.parts.Span.{Span}
-use Rattle.values.specs.Numbers.{number}
+use Rattle.values.specs.Numbers.{number, signed}
 use Rattle.values.specs.Hex.{hexDecoded}
 use Rattle.fields.specs.declared.numbers.NumberAt.{NumberAt}
 use Rattle.fields.specs.declared.numbers.NumberAt.the-variants as number-variants
+use Rattle.fields.specs.declared.numbers.IntegerAt.{IntegerAt}
+use Rattle.fields.specs.declared.numbers.IntegerAt.the-variants as integer-variants
 use Rattle.fields.specs.declared.numbers.NumbersAt.{NumbersAt}
 use Rattle.fields.specs.declared.numbers.NumbersAt.the-variants as numbers-variants
 use Rattle.fields.specs.declared.bytes.Bytes.{Bytes}
@@ -45,6 +48,10 @@ wordBytes line w = part line (w .start) (w .end - w .start)
 unfoldable pub numberAt : (line : List ℕ) → (at : ℕ) → Field ℕ
 numberAt line at = let w = wordAt line at in fieldOf (number (2 ^ 64) (wordBytes line w)) (w .end)
 
+-- the number of 64 bits with a sign
+unfoldable pub integerAt : (line : List ℕ) → (at : ℕ) → Field ℤ
+integerAt line at = let w = wordAt line at in fieldOf (signed (wordBytes line w)) (w .end)
+
 -- so many numbers, one after another
 unfoldable pub numbersAt : (count : ℕ) → (line : List ℕ) → (at : ℕ) → Field (List ℕ)
 numbersAt zero line at = field [] at
@@ -70,6 +77,10 @@ bytesAt most line at = let w = wordAt line at in fieldOf (markedHex most (wordBy
 abbrev pub numberField : NumberAt → Field ℕ
 numberField (number-variants.Value v end) = field v end
 numberField number-variants.Bad = bad
+
+abbrev pub integerField : IntegerAt → Field ℤ
+integerField (integer-variants.Value v end) = field v end
+integerField integer-variants.Bad = bad
 
 abbrev pub numbersField : (out : List ℕ) → NumbersAt → Field (List ℕ)
 numbersField out (numbers-variants.End end) = field out end

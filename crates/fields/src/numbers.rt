@@ -2,12 +2,19 @@
 ghost use mathlib.Core.Path.{_≡_};
 ghost use Prim.Native.Nat.{_≤_};
 ghost use lib.ListN.{length};
-ghost use Rattle.fields.specs.Fields.{numberAt, numberField, numbersAt, numbersField};
+ghost use Rattle.fields.specs.Fields.{numberAt, numberField, integerAt, integerField, numbersAt, numbersField};
+use values::number::Integer;
 use values::number::Number;
 
 // A number and where its word ends.
 pub enum NumberAt {
     Value(u64, usize),
+    Bad,
+}
+
+// A number with a sign, and where its word ends.
+pub enum IntegerAt {
+    Value(i64, usize),
     Bad,
 }
 
@@ -29,6 +36,20 @@ pub fn number_at(line: &[u8], from: usize) -> NumberAt
         return NumberAt::Bad;
     };
     NumberAt::Value(v, end)
+}
+
+// And one with a sign.
+pub fn integer_at(line: &[u8], from: usize) -> IntegerAt
+    requires { ⌜ from ≤ length (now line) ⌝ }
+    ensures { λ r. ⌜ integerField r ≡ integerAt (now (line .entry)) from ⌝ }
+{
+    let w = text::words::word_at(line, from);
+    let start = w.start;
+    let end = w.end;
+    let Integer::Value(v) = values::number::parse_i64(&line[start..end]) else {
+        return IntegerAt::Bad;
+    };
+    IntegerAt::Value(v, end)
 }
 
 // As many numbers as are lent, one after another.

@@ -13,9 +13,10 @@ use Rattle.script.specs.Reading.{Parsed, refusedAt, read, measured}
 use Rattle.script.specs.declared.records.Counts.{Counts}
 use Rattle.fields.specs.Fields.{after, wordBytes, numbersAt, hexFor}
 use Rattle.replay_read.specs.Agreed.{agreed}
+use Rattle.replay_verdicts.specs.Said as Said
 use Rattle.replay_script.specs.declared.Answer.{Answer}
 use Rattle.replay_script.specs.declared.Case.{Case}
-use Rattle.replay_script.specs.declared.Case.the-variants.{Read, Refused, Dumped, Wrong}
+use Rattle.replay_script.specs.declared.Case.the-variants.{Read, Refused, Dumped, Judged, Wrong}
 
 abbrev pub answer : (number line entries items expectations store : ℕ) → Answer
 answer number line entries items expectations store =
@@ -65,10 +66,15 @@ measureReplayed line at = after (numbersAt 6 line at) Wrong (λ n end. hexReplay
 unfoldable pub readReplayed : (line : List ℕ) → (at : ℕ) → Case
 readReplayed line at = if agreed line at then Dumped else Wrong
 
+-- what follows the word `judged`
+unfoldable pub judgedReplayed : (line : List ℕ) → (at : ℕ) → Case
+judgedReplayed line at = if Said.agreed line at then Judged else Wrong
+
 -- a line by its first word; one with another word is wrong
 unfoldable pub lineReplayed : (line : List ℕ) → Case
 lineReplayed line =
     let w = wordAt line 0 in
     if spells "measure" (wordBytes line w) then measureReplayed line (w .end)
     else if spells "read" (wordBytes line w) then readReplayed line (w .end)
+    else if spells "judged" (wordBytes line w) then judgedReplayed line (w .end)
     else Wrong

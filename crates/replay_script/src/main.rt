@@ -1,13 +1,14 @@
 // Replays stored answers of the Rust. Standard input has a case a line. `measure`, six numbers (the refusal's number or 0, its line, entries, items,
 // expectations, store bytes) and the text in hex: Measure is asked, and what it answers is compared with the numbers. `read` and what crate replay_read
-// says: Read is asked, and what it leaves is compared. Said is how many texts were read and refused by Measure as the Rust did, how many were left by
-// Read as the Rust has them, and how many cases were wrong.
+// says: Read is asked, and what it leaves is compared. `judged` and what crate replay_verdicts says: Message is asked, and its verdict and message are
+// compared. Said is how many texts were read and refused by Measure as the Rust did, how many were left by Read as the Rust has them, how many expectations
+// were judged as the Rust does, and how many cases were wrong.
 ghost use mathlib.Core.Path.{_≡_};
 ghost use Prim.Native.Nat.{_≤_};
 ghost use lib.ListN.{length};
 ghost use Rattle.script.specs.Reading.{measured};
 ghost use Rattle.parse.specs.MeasureRead.{measuredOf};
-ghost use Rattle.replay_script.specs.Answers.{answerOf, sameAnswer, matched, replayed, hexReplayed, measureReplayed, readReplayed, lineReplayed};
+ghost use Rattle.replay_script.specs.Answers.{answerOf, sameAnswer, matched, replayed, hexReplayed, measureReplayed, readReplayed, judgedReplayed, lineReplayed};
 ghost use Rattle.replay_script.specs.Tallies.{counted, total, allCounted};
 use fields::bytes::Bytes;
 use fields::numbers::NumbersAt;
@@ -24,11 +25,13 @@ struct Answer {
     store: usize,
 }
 
-// What a line of the input came to: a text that Measure reads, one that it refuses, one whose dump by Read is right. A line that cannot be read is Wrong.
+// What a line of the input came to: a text that Measure reads, one that it refuses, one whose dump by Read is right; an
+// expectation whose verdict and message are right. A line that cannot be read is Wrong.
 enum Case {
     Read,
     Refused,
     Dumped,
+    Judged,
     Wrong,
 }
 
@@ -36,6 +39,7 @@ struct Tally {
     read: usize,
     refused: usize,
     dumped: usize,
+    judged: usize,
     wrong: usize,
 }
 
@@ -145,6 +149,17 @@ fn replay_read(line: &[u8], from: usize) -> Case
     Case::Wrong
 }
 
+// What follows the word `judged`.
+fn replay_judged(line: &[u8], from: usize) -> Case
+    requires { ⌜ from ≤ length (now line) ⌝ }
+    ensures { λ r. ⌜ r ≡ judgedReplayed (now (line .entry)) from ⌝ }
+{
+    if replay_verdicts::lines::agrees(line, from) {
+        return Case::Judged;
+    }
+    Case::Wrong
+}
+
 fn replay_line(line: &[u8]) -> Case
     ensures { λ r. ⌜ r ≡ lineReplayed (now (line .entry)) ⌝ }
 {
@@ -157,13 +172,16 @@ fn replay_line(line: &[u8]) -> Case
     if text::parts::same(&line[start..end], b"read") {
         return replay_read(line, end);
     }
+    if text::parts::same(&line[start..end], b"judged") {
+        return replay_judged(line, end);
+    }
     Case::Wrong
 }
 
 impl Tally {
     // With one case more. The counts are small: a case takes a line of the input.
     fn with(self, c: Case) -> Tally
-        requires { ⌜ total self ≤ 0x80000 ⌝ }
+        requires { ⌜ total self ≤ 0x100000 ⌝ }
         ensures { λ r. ⌜ r ≡ counted self c ⌝ }
     {
         match c {
@@ -179,6 +197,10 @@ impl Tally {
                 dumped: self.dumped + 1,
                 ..self
             },
+            Case::Judged => Tally {
+                judged: self.judged + 1,
+                ..self
+            },
             Case::Wrong => Tally {
                 wrong: self.wrong + 1,
                 ..self
@@ -188,14 +210,15 @@ impl Tally {
 }
 
 fn replay_all(input: &[u8]) -> Tally
-    requires { ⌜ length (now input) ≤ 0x80000 ⌝ }
+    requires { ⌜ length (now input) ≤ 0x100000 ⌝ }
     ensures { λ r. ⌜ r ≡ allCounted (now (input .entry)) ⌝ }
-    ensures { λ r. ⌜ total r ≤ 0x80000 ⌝ }
+    ensures { λ r. ⌜ total r ≤ 0x100000 ⌝ }
 {
     let mut tally = Tally {
         read: 0,
         refused: 0,
         dumped: 0,
+        judged: 0,
         wrong: 0,
     };
     let mut number: usize = 1;
@@ -213,7 +236,7 @@ fn replay_all(input: &[u8]) -> Tally
 
 // An input that does not fit is not replayed to its end: that is one case wrong.
 fn with_unread(tally: Tally) -> Tally
-    requires { ⌜ total tally ≤ 0x80000 ⌝ }
+    requires { ⌜ total tally ≤ 0x100000 ⌝ }
 {
     let mut beyond = [0u8; 1];
     if io::read_full(0, &mut beyond) == 0 {
@@ -227,13 +250,19 @@ fn say(words: &[u8], n: usize) {
     io::print_decimal(STDOUT_FILENO, n as u64);
 }
 
+// A room for the input, made apart: a proof that has it at hand looks at each of its bytes.
+fn room() -> [u8; 0x100000] {
+    [0u8; 0x100000]
+}
+
 fn main() {
-    let mut input = [0u8; 0x80000];
+    let mut input = room();
     let n = io::read_full(0, &mut input);
     let tally = with_unread(replay_all(&input[..n]));
     say(b"read ", tally.read);
     say(b"\nrefused ", tally.refused);
     say(b"\ndumped ", tally.dumped);
+    say(b"\njudged ", tally.judged);
     say(b"\nwrong ", tally.wrong);
     io::write_all(STDOUT_FILENO, b"\n");
 }

@@ -31,6 +31,7 @@ mod report;
 mod row;
 mod sample;
 mod sample_read;
+mod sample_verdicts;
 mod scripts;
 mod subjects;
 mod text;
@@ -90,6 +91,7 @@ fn seed(word: &str) -> Option<u64> {
 fn print_sample(seed: u64) -> ExitCode {
     sample::print(seed);
     sample_read::print(seed);
+    sample_verdicts::print(seed);
     ExitCode::SUCCESS
 }
 

@@ -4,7 +4,7 @@
 use std::collections::BTreeMap;
 
 use library::Told;
-use nix_wire::script::{Expect, ResultData};
+use nix_wire::script::{DaemonResponse, Expect};
 
 use crate::decisions::{class, UNDECIDED};
 use crate::gen::Rng;
@@ -33,21 +33,21 @@ pub fn compare(seed: u64, report: &mut Report) {
     met.ask(report);
 }
 
-struct Case {
+pub struct Case {
     expect: Expect,
     subject: Subject,
-    answer: Answer,
-    laid: Laid,
+    pub answer: Answer,
+    pub laid: Laid,
     /// How long the scratch and the buffer are.
     lent: [usize; 2],
-    refusal: u64,
+    pub refusal: u64,
     /// For the labels: the kinds of expectation, matcher and result, and the field.
     kinds: [usize; 4],
 }
 
 impl Case {
     /// The case of a number: the kinds go round with it, the rest is random.
-    fn new(seed: u64, number: u64) -> Case {
+    pub fn new(seed: u64, number: u64) -> Case {
         let mut rng = Rng::new(seed ^ number.wrapping_mul(0x9E37_79B9));
         let (entry, kinds) = kinds_of(number);
         let [kind, matcher, result, field] = kinds;
@@ -135,6 +135,53 @@ impl Case {
             0 => class(*verdict),
             refusal => refused(refusal),
         })
+    }
+
+    /// The kinds of cases that it is one of.
+    pub fn shows(&self) -> Vec<String> {
+        if self.refusal > 0 {
+            return vec![refused(self.refusal).to_string()];
+        }
+        let [kind, matcher, result, _] = self.kinds;
+        let Answer { verdict, value, .. } = &self.answer;
+        let (kind, matcher) = (EXPECTS[kind], MATCHERS[matcher]);
+        let mut shown = match &self.subject {
+            Subject::Response(_) => vec![format!("entry {kind}"), format!("{} met", RESULTS[result])],
+            Subject::Handshake(_) => vec![format!("handshake {kind}")],
+        };
+        shown.extend(self.shown_field());
+        if kind == "Terminal" {
+            shown.push(format!("terminal {}", class(*verdict)));
+            return shown;
+        }
+        shown.push(match value {
+            None => format!("{matcher} missing"),
+            Some(_) => format!("{matcher} {}", class(*verdict)),
+        });
+        match value.as_ref().map(String::len) {
+            Some(_) if *verdict == UNDECIDED => {}
+            Some(0) => shown.push("an empty value".to_string()),
+            Some(1_000..) => shown.push("a value of 1,000 bytes or more".to_string()),
+            _ => {}
+        }
+        if self.laid.lists.len() >= crate::laid::RECORDS {
+            shown.push("a table of 32,768 records".to_string());
+        }
+        shown
+    }
+
+    /// A field of a result that has it, there or missing.
+    fn shown_field(&self) -> Option<String> {
+        let Expect::Result { field: Some(field), .. } = &self.expect else {
+            return None;
+        };
+        let Subject::Response(DaemonResponse { result: Some(_), .. }) = &self.subject else {
+            return None;
+        };
+        let name = RESULTS[self.kinds[2]];
+        let has = FIELDS_OF.iter().any(|(result, fields)| *result == name && fields.contains(&field.as_str()));
+        let absent = if self.answer.value.is_none() { " missing" } else { "" };
+        has.then(|| format!("{name}.{field}{absent}"))
     }
 }
 
@@ -249,90 +296,47 @@ fn before(at: usize) -> u8 {
     0x80 | (at as u8).wrapping_mul(37)
 }
 
+/// Every kind of case that is to be met.
+pub fn kinds() -> Vec<String> {
+    let mut kinds: Vec<String> = Vec::new();
+    for kind in EXPECTS {
+        kinds.push(format!("entry {kind}"));
+        kinds.push(format!("handshake {kind}"));
+    }
+    for matcher in MATCHERS {
+        kinds.push(format!("{matcher} passed"));
+        kinds.push(format!("{matcher} failed"));
+        kinds.push(format!("{matcher} missing"));
+    }
+    kinds.push("Regex undecided".to_string());
+    for result in RESULTS {
+        kinds.push(format!("{result} met"));
+    }
+    for (result, fields) in FIELDS_OF {
+        for field in *fields {
+            kinds.push(format!("{result}.{field}"));
+        }
+    }
+    kinds.extend(OTHERS.iter().map(|other| other.to_string()));
+    kinds
+}
+
 /// How many cases of each kind were met.
 struct Met {
     counts: BTreeMap<String, u64>,
 }
 
 impl Met {
-    /// Every kind that is to be met, not met yet.
+    /// Every kind, not met yet.
     fn new() -> Met {
-        let mut kinds: Vec<String> = Vec::new();
-        for kind in EXPECTS {
-            kinds.push(format!("entry {kind}"));
-            kinds.push(format!("handshake {kind}"));
-        }
-        for matcher in MATCHERS {
-            kinds.push(format!("{matcher} passed"));
-            kinds.push(format!("{matcher} failed"));
-            kinds.push(format!("{matcher} missing"));
-        }
-        kinds.push("Regex undecided".to_string());
-        for result in RESULTS {
-            kinds.push(format!("{result} met"));
-        }
-        for (result, fields) in FIELDS_OF {
-            for field in *fields {
-                kinds.push(format!("{result}.{field}"));
-            }
-        }
-        kinds.extend(OTHERS.iter().map(|other| other.to_string()));
         Met {
-            counts: kinds.into_iter().map(|kind| (kind, 0)).collect(),
+            counts: kinds().into_iter().map(|kind| (kind, 0)).collect(),
         }
-    }
-
-    fn met(&mut self, kind: &str) {
-        *self.counts.get_mut(kind).unwrap_or_else(|| panic!("{kind} is no kind")) += 1;
     }
 
     fn count(&mut self, case: &Case) {
-        if case.refusal > 0 {
-            self.met(refused(case.refusal));
-            return;
-        }
-        let [kind, matcher, result, _] = case.kinds;
-        let Answer { verdict, value, .. } = &case.answer;
-        let (kind, matcher) = (EXPECTS[kind], MATCHERS[matcher]);
-        match &case.subject {
-            Subject::Response(response) => {
-                self.met(&format!("entry {kind}"));
-                self.met(&format!("{} met", RESULTS[result]));
-                self.count_field(case, response.result.as_ref());
-            }
-            Subject::Handshake(_) => self.met(&format!("handshake {kind}")),
-        }
-        if kind == "Terminal" {
-            self.met(if *verdict == 1 { "terminal passed" } else { "terminal failed" });
-            return;
-        }
-        match value {
-            None => self.met(&format!("{matcher} missing")),
-            Some(_) if *verdict == UNDECIDED => self.met("Regex undecided"),
-            Some(value) => {
-                self.met(&format!("{matcher} {}", class(*verdict)));
-                match value.len() {
-                    0 => self.met("an empty value"),
-                    1_000.. => self.met("a value of 1,000 bytes or more"),
-                    _ => {}
-                }
-            }
-        }
-        if case.laid.lists.len() >= crate::laid::RECORDS {
-            self.met("a table of 32,768 records");
-        }
-    }
-
-    /// A field of a result that has it, there or missing.
-    fn count_field(&mut self, case: &Case, result: Option<&ResultData>) {
-        let Expect::Result { field: Some(field), .. } = &case.expect else {
-            return;
-        };
-        let name = RESULTS[case.kinds[2]];
-        let has = FIELDS_OF.iter().any(|(result, fields)| *result == name && fields.contains(&field.as_str()));
-        if has && result.is_some() {
-            let absent = if case.answer.value.is_none() { " missing" } else { "" };
-            self.met(&format!("{name}.{field}{absent}"));
+        for kind in case.shows() {
+            *self.counts.get_mut(&kind).unwrap_or_else(|| panic!("{kind} is no kind")) += 1;
         }
     }
 

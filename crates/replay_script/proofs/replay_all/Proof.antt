@@ -1,7 +1,7 @@
 -- `replay_script::replay_all` meets its contract. The loop's invariant: the cases counted, and those of the lines from `at` on, are all cases; there are no
 -- more cases than bytes so far. Assumes nothing.
 use Prim.Native.Nat.{ℕ, _+_, _-_, _≤_, _<_}
-use mathlib.Core.Path.{_≡_, refl, sym, ap, _∙_}
+use mathlib.Core.Path.{_≡_, refl}
 use mathlib.Core.List.{List}
 use native.Mathlib.Omega.{arith}
 use lib.ListN.{length}
@@ -10,7 +10,7 @@ use Rattle.text.specs.declared.lines.Line.{Line}
 use Rattle.text.proofs.LineLaws.{linesAt, known, lines-none, line-steps}
 use Rattle.replay_script.specs.declared.Tally.{Tally}
 use Rattle.replay_script.specs.declared.Case.{Case}
-use Rattle.replay_script.specs.declared.Case.the-variants.{Read, Refused, Dumped, Wrong}
+use Rattle.replay_script.specs.declared.Case.the-variants.{Read, Refused, Dumped, Judged, Wrong}
 use Rattle.replay_script.specs.Answers.{lineReplayed}
 use Rattle.replay_script.specs.Tallies.{counted, total, countedOn, allCounted}
 use borrow.Author.Needs.{needs}
@@ -22,6 +22,7 @@ unfolding counted
 one-more t Read = omega arith
 one-more t Refused = omega arith
 one-more t Dumped = omega arith
+one-more t Judged = omega arith
 one-more t Wrong = omega arith
 
 -- what is counted from a place on, with what was counted before it

@@ -11,7 +11,7 @@ use Rattle.text.proofs.WordLaws.{word-places}
 use Rattle.fields.specs.Fields.{wordBytes}
 use Rattle.replay_script.specs.declared.Case.{Case}
 use Rattle.replay_script.specs.declared.Case.the-variants.{Wrong}
-use Rattle.replay_script.specs.Answers.{measureReplayed, readReplayed, lineReplayed}
+use Rattle.replay_script.specs.Answers.{measureReplayed, readReplayed, judgedReplayed, lineReplayed}
 use borrow.Author.Needs.{needs}
 use Rattle.replay_script.proofs.replay_line.Statement.{statement}
 use Rattle.replay_script.proofs.replay_line.Tie as tie
@@ -26,11 +26,16 @@ module _ (line : List ℕ) (w : Span) (e : w ≡ wordAt line 0) (b : Bool) (p : 
     unfolding lineReplayed
     is-read c t g = rw (← e, spells-as "measure" (wordBytes line w) ∙ sym p ∙ f, spells-as "read" (wordBytes line w) ∙ sym q ∙ t) g
 
-    is-other : d ≡ false → Wrong ≡ lineReplayed line
-    unfolding lineReplayed
-    is-other g = rw (← e, spells-as "measure" (wordBytes line w) ∙ sym p ∙ f, spells-as "read" (wordBytes line w) ∙ sym q ∙ g)
+    module _ (g : d ≡ false) (h : Bool) (r : h ≡ sameBytes (wordBytes line w) (codes "judged")) where
+      is-judged : (c : Case) → h ≡ true → c ≡ judgedReplayed line (w .end) → c ≡ lineReplayed line
+      unfolding lineReplayed
+      is-judged c t k = rw (← e, spells-as "measure" (wordBytes line w) ∙ sym p ∙ f, spells-as "read" (wordBytes line w) ∙ sym q ∙ g, spells-as "judged" (wordBytes line w) ∙ sym r ∙ t) k
 
-ruleset kinds = (is-measure, is-read, is-other)
+      is-other : h ≡ false → Wrong ≡ lineReplayed line
+      unfolding lineReplayed
+      is-other k = rw (← e, spells-as "measure" (wordBytes line w) ∙ sym p ∙ f, spells-as "read" (wordBytes line w) ∙ sym q ∙ g, spells-as "judged" (wordBytes line w) ∙ sym r ∙ k)
+
+ruleset kinds = (is-measure, is-read, is-judged, is-other)
 
 word-at-requires : tie.Need-word-at-requires
 word-at-requires c κs = search needs
@@ -77,8 +82,29 @@ replay-read-requires c κs = search (needs, word-places)
 returns-2 : tie.Need-returns-2
 returns-2 c = search (needs, kinds)
 
+sub-same-3 : tie.Need-sub-same-3
+sub-same-3 c = search (needs, word-places)
+
+part-same-start-3 : tie.Need-part-same-start-3
+part-same-start-3 c = search (needs, word-places)
+
+part-same-end-3 : tie.Need-part-same-end-3
+part-same-end-3 c = search (needs, word-places)
+
+slice-aggregate-same-3 : tie.Need-slice-aggregate-same-3
+slice-aggregate-same-3 c = search needs
+
+same-requires-3 : tie.Need-same-requires-3
+same-requires-3 c κs = search needs
+
+replay-judged-requires : tie.Need-replay-judged-requires
+replay-judged-requires c κs = search (needs, word-places)
+
 returns-3 : tie.Need-returns-3
 returns-3 c = search (needs, kinds)
+
+returns-4 : tie.Need-returns-4
+returns-4 c = search (needs, kinds)
 
 pub replay-line-spec : {M : Type 1} → statement M
 replay-line-spec =
@@ -99,4 +125,11 @@ replay-line-spec =
     same-requires-2
     replay-read-requires
     returns-2
-    returns-3)
+    sub-same-3
+    part-same-start-3
+    part-same-end-3
+    slice-aggregate-same-3
+    same-requires-3
+    replay-judged-requires
+    returns-3
+    returns-4)

@@ -3,30 +3,34 @@ use Prim.Native.Nat.{_+_}
 use mathlib.Core.Path.{_≡_}
 use Rattle.replay_script.specs.declared.Tally.{Tally}
 use Rattle.replay_script.specs.declared.Case.{Case}
-use Rattle.replay_script.specs.declared.Case.the-variants.{Read, Refused, Dumped, Wrong}
+use Rattle.replay_script.specs.declared.Case.the-variants.{Read, Refused, Dumped, Judged, Wrong}
 use Rattle.replay_script.specs.Tallies.{tally, counted}
 use borrow.Author.Needs.{needs}
 use Rattle.replay_script.proofs.Tally.with.Statement.{statement}
 use Rattle.replay_script.proofs.Tally.with.Tie as tie
 
 module _ (t : Tally) (c : Case) where
-  one-read : c ≡ Read → tally (t .read + 1) (t .refused) (t .dumped) (t .wrong) ≡ counted t c
+  one-read : c ≡ Read → tally (t .read + 1) (t .refused) (t .dumped) (t .judged) (t .wrong) ≡ counted t c
   unfolding counted
   one-read e = rw e
 
-  one-refused : c ≡ Refused → tally (t .read) (t .refused + 1) (t .dumped) (t .wrong) ≡ counted t c
+  one-refused : c ≡ Refused → tally (t .read) (t .refused + 1) (t .dumped) (t .judged) (t .wrong) ≡ counted t c
   unfolding counted
   one-refused e = rw e
 
-  one-dumped : c ≡ Dumped → tally (t .read) (t .refused) (t .dumped + 1) (t .wrong) ≡ counted t c
+  one-dumped : c ≡ Dumped → tally (t .read) (t .refused) (t .dumped + 1) (t .judged) (t .wrong) ≡ counted t c
   unfolding counted
   one-dumped e = rw e
 
-  one-wrong : c ≡ Wrong → tally (t .read) (t .refused) (t .dumped) (t .wrong + 1) ≡ counted t c
+  one-judged : c ≡ Judged → tally (t .read) (t .refused) (t .dumped) (t .judged + 1) (t .wrong) ≡ counted t c
+  unfolding counted
+  one-judged e = rw e
+
+  one-wrong : c ≡ Wrong → tally (t .read) (t .refused) (t .dumped) (t .judged) (t .wrong + 1) ≡ counted t c
   unfolding counted
   one-wrong e = rw e
 
-ruleset counting = (one-read, one-refused, one-dumped, one-wrong)
+ruleset counting = (one-read, one-refused, one-dumped, one-judged, one-wrong)
 
 enum-told : tie.Need-enum-told
 enum-told c = search needs
@@ -37,20 +41,26 @@ add-t4 c = search needs
 enum-told-2 : tie.Need-enum-told-2
 enum-told-2 c = search needs
 
-add-t8 : tie.Need-add-t8
-add-t8 c = search needs
+add-t9 : tie.Need-add-t9
+add-t9 c = search needs
 
 enum-told-3 : tie.Need-enum-told-3
 enum-told-3 c = search needs
 
-add-t12 : tie.Need-add-t12
-add-t12 c = search needs
+add-t14 : tie.Need-add-t14
+add-t14 c = search needs
 
 enum-told-4 : tie.Need-enum-told-4
 enum-told-4 c = search needs
 
-add-t16 : tie.Need-add-t16
-add-t16 c = search needs
+add-t19 : tie.Need-add-t19
+add-t19 c = search needs
+
+enum-told-5 : tie.Need-enum-told-5
+enum-told-5 c = search needs
+
+add-t24 : tie.Need-add-t24
+add-t24 c = search needs
 
 returns : tie.Need-returns
 returns c = search (needs, counting)
@@ -64,6 +74,9 @@ returns-3 c = search (needs, counting)
 returns-4 : tie.Need-returns-4
 returns-4 c = search (needs, counting)
 
+returns-5 : tie.Need-returns-5
+returns-5 c = search (needs, counting)
+
 pub with-spec : {M : Type 1} → statement M
 with-spec =
     tie.close
@@ -71,12 +84,15 @@ with-spec =
     enum-told
     add-t4
     enum-told-2
-    add-t8
+    add-t9
     enum-told-3
-    add-t12
+    add-t14
     enum-told-4
-    add-t16
+    add-t19
+    enum-told-5
+    add-t24
     returns
     returns-2
     returns-3
-    returns-4)
+    returns-4
+    returns-5)

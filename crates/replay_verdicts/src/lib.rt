@@ -1,0 +1,2 @@
+// Stored answers of the Rust to Message, replayed.
+pub mod lines;
