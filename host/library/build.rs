@@ -1,4 +1,4 @@
-//! Links `libexports.a`, which `rt staticlib exports` writes into `target/staticlib` of the repository.
+//! Links the archives that `rt staticlib` writes into `target/staticlib` of the repository.
 //! Another folder can be given in NWSCRIPT_LIBRARY.
 
 use std::env;
@@ -11,12 +11,14 @@ fn main() {
         Some(folder) => PathBuf::from(folder),
         None => PathBuf::from(env::var_os("CARGO_MANIFEST_DIR").unwrap()).join("../../target/staticlib"),
     };
-    let archive = folder.join("libexports.a");
-    if !archive.exists() {
-        eprintln!("{} is missing: run `rt staticlib exports` in the root of the repository.", archive.display());
-        exit(1);
-    }
-    println!("cargo:rerun-if-changed={}", archive.display());
     println!("cargo:rustc-link-search=native={}", folder.display());
-    println!("cargo:rustc-link-lib=static=exports");
+    for library in ["exports", "verdict_exports"] {
+        let archive = folder.join(format!("lib{library}.a"));
+        if !archive.exists() {
+            eprintln!("{} is missing: run `rt staticlib {library}` in the root of the repository.", archive.display());
+            exit(1);
+        }
+        println!("cargo:rerun-if-changed={}", archive.display());
+        println!("cargo:rustc-link-lib=static={library}");
+    }
 }

@@ -1,6 +1,6 @@
-//! The verdict and the message of one expectation beside the reference's `evaluate_expects` and
-//! `evaluate_handshake_expects`, which make the message too. Only equal answers are timed. At last the decisions alone,
-//! beside the reference's whole answer, since its own decision is private.
+//! The verdict of one expectation, with its message and alone, beside the reference's `evaluate_expects` and
+//! `evaluate_handshake_expects`, which make both. Only equal answers are timed. At last the decisions alone, beside the
+//! reference's whole answer, since its own decision is private.
 
 use std::hint::black_box;
 
@@ -13,14 +13,19 @@ use nix_wire::script::{DaemonResponse, ErrorInfo, Expect, Matcher, PathInfoResul
 use crate::timing;
 
 pub fn print() {
-    println!("verdict and message{:<45}ours ns    Rust ns  times as fast", "");
-    let mut least = [f64::INFINITY; 2];
+    println!("verdict and message{:<45}ours ns    Rust ns  times as fast   verdict alone", "");
+    // Of others and of plain patterns: with the message, and alone.
+    let mut least = [[f64::INFINITY; 2]; 2];
     for case in cases() {
         let faster = print_row(&case);
         let pattern = usize::from(matches!(case.matcher(), Some(Matcher::Regex(_))));
-        least[pattern] = least[pattern].min(faster);
+        for (least, faster) in least[pattern].iter_mut().zip(faster) {
+            *least = least.min(faster);
+        }
     }
-    println!("least: {:.1} times as fast on plain patterns, {:.2} times on all others", least[1], least[0]);
+    for (kinds, [whole, alone]) in [("plain patterns", least[1]), ("all others", least[0])] {
+        println!("least: {whole:.2} times as fast on {kinds}, {alone:.2} times for the verdict alone");
+    }
     println!();
     print_decisions();
 }
@@ -58,8 +63,8 @@ impl Case {
     }
 }
 
-/// Prints a row, and gives how many times as fast ours is.
-fn print_row(case: &Case) -> f64 {
+/// Prints a row, and gives how many times as fast ours is, with the message and alone.
+fn print_row(case: &Case) -> [f64; 2] {
     let laid = Laid::new(case);
     let asked = laid.asked();
     let (mut scratch, mut buffer) = (vec![0; 40_000], vec![0; 40_000]);
@@ -68,15 +73,20 @@ fn print_row(case: &Case) -> f64 {
     let ours = (told.refusal, told.verdict == 1, String::from_utf8_lossy(&buffer[..told.len]));
     let shown = message.strip_suffix(&format!("{:?}", case.expect)).unwrap_or(&message);
     assert_eq!(ours, (0, passed, shown.into()), "{}: only equal answers are timed", case.name);
+    assert_eq!(library::verdict(&asked), u64::from(told.verdict), "{}: the verdict alone is the same", case.name);
     let mut ours = || {
         black_box(library::message(black_box(&asked), black_box(&mut scratch), black_box(&mut buffer)));
     };
     let mut rust = || {
         black_box(case.rust());
     };
-    let [ours, rust] = timing::best([&mut ours, &mut rust]);
-    let faster = rust / ours;
-    println!("{:<64}{ours:>7.1}{rust:>11.1}{faster:>15.2}", case.name);
+    let mut alone = || {
+        black_box(library::verdict(black_box(&asked)));
+    };
+    let [ours, rust, alone] = timing::best([&mut ours, &mut rust, &mut alone]);
+    let faster = [rust / ours, rust / alone];
+    let [whole, of_verdict] = faster;
+    println!("{:<64}{ours:>7.1}{rust:>11.1}{whole:>15.2}{alone:>8.1}{of_verdict:>8.2}", case.name);
     faster
 }
 

@@ -1,4 +1,4 @@
-//! The verdict and the message of one expectation, against the reference's `evaluate_expects` and
+//! The verdict of one expectation, alone and with its message, against the reference's `evaluate_expects` and
 //! `evaluate_handshake_expects`; refusals by rules that are restated in `forged`.
 
 use std::collections::BTreeMap;
@@ -127,6 +127,15 @@ impl Case {
             [("scratch", scratch, if read { value } else { "" }), ("buffer", buffer, if read { message } else { "" })];
         if told != expected {
             return Err(format!("ours {told:?}, Rust's {expected:?} {message:?}, of {self:?}"));
+        }
+        // 34 and 38 speak of what Message writes.
+        let expected = match self.refusal {
+            31 | 32 => self.refusal,
+            _ => u64::from(*verdict),
+        };
+        let alone = library::verdict(&self.laid.asked());
+        if alone != expected {
+            return Err(format!("ours {alone} for the verdict alone, Rust's {expected}, of {self:?}"));
         }
         for (name, guarded, bytes) in written {
             guarded.holds(bytes.as_bytes()).map_err(|why| format!("the {name} {why}, of {self:?}"))?;

@@ -76,6 +76,32 @@ mod exports {
             verdict: *mut u8,
             len: *mut usize,
         ) -> u64;
+        pub fn nwscript_entry_verdict(
+            text: *const u8,
+            text_len: usize,
+            expect: *const u64,
+            expect_len: usize,
+            n: i64,
+            response: *const u64,
+            response_len: usize,
+            bytes: *const u8,
+            bytes_len: usize,
+            lists: *const [usize; 2],
+            lists_len: usize,
+        ) -> u64;
+        pub fn nwscript_handshake_verdict(
+            text: *const u8,
+            text_len: usize,
+            expect: *const u64,
+            expect_len: usize,
+            n: i64,
+            info: *const u64,
+            info_len: usize,
+            bytes: *const u8,
+            bytes_len: usize,
+            lists: *const [usize; 2],
+            lists_len: usize,
+        ) -> u64;
     }
 }
 
@@ -313,4 +339,27 @@ pub fn message(asked: &Asked, scratch: &mut [u8], buffer: &mut [u8]) -> Told {
         )
     };
     Told { refusal, verdict, len }
+}
+
+/// The verdict's number alone, or 31 or 32 where it is refused. Nothing is written.
+pub fn verdict(asked: &Asked) -> u64 {
+    let call = match asked.against {
+        Against::Response => exports::nwscript_entry_verdict,
+        Against::Handshake => exports::nwscript_handshake_verdict,
+    };
+    unsafe {
+        call(
+            asked.text.as_ptr(),
+            asked.text.len(),
+            asked.expect.as_ptr(),
+            asked.expect.len(),
+            asked.n,
+            asked.subject.as_ptr(),
+            asked.subject.len(),
+            asked.bytes.as_ptr(),
+            asked.bytes.len(),
+            asked.lists.as_ptr(),
+            asked.lists.len(),
+        )
+    }
 }
