@@ -1,0 +1,4 @@
+pub mod AskLaws
+pub mod CallingLaws
+pub mod RunLaws
+pub mod Made

@@ -1,0 +1,30 @@
+-- A list of calls on lent tables: the scratch after each call, and after all of them. Assumes nothing.
+use Prim.Native.Nat.{ℕ}
+use mathlib.Core.Bool.{Bool, false}
+use mathlib.Core.List.{List, [], _∷_, _++_}
+use lib.ListN.{length, take, drop}
+use lib.Dec.{ltb}
+use Rattle.text.specs.Base.{_or_}
+use Rattle.rows.specs.Rows.{at}
+use Rattle.judge.specs.declared.calls.Answer.{Answer}
+use Rattle.judge.specs.Calls.{Call, judge, close}
+use Rattle.judge.specs.Judge.{Lent, JudgeState, scratchAfter}
+
+-- A call is lent the first n bytes of the scratch; the rest is as it was.
+unfoldable pub onFront : (n : ℕ) → (List ℕ → List ℕ) → (scratch : List ℕ) → List ℕ
+onFront n f scratch = f (take n scratch) ++ drop n scratch
+
+-- the scratch after a call
+unfoldable pub scratchCall : Lent → JudgeState → Call → (scratch : List ℕ) → List ℕ
+scratchCall k s (judge j) scratch = onFront (j .scratch) (scratchAfter k (s .tally) (length (s .verdicts)) j) scratch
+scratchCall k s close scratch = scratch
+
+-- Each call finds the state and the scratch that the one before it left: the last scratch.
+unfoldable pub scratchRun : {State : Type 0} → (step : State → Call → Answer × State) → (writes : State → Call → List ℕ → List ℕ) → State → List Call → (scratch : List ℕ) → List ℕ
+scratchRun step writes s [] scratch = scratch
+scratchRun step writes s (c ∷ cs) scratch = scratchRun step writes (step s c .1) cs (writes s c scratch)
+
+-- a row asks for more bytes of the scratch than are lent
+unfoldable pub asksMore : (lent : ℕ) → (rows : List (List ℕ)) → Bool
+asksMore lent [] = false
+asksMore lent (row ∷ rows) = ltb lent (at row 2) or asksMore lent rows

@@ -1,0 +1,3 @@
+// A list of calls, one after another, on the tables of a script.
+pub mod asking;
+pub mod calling;
