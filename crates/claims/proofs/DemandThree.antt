@@ -31,7 +31,7 @@ module _
   abbrev pub lent : Lent
   lent = record { text = text; script = script; entries = entries-left; expectations = expectations-left }
 
-  as-read : (r : Reading) × AsRead (lentOf entries items expectations store) entries expectations r lent
+  pub as-read : (r : Reading) × AsRead (lentOf entries items expectations store) entries expectations r lent
   unfolding answerOf scriptOr tablesOr
   as-read = go (readInto (lentOf entries items expectations store) text) refl answers leaves-entries leaves-expectations
     where

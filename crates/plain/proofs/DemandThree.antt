@@ -55,7 +55,7 @@ module _ (k : Lent) (a : Agrees k) (before : List ℕ) where
   abbrev places : ℕ
   places = length before
 
-  our-begin : shows k a before [] ≡ judgeStart before
+  pub our-begin : shows k a before [] ≡ judgeStart before
   unfolding shows stateOver plainOf
   our-begin = rw (no-slots (ownedLines text), none-counted (length (ownedLines text)), none-over (length (ownedLines text)) before) refl
 

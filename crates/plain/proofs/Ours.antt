@@ -180,7 +180,7 @@ module _ (k : Lent) (a : Agrees k) where
         ∙ cut-within (length (belonging n ls)) (earlier n ls) (length ls) (k .expectations) (belonging-fit n ls)
 
     -- what is judged is what the lines of the number say
-    said-lines : saidBy k r ≡ belonging n ls
+    pub said-lines : saidBy k r ≡ belonging n ls
     unfolding saidBy said
     said-lines =
         let f : Expectation → Expected = λ e. expectedOf (k .text) (e .expect) in

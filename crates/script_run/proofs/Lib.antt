@@ -1,0 +1,3 @@
+pub mod RanLaws
+pub mod ScratchLaws
+pub mod Made
