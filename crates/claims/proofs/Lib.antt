@@ -1,1 +1,4 @@
+pub mod Claims
+pub mod DemandOne
 pub mod DemandThree
+pub mod Table
