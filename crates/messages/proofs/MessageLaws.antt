@@ -1,11 +1,16 @@
 -- Rooms and bytes of words and pieces, one behind the other. Assumes nothing.
 use Prim.Native.Nat.{ℕ, _+_, _-_, _≤_}
 use mathlib.Core.Path.{_≡_, refl, sym, ap, _∙_}
-use mathlib.Core.List.{List, [], _++_, append-assoc}
+use mathlib.Core.Bool.{true, false}
+use mathlib.Core.List.{List, [], _∷_, _++_, append-assoc}
 use native.Mathlib.Omega.{arith}
+use lib.Dec.{eqb}
+use lib.IntN.{ℤ}
 use lib.ListN.{length, take, drop, length-drop, length-append}
 use lib.Seq.{length-take-le}
-use Rattle.text.specs.Base.{part, overlaid}
+use borrow.Author.Tests.{eqb-true}
+use Rattle.text.specs.Base.{overlaid}
+use Rattle.text.proofs.Scan.{never}
 use Rattle.text.specs.Unicode.{encoded}
 use Rattle.text.specs.Literal.{utf8}
 use Rattle.tables.specs.Written.{writtenAt}
@@ -13,7 +18,7 @@ use Rattle.tables.proofs.WrittenLaws.{written-none}
 use Rattle.script.specs.declared.records.Place.{Place}
 use Rattle.writing.specs.Room.{left, lessBy}
 use Rattle.writing.specs.declared.room.Room.{Room}
-use Rattle.writing.specs.declared.room.Room.the-variants.{Left, Short}
+use Rattle.writing.specs.declared.room.Room.the-variants.{Left}
 use Rattle.writing.proofs.RoomLaws.{left-more}
 use Rattle.writing.proofs.PutLaws.{Wrote, wrote-then, wrote-front}
 use Rattle.frames.specs.Words.{wordBytes, allWords, Spelt}
@@ -22,7 +27,7 @@ use Rattle.frames.specs.declared.words.Word.{Word}
 use Rattle.frames.specs.declared.frames.Piece.{Piece}
 use Rattle.frames.specs.declared.frames.Piece.the-variants as pieces
 use Rattle.frames.specs.declared.frames.Frame.{Frame}
-use Rattle.messages.specs.Lengths.{pieceLength, frameLength}
+use Rattle.messages.specs.Lengths.{pieceLength, frameLength, empty}
 
 -- ---- words in their table
 
@@ -34,6 +39,9 @@ pub word-length : (w : Word) (p : Place) → Spelt w p → p .len ≡ length (wo
 word-length w p s =
     sym (length-take-le (p .len) (drop (p .start) allWords) (omega (arith, length-drop (p .start) allWords, all-length, s .inside)))
     ∙ ap length (s .bytes)
+
+pub place-in : (w : Word) (p : Place) (all : List ℕ) → all ≡ allWords → Spelt w p → p .start + p .len ≤ length all
+place-in w p all e s = omega (arith, ap length e, all-length, s .inside)
 
 pub word-cut : (w : Word) (p : Place) (all : List ℕ) → all ≡ allWords → Spelt w p → take (p .start + p .len - p .start) (drop (p .start) all) ≡ wordBytes w
 word-cut w p all e s =
@@ -124,3 +132,46 @@ three-wrote text bytes value f t u v w a b c p q r room =
     let xy = wrote-then 0 X Y t u v a b p q (omega (arith, n, length-append (X ++ Y) Z, length-append X Y)) in
     let xyz = wrote-then 0 (X ++ Y) Z t v w b c xy r (omega (arith, n, length-append (X ++ Y) Z)) in
     wrote-front (frameBytes text bytes value f) t w c room (same-wrote 0 (X ++ Y ++ Z) (frameBytes text bytes value f) t w c (sym e) xyz)
+
+-- ---- nothing written
+
+pub none-told : (w : Word) (p : Piece) (q : Place) → p ≡ pieces.Nothing → Spelt w q → eqb (q .len) 0 ≡ empty w p
+unfolding empty
+none-told w p q e s = rw e (ap (λ (n : ℕ). eqb n 0) (word-length w q s))
+
+module _ (w : Word) (p : Piece) where
+  pub text-told : (q : Place) → p ≡ pieces.Text q → false ≡ empty w p
+  unfolding empty
+  text-told q e = rw e
+
+  pub held-told : (q : Place) → p ≡ pieces.Held q → false ≡ empty w p
+  unfolding empty
+  held-told q e = rw e
+
+  pub value-told : p ≡ pieces.Value → false ≡ empty w p
+  unfolding empty
+  value-told e = rw e
+
+  pub number-told : (n : ℤ) → p ≡ pieces.Number n → false ≡ empty w p
+  unfolding empty
+  number-told n e = rw e
+
+pub ruleset empty-laws = (none-told, text-told, held-told, value-told, number-told)
+
+no-letters : (xs : List ℕ) → eqb (length xs) 0 ≡ true → xs ≡ []
+no-letters [] e = refl
+no-letters (x ∷ xs) e = let z = eqb-true (length (x ∷ xs)) 0 e in absurd (omega arith)
+
+nothing-there : (text bytes value : List ℕ) (w : Word) (p : Piece) → empty w p ≡ true → wordBytes w ++ pieceBytes text bytes value p ≡ []
+unfolding empty pieceBytes
+nothing-there text bytes value w pieces.Nothing e = ap (λ (l : List ℕ). l ++ []) (no-letters (wordBytes w) e)
+nothing-there text bytes value w (pieces.Text q) e = never (sym e)
+nothing-there text bytes value w (pieces.Held q) e = never (sym e)
+nothing-there text bytes value w pieces.Value e = never (sym e)
+nothing-there text bytes value w (pieces.Number n) e = never (sym e)
+
+pub nothing-written : (text bytes value : List ℕ) (w : Word) (p : Piece) (at : ℕ) (out : List ℕ) → empty w p ≡ true → at ≤ length out
+    → (at ≡ at + length (wordBytes w ++ pieceBytes text bytes value p)) × (out ≡ writtenAt at (wordBytes w ++ pieceBytes text bytes value p) out)
+nothing-written text bytes value w p at out e h =
+    let n = nothing-there text bytes value w p e in
+    (omega (arith, ap length n), sym (ap (λ (l : List ℕ). writtenAt at l out) n ∙ written-none at out h))

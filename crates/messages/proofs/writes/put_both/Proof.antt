@@ -18,10 +18,10 @@ same-length c = search needs
 
 returns : tie.Need-returns
 returns c =
-    let a = c .before .before .before .before .before .before .before .before .before .before .before .before .args in
+    let a = c .before .before .before .before .before .before .before .before .before .before .before .before .before .args in
     let w = c .before .before .before .before .before .before .put-fixed in
     let p = c .before .before .put-piece in
-    wrote-then (a .at) (wordBytes (a .w)) (pieceBytes (a .text .now) (a .bytes .now) (a .value .now) (a .p)) (a .out .now) (w .last .1 .0) (p .last .1 .1 .1 .1 .0) (w .result) (p .result) (w .ensures) (p .ensures) (omega arith)
+    wrote-then (a .at) (wordBytes (a .w)) (pieceBytes (a .text .now) (a .bytes .now) (a .value .now) (a .p)) (a .out .now) (w .last .1 .1 .0) (p .last .1 .1 .1 .1 .0) (w .result) (p .result) (w .ensures) (p .ensures) (omega arith)
 
 pub put-both-spec : {M : Type 1} → statement M
 put-both-spec = tie.close (tie.spec put-fixed-requires put-piece-requires same-length returns)
