@@ -49,9 +49,11 @@ use Rattle.listing.proofs.whole.list as list
 use Rattle.listing.proofs.whole.list.Symbol as list-code
 use Rattle.listing.proofs.whole.list.Met as list-theorem
 use Rattle.claims.specs.Total.{Total}
+use Rattle.claims.specs.WhiteSpace.{Trimmed}
 use Rattle.claims.proofs.DemandOne.{total}
 use Rattle.claims.proofs.DemandThree as three
 use Rattle.claims.proofs.Table.{Rows, table}
+use Rattle.claims.proofs.WhiteSpace.{trimmed-is}
 
 -- ---- DEMAND 1: total and in bounds
 
@@ -90,9 +92,10 @@ utf-8 s = (λ w. let d = well-formed-are-encodings s w in (scalars s, d .valid, 
 pub decoding : (cs : List ℕ) → allScalars cs ≡ true → scalars (encodedAll cs) ≡ cs
 decoding = encodings-are-decoded
 
--- Trimming bytes (contract of `text::trim::trim`) is trimming the scalar values that they encode: White_Space characters are taken off both ends.
-pub white-space : (s : List ℕ) → wellFormed s ≡ true → trimmed s ≡ encodedAll (scalarsTrimmed (scalars s))
-white-space = trimmed-text
+-- Trimming (contract of `text::trim::trim`) takes off exactly the White_Space characters at both ends (`Trimmed`, specs/WhiteSpace.antt): what is left of
+-- the bytes encodes what is left of the characters.
+pub white-space : (s : List ℕ) → wellFormed s ≡ true → (kept : List ℕ) × Trimmed (scalars s) kept × (trimmed s ≡ encodedAll kept)
+white-space s w = (scalarsTrimmed (scalars s), trimmed-is (scalars s), trimmed-text s w)
 
 -- ---- DEMAND 3: reading, and then any list of calls
 
@@ -115,8 +118,8 @@ module _
   pub demand-three : ourRun lent before calls ≡ (plainRun text (length before) calls .0, stateOver before (plainRun text (length before) calls .1))
   demand-three = three.demand-three text entries items expectations store script entries-left expectations-left answers leaves-entries leaves-expectations before calls
 
-  -- The same in the user's words (`InWords`, plain/specs/Claim.antt): each line that begins with `expect` has exactly one verdict if its entry was judged
-  -- unrefused, and none otherwise; and closing says passed exactly when there is a verdict and every one passed.
+  -- The same in the user's words (`InWords`, plain/specs/Claim.antt, clause by clause): each line that, trimmed, begins with `expect` has exactly one verdict
+  -- if its entry, or the handshake, was judged unrefused, and none otherwise; closing says passed exactly when there is a verdict and every one passed.
   pub in-words : InWords lent before calls (ourRun lent before calls .0) (ourRun lent before calls .1)
   in-words = three.in-words text entries items expectations store script entries-left expectations-left answers leaves-entries leaves-expectations before calls
 

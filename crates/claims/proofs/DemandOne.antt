@@ -32,7 +32,7 @@ module _ (signature : Signature) (routine : Routine)
       (a : Args signature κs) → (g : spec M 𝓤 H A mem run κs a .ghost) × (spec M 𝓤 H A mem run κs a .requires g ≡ emp 𝓤)
 
   pub total : Met → AsksNothing → Total signature routine
-  unfolding alone real
+  unfolding Total alone real
   total met asks M 𝓤 H 𝓜 𝓖 x σ F s =
       let c = spec M 𝓤 H (𝓖 .A) (𝓜 .mem) (real 𝓤 H 𝓜 .run) in
       let q = asks M 𝓤 H (𝓖 .A) (𝓜 .mem) (real 𝓤 H 𝓜 .run) (x .0) (x .3) in

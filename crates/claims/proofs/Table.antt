@@ -166,7 +166,7 @@ abbrev pub Rows : Type 0
 Rows =
     -- P1 `"a\\nb"` gives a, backslash, LF, b.
     (unquoted (utf8 "\"a\\\\nb\"") ≡ utf8 "a\\\nb")
-    -- P2 `x"+a1"` gives byte 0A.
+    -- P2 `x"+a1"` gives byte 0A. (Hex is what follows `x"`.)
     × (hexDecoded (utf8 "+a1\"") ≡ 0x0A ∷ [])
     -- P3 `x"zz0F"` gives 0F.
     × (hexDecoded (utf8 "zz0F\"") ≡ 0x0F ∷ [])

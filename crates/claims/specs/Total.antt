@@ -18,7 +18,7 @@ use denote.Triple.Bound.{Bound, passed}
 -- A run of the machine is `stuck` where it reads or writes outside, traps, or does anything else that has no meaning; it is a `timeout` where its fuel does
 -- not last; else it is `done`. A function is total if from every memory in which its arguments are what its signature says, and nothing more is asked of
 -- them, with some fuel it is done; and whatever else held of that memory holds still.
-abbrev pub Total : Signature → Routine → Type 2
+unfoldable pub Total : Signature → Routine → Type 2
 Total signature routine =
     (M : Type 1) (𝓤 : URA M) (H : Heap 𝓤) (𝓜 : Model 𝓤 H) (𝓖 : GhostRules 𝓤 H)
     (given : Bound 𝓤 H (𝓖 .A) signature) (memory : Memory) (else′ : SProp 𝓤)
