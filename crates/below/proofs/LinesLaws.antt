@@ -25,7 +25,7 @@ use Rattle.script.specs.declared.roles.Step.{Step}
 use Rattle.script.specs.declared.roles.Role.{Role}
 use Rattle.script.specs.declared.roles.Role.the-variants.{Nothing, Says, Expects, Opens, Bad}
 use Rattle.script.proofs.RolesInside.{role-in}
-use Rattle.records.specs.Said.{pieceAt}
+use Rattle.said.specs.Said.{pieceAt}
 use Rattle.tables.specs.Written.{itemOf, itemsFor, writtenAt}
 use Rattle.tables.proofs.WrittenLaws.{Filling, filling-begun, filling-length, filled, filling-room, filling-on, filling-place, filling-more, written-one}
 use Rattle.below.specs.Below.{belowOf, rolesAt, ahead, aheadOf, NextIn, pairItems, pairsItems, Forward}

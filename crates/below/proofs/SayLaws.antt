@@ -12,8 +12,8 @@ use Rattle.script.specs.Contents.{valueOr, pairOf}
 use Rattle.script.specs.declared.roles.Key.{Key}
 use Rattle.script.specs.declared.roles.Saying.{Saying}
 use Rattle.script.specs.declared.roles.Saying.the-variants.{Known, Pair}
-use Rattle.records.specs.Said.{pieceAt}
-use Rattle.records.proofs.SaidLaws.{said-value}
+use Rattle.said.specs.Said.{pieceAt}
+use Rattle.said.proofs.SaidLaws.{said-value}
 use Rattle.tables.specs.Written.{itemOf, itemsFor, writtenAt}
 use Rattle.below.specs.Below.{pairItems, Forward}
 

@@ -5,7 +5,7 @@ ghost use lib.ListN.{length};
 ghost use Rattle.script.specs.Contents.{valueOr};
 ghost use Rattle.script.specs.declared.roles.Key.{Key};
 ghost use Rattle.script.specs.declared.roles.Saying.the-variants as Said;
-ghost use Rattle.records.specs.Said.{pieceAt};
+ghost use Rattle.said.specs.Said.{pieceAt};
 ghost use Rattle.tables.specs.Written.{writtenAt};
 ghost use Rattle.below.specs.Below.{Forward, pairItems};
 use script::records::Expect;
@@ -23,7 +23,7 @@ fn keep(k: Key, v: Span, starts: &mut [usize], ends: &mut [usize])
     ensures { λ _. ⌜ length (now (ends .exit)) ≡ length (now (ends .entry)) ⌝ }
     ensures { λ _. ⌜ ((j : Key) → pieceAt (now (starts .exit)) (now (ends .exit)) j ≡ valueOr j (Said.Known k v) (pieceAt (now (starts .entry)) (now (ends .entry)) j)) ⌝ }
 {
-    let n = records::said::key_number(k);
+    let n = said::said::key_number(k);
     starts[n] = v.start;
     ends[n] = v.end;
 }

@@ -2,8 +2,8 @@
 ghost use mathlib.Core.Path.{_≡_};
 ghost use Prim.Native.Nat.{_+_, _<_};
 ghost use Rattle.script.specs.Inside.{In};
-ghost use Rattle.records.specs.Said.{pieceAt, SaidIn};
-ghost use Rattle.closing.specs.Closing.{entryRecord};
+ghost use Rattle.said.specs.Said.{pieceAt, SaidIn};
+ghost use Rattle.stored.specs.Closing.{entryRecord};
 use records::calls::Sizes;
 use script::records::Entry;
 use script::roles::Opening;
@@ -31,7 +31,7 @@ pub fn entry_of(
     Entry {
         line,
         timestamp_ms: stamp,
-        op_call: records::calls::call_of(text, op, p.args, starts, ends, i, b, z),
+        op_call: op_records::call_of(text, op, p.args, starts, ends, i, b, z),
         expects: records::calls::range_of(x, n),
     }
 }

@@ -5,9 +5,9 @@ ghost use lib.ListN.{length};
 ghost use Rattle.script.specs.Contents.{featuresIn, orNone};
 ghost use Rattle.script.specs.declared.roles.Key.the-variants as Key;
 ghost use Rattle.tables.specs.Written.{itemsFor, writtenAt};
-ghost use Rattle.records.specs.Said.{pieceAt, SaidIn};
-ghost use Rattle.closing.specs.Closing.{frontOf};
-use records::said::Piece;
+ghost use Rattle.said.specs.Said.{pieceAt, SaidIn};
+ghost use Rattle.stored.specs.Closing.{frontOf};
+use said::said::Piece;
 use script::roles::Key;
 
 // How many features the client has, and how many the server.
@@ -30,7 +30,7 @@ fn put_features_of(
     ensures { λ r. ⌜ r ≡ length (orNone (featuresIn (now (text .entry)) (pieceAt (now (starts .entry)) (now (ends .entry)) k))) ⌝ }
     ensures { λ _. ⌜ now (items .exit) ≡ writtenAt at (itemsFor (orNone (featuresIn (now (text .entry)) (pieceAt (now (starts .entry)) (now (ends .entry)) k)))) (now (items .entry)) ⌝ }
 {
-    match records::said::value_of(starts, ends, k) {
+    match said::said::value_of(starts, ends, k) {
         Piece::Absent => 0,
         Piece::Is(v) => tables::sets::put_features(text, v, items, at),
     }

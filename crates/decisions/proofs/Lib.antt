@@ -1,5 +1,2 @@
-pub mod EqualLaws
 pub mod PatternLaws
-pub mod PlaceLaws
-pub mod SearchLaws
 pub mod SignedLaws

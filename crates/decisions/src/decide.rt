@@ -10,14 +10,14 @@ use verdicts::Verdict;
 pub fn exact(text: &[u8], value: &[u8]) -> Verdict
     ensures { λ r. ⌜ r ≡ decides (expected.exact (now (text .entry))) (now (value .entry)) ⌝ }
 {
-    crate::passed_if(crate::equal::same_value(value, text))
+    crate::passed_if(finding::equal::same_value(value, text))
 }
 
 pub fn regex(pattern: &[u8], value: &[u8]) -> Verdict
     ensures { λ r. ⌜ r ≡ decides (expected.regex (now (pattern .entry))) (now (value .entry)) ⌝ }
 {
     if crate::patterns::is_plain(pattern) {
-        crate::passed_if(crate::search::contains(value, pattern))
+        crate::passed_if(finding::search::contains(value, pattern))
     } else {
         Verdict::Undecided
     }

@@ -4,11 +4,9 @@ ghost use Rattle.verdicts.specs.Decisions.{passedIf};
 use verdicts::Verdict;
 
 pub mod decide;
-pub mod equal;
 pub mod hosted;
 pub mod orders;
 pub mod patterns;
-pub mod search;
 
 pub fn passed_if(b: bool) -> Verdict
     ensures { λ r. ⌜ r ≡ passedIf b ⌝ }

@@ -17,7 +17,7 @@ use Rattle.script.specs.declared.records.FramedData.{FramedData}
 use Rattle.script.specs.declared.records.Stamp.{Stamp}
 use Rattle.script.specs.declared.records.OpCall.{OpCall}
 use Rattle.slots.specs.Blank.{blankEntry, blankExpectation}
-use Rattle.dump.specs.Dump.{lowBytes, bytesOf, flag, unsigned, placeNumbers, itemsNumbers, padded, stampNumbers, dataNumbers, caseOf, codeOf, fieldsOf, callNumbers, entryNumbers, matcherNumbers, expectNumbers, expectationNumbers, maybeNumbers, maybeItemsNumbers, countsNumbers, scriptNumbers, headNumbers}
+use Rattle.numbers.specs.Numbers.{lowBytes, bytesOf, flag, unsigned, placeNumbers, itemsNumbers, padded, stampNumbers, dataNumbers, caseOf, codeOf, fieldsOf, callNumbers, entryNumbers, matcherNumbers, expectNumbers, expectationNumbers, maybeNumbers, maybeItemsNumbers, countsNumbers, scriptNumbers, headNumbers}
 
 abbrev at : ℕ → ℕ → Place
 at start len = record { start = start; len = len }

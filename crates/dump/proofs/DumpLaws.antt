@@ -15,8 +15,9 @@ use Rattle.read.specs.Read.{lentOf, scriptOr, tablesOr}
 use Rattle.script.specs.declared.records.Entry.{Entry}
 use Rattle.script.specs.declared.records.Expectation.{Expectation}
 use Rattle.script.specs.declared.records.Script.{Script}
-use Rattle.dump.specs.Dump.{bytesOf, lowBytes, inBytes, headNumbers, entryNumbers, itemNumbers, expectationNumbers, entryBytes, itemBytes, expectationBytes, dumpOf, dumpRead, dumpInto}
-use Rattle.dump.proofs.NumberLaws.{head-count, entry-count, expectation-count}
+use Rattle.numbers.specs.Numbers.{bytesOf, lowBytes, inBytes, headNumbers, entryNumbers, itemNumbers, expectationNumbers}
+use Rattle.dump.specs.Dump.{entryBytes, itemBytes, expectationBytes, dumpOf, dumpRead, dumpInto}
+use Rattle.numbers.proofs.NumberLaws.{head-count, entry-count, expectation-count}
 
 -- ---- sizes
 

@@ -1,7 +1,7 @@
 // The numbers of what Read answers.
 ghost use mathlib.Core.Path.{_≡_};
 ghost use Rattle.read.specs.Read.{answerOf};
-ghost use Rattle.dump.specs.Dump.{maybeNumbers, maybeItemsNumbers, scriptNumbers, headNumbers};
+ghost use Rattle.numbers.specs.Numbers.{maybeNumbers, maybeItemsNumbers, scriptNumbers, headNumbers};
 use read::reading::Answer;
 use script::records::Maybe;
 use script::records::MaybeItems;

@@ -5,7 +5,8 @@ ghost use lib.ListN.{length};
 ghost use Rattle.text.specs.Base.{overlaid};
 ghost use Rattle.read.specs.Read.{answerOf};
 ghost use Rattle.tables.specs.Written.{writtenAt};
-ghost use Rattle.dump.specs.Dump.{inBytes, headNumbers, dumpInto, readDump};
+ghost use Rattle.numbers.specs.Numbers.{inBytes, headNumbers};
+ghost use Rattle.dump.specs.Dump.{dumpInto, readDump};
 use read::reading::Answer;
 use script::records::Entry;
 use script::records::Expectation;
@@ -25,7 +26,7 @@ fn put_answer(out: &mut [u8], a: Answer) -> usize
     ensures { λ _. ⌜ now (out .exit) ≡ writtenAt 0 (inBytes (headNumbers (answerOf a))) (now (out .entry)) ⌝ }
 {
     let numbers = crate::answers::head_numbers(a);
-    crate::bytes::put_numbers(out, 0, &numbers)
+    numbers::bytes::put_numbers(out, 0, &numbers)
 }
 
 // Reads a text into the lent tables, and writes the dump at the front of out, if there is room; how many bytes it has.
@@ -53,7 +54,7 @@ pub fn dump_into(
     let p = crate::lists::put_entries(out, p, entries);
     let p = crate::lists::put_items(out, p, items);
     let p = crate::lists::put_expectations(out, p, expectations);
-    crate::bytes::put_bytes(out, p, store)
+    numbers::bytes::put_bytes(out, p, store)
 }
 
 // At most so many.

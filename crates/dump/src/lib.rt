@@ -3,7 +3,5 @@ pub mod answers;
 pub mod blanks;
 pub mod bytes;
 pub mod dumps;
-pub mod entries;
-pub mod expectations;
 pub mod lists;
 pub mod times;

@@ -4,7 +4,8 @@ ghost use mathlib.Core.List.{flatMap};
 ghost use Prim.Native.Nat.{_+_, _≤_};
 ghost use lib.ListN.{length};
 ghost use Rattle.tables.specs.Written.{writtenAt};
-ghost use Rattle.dump.specs.Dump.{itemNumbers, entryBytes, itemBytes, expectationBytes};
+ghost use Rattle.numbers.specs.Numbers.{itemNumbers};
+ghost use Rattle.dump.specs.Dump.{entryBytes, itemBytes, expectationBytes};
 use script::records::Entry;
 use script::records::Expectation;
 
@@ -14,8 +15,8 @@ fn put_entry(out: &mut [u8], at: usize, e: Entry) -> usize
     ensures { λ r. ⌜ r ≡ at + length (entryBytes e) ⌝ }
     ensures { λ _. ⌜ now (out .exit) ≡ writtenAt at (entryBytes e) (now (out .entry)) ⌝ }
 {
-    let numbers = crate::entries::entry_numbers(e);
-    crate::bytes::put_numbers(out, at, &numbers)
+    let numbers = numbers::entries::entry_numbers(e);
+    numbers::bytes::put_numbers(out, at, &numbers)
 }
 
 // Writes the entries from a place on, and says where they end.
@@ -47,7 +48,7 @@ fn put_item(out: &mut [u8], at: usize, item: [usize; 2]) -> usize
     ensures { λ _. ⌜ now (out .exit) ≡ writtenAt at (itemBytes item) (now (out .entry)) ⌝ }
 {
     let numbers = item_numbers(item);
-    crate::bytes::put_numbers(out, at, &numbers)
+    numbers::bytes::put_numbers(out, at, &numbers)
 }
 
 // Writes the items.
@@ -72,8 +73,8 @@ fn put_expectation(out: &mut [u8], at: usize, x: Expectation) -> usize
     ensures { λ r. ⌜ r ≡ at + length (expectationBytes x) ⌝ }
     ensures { λ _. ⌜ now (out .exit) ≡ writtenAt at (expectationBytes x) (now (out .entry)) ⌝ }
 {
-    let numbers = crate::expectations::expectation_numbers(x);
-    crate::bytes::put_numbers(out, at, &numbers)
+    let numbers = numbers::expectations::expectation_numbers(x);
+    numbers::bytes::put_numbers(out, at, &numbers)
 }
 
 // Writes the expectations.

@@ -1,4 +1,1 @@
 pub mod Answering
-pub mod Giving
-pub mod MessageLaws
-pub mod Telling

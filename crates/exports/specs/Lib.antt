@@ -1,3 +1,1 @@
 pub mod Answered
-pub mod Given
-pub mod Messages

@@ -6,7 +6,7 @@ ghost use Rattle.text.specs.Base.{overlaid};
 ghost use Rattle.text.specs.Utf8.{wellFormed};
 ghost use Rattle.text.specs.Trim.{trimPlace};
 ghost use Rattle.text.specs.Lines.{lines, trimmedLength};
-ghost use Rattle.values.specs.Numbers.{number, signed, numberOf, integerOf};
+ghost use Rattle.values.specs.Numbers.{number, signed};
 ghost use Rattle.values.specs.Hex.{hexDecoded};
 ghost use Rattle.values.specs.Unquote.{unquoted};
 ghost use Rattle.script.specs.Reading.{measured};
@@ -15,15 +15,13 @@ ghost use Rattle.verdicts.specs.Expected.{exact, regex};
 ghost use Rattle.verdicts.specs.Verdicts.{code};
 ghost use Rattle.decisions.specs.Orders.{matching, orderOf};
 ghost use Rattle.exports.specs.Answered.{refusedAs, lineOf, countsOr};
-ghost use Rattle.exports.specs.Given.{isGiven, givenOr};
+ghost use Rattle.given.specs.Given.{isGiven, givenOr};
 ghost use Rattle.dump.specs.Dump.{readDump};
 ghost use Rattle.dump.specs.Times.{lastNumber};
 
 pub mod messages;
 
 use parse::measure::Measured;
-use values::number::Integer;
-use values::number::Number;
 
 // Whether the bytes are well-formed UTF-8.
 #[no_mangle]
@@ -39,9 +37,7 @@ pub extern "C" fn nwscript_trim(s: &[u8], start: &mut usize, len: &mut usize)
     ensures { λ _. ⌜ now (start .exit) ≡ trimPlace (now (s .entry)) .start ⌝ }
     ensures { λ _. ⌜ now (len .exit) ≡ trimPlace (now (s .entry)) .len ⌝ }
 {
-    let p = text::trim::trim_place(s);
-    *start = p.start;
-    *len = p.len;
+    given::give_place(text::trim::trim_place(s), start, len)
 }
 
 // How many lines the text has.
@@ -94,27 +90,13 @@ pub extern "C" fn nwscript_unquote(s: &[u8], out: &mut [u8]) -> usize
     values::unquote::unquote(s, out)
 }
 
-// A number that was read goes into value; else value is left alone.
-fn give(n: Number, value: &mut u64) -> bool
-    ensures { λ r. ⌜ r ≡ isGiven (numberOf n) ⌝ }
-    ensures { λ _. ⌜ now (value .exit) ≡ givenOr (numberOf n) (now (value .entry)) ⌝ }
-{
-    match n {
-        Number::Value(v) => {
-            *value = v;
-            true
-        }
-        Number::Bad => false,
-    }
-}
-
 // A u64, a u16, a u8 as Rust's `parse` reads them: whether it could be read; value is left alone if not.
 #[no_mangle]
 pub extern "C" fn nwscript_u64(s: &[u8], value: &mut u64) -> bool
     ensures { λ r. ⌜ r ≡ isGiven (number (2 ^ 64) (now (s .entry))) ⌝ }
     ensures { λ _. ⌜ now (value .exit) ≡ givenOr (number (2 ^ 64) (now (s .entry))) (now (value .entry)) ⌝ }
 {
-    give(values::number::parse_u64(s), value)
+    given::give(values::number::parse_u64(s), value)
 }
 
 #[no_mangle]
@@ -122,7 +104,7 @@ pub extern "C" fn nwscript_u16(s: &[u8], value: &mut u64) -> bool
     ensures { λ r. ⌜ r ≡ isGiven (number (2 ^ 16) (now (s .entry))) ⌝ }
     ensures { λ _. ⌜ now (value .exit) ≡ givenOr (number (2 ^ 16) (now (s .entry))) (now (value .entry)) ⌝ }
 {
-    give(values::number::parse_u16(s), value)
+    given::give(values::number::parse_u16(s), value)
 }
 
 #[no_mangle]
@@ -130,20 +112,7 @@ pub extern "C" fn nwscript_u8(s: &[u8], value: &mut u64) -> bool
     ensures { λ r. ⌜ r ≡ isGiven (number (2 ^ 8) (now (s .entry))) ⌝ }
     ensures { λ _. ⌜ now (value .exit) ≡ givenOr (number (2 ^ 8) (now (s .entry))) (now (value .entry)) ⌝ }
 {
-    give(values::number::parse_u8(s), value)
-}
-
-fn give_signed(n: Integer, value: &mut i64) -> bool
-    ensures { λ r. ⌜ r ≡ isGiven (integerOf n) ⌝ }
-    ensures { λ _. ⌜ now (value .exit) ≡ givenOr (integerOf n) (now (value .entry)) ⌝ }
-{
-    match n {
-        Integer::Value(v) => {
-            *value = v;
-            true
-        }
-        Integer::Bad => false,
-    }
+    given::give(values::number::parse_u8(s), value)
 }
 
 // An i64, in the same manner.
@@ -152,7 +121,7 @@ pub extern "C" fn nwscript_i64(s: &[u8], value: &mut i64) -> bool
     ensures { λ r. ⌜ r ≡ isGiven (signed (now (s .entry))) ⌝ }
     ensures { λ _. ⌜ now (value .exit) ≡ givenOr (signed (now (s .entry))) (now (value .entry)) ⌝ }
 {
-    give_signed(values::number::parse_i64(s), value)
+    given::give_signed(values::number::parse_i64(s), value)
 }
 
 // Measure: the number of the refusal, or 0. What is lent takes the refusal's line, or 0, and the counts, which are 0 where the text is refused.

@@ -9,7 +9,7 @@ use lib.Seq.{drop-append-seam}
 use Rattle.text.specs.Base.{_or_}
 use Rattle.text.specs.Skip.{Without}
 use Rattle.verdicts.specs.Decisions.{contains}
-use Rattle.decisions.proofs.SearchLaws.{none-left, tried, stands, passed}
+use Rattle.finding.proofs.SearchLaws.{none-left, tried, stands, passed}
 use Rattle.joined.specs.Pieces.{row, rowFrom, opens}
 use Rattle.joined.proofs.OpenLaws.{row-more, row-none}
 

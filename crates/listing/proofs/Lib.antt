@@ -1,7 +1,6 @@
 pub mod AnswerLaws
 pub mod ListingExamples
 pub mod Made
-pub mod PutLaws
 pub mod ReadingLaws
 pub mod TopLaws
 pub mod WholeLaws

@@ -30,8 +30,8 @@ use Rattle.text.specs.Words as text-Words
 use Rattle.wire.specs.Operations as wire-Operations
 use Rattle.wire.specs.Version as wire-Version
 use Rattle.values.specs.Decimal as values-Decimal
-use Rattle.listing.specs.Listing as listing-Listing
-use Rattle.listing.specs.Listing.{listingOf}
+use Rattle.printed.specs.Listing as listing-Listing
+use Rattle.printed.specs.Listing.{listingOf}
 
 -- a text, and what is printed for it
 record Case : Type 0 where

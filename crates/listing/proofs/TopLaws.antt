@@ -14,8 +14,8 @@ use Rattle.script.specs.declared.records.Entry.{Entry}
 use Rattle.script.specs.declared.records.Refusal.{Refusal}
 use Rattle.script.specs.declared.records.Script.{Script}
 use Rattle.tables.specs.Written.{writtenAt}
-use Rattle.listing.specs.Listing.{lent, headerLine, entryLines, refusalLine, listing, listingOf}
-use Rattle.listing.specs.Room.{Front}
+use Rattle.printed.specs.Listing.{lent, headerLine, entryLines, refusalLine, listing, listingOf}
+use Rattle.printed.specs.Room.{Front}
 use Rattle.writing.proofs.PutLaws.{Put}
 use Rattle.listing.proofs.ReadingLaws.{Fitting, fits}
 

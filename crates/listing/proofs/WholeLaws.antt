@@ -1,5 +1,5 @@
 -- The lines of the entries, one behind the other. Assumes nothing.
-use Prim.Native.Nat.{ℕ, _+_, _-_, _*_, _≤_, _<_}
+use Prim.Native.Nat.{ℕ, _+_, _*_, _≤_, _<_}
 use mathlib.Core.Path.{_≡_, refl, sym, ap, _∙_}
 use mathlib.Core.List.{List, [], _∷_, _++_, append-assoc, append-nil}
 use native.Mathlib.Numerals.{add-one}
@@ -11,7 +11,7 @@ use Rattle.script.specs.declared.records.Script.{Script}
 use Rattle.slots.specs.Blank.{blankEntry}
 use Rattle.tables.specs.Written.{writtenAt}
 use Rattle.tables.proofs.WrittenLaws.{written-none}
-use Rattle.listing.specs.Listing.{headerLine, entryLine, entryLines}
+use Rattle.printed.specs.Listing.{headerLine, entryLine, entryLines}
 use Rattle.writing.proofs.PutLaws.{Put, put-length, put-then}
 
 lines-append : (xs ys : List Entry) → entryLines (xs ++ ys) ≡ entryLines xs ++ entryLines ys

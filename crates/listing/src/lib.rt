@@ -1,4 +1,3 @@
 // What the program `script-list` prints.
 mod blank;
-pub mod lines;
 pub mod whole;

@@ -25,13 +25,13 @@ use Rattle.script.proofs.RolesInside.{role-in}
 use Rattle.kept.specs.Kept.{keptOf, Memo}
 use Rattle.kept.specs.declared.Kept.{Kept}
 use Rattle.kept.proofs.KeptLaws.{keep-memo, found-step, found-next}
-use Rattle.parse.specs.declared.measure.What.the-variants.{ThePreamble}
-use Rattle.parse.specs.declared.measure.Open.{Open}
+use Rattle.totals.specs.declared.What.the-variants.{ThePreamble}
+use Rattle.totals.specs.declared.Open.{Open}
 use Rattle.parse.specs.declared.measure.Measured.the-variants.{Refused, Read}
-use Rattle.parse.specs.Bounds.{Small, Few}
-use Rattle.parse.specs.Measure.{begun, preambleOpen, zeros, onward, counts, closeOn, entered, countOn, opened, sayOn, openOn, walkFrom}
+use Rattle.totals.specs.Bounds.{Small, Few}
+use Rattle.totals.specs.Measure.{begun, preambleOpen, zeros, onward, counts, closeOn, entered, countOn, opened, sayOn, openOn, walkFrom}
 use Rattle.parse.specs.MeasureRead.{measuredOf}
-use Rattle.parse.proofs.BoundLaws.{begun-small, grown, said-small, opened-small, more-few, entered-few}
+use Rattle.totals.proofs.BoundLaws.{begun-small, grown, said-small, opened-small, more-few, entered-few}
 
 -- how small the numbers are at a line, by its number
 abbrev pub smallAt : ℕ → ℕ

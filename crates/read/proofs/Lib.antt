@@ -1,6 +1,3 @@
-pub mod EntriesLaws
-pub mod EntryLaws
-pub mod InsideLaws
-pub mod Made
 pub mod ReadLaws
 pub mod ScriptLaws
+pub mod Made

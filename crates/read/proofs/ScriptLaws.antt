@@ -23,21 +23,21 @@ use Rattle.script.specs.declared.records.Script.{Script}
 use Rattle.script.specs.declared.roles.Key.{Key}
 use Rattle.script.specs.declared.roles.Key.the-variants as Key
 use Rattle.script.specs.declared.roles.Where.the-variants.{InPreamble}
-use Rattle.records.specs.Said.{pieceAt, SaidIn}
+use Rattle.said.specs.Said.{pieceAt, SaidIn}
 use Rattle.records.specs.Records.{preambleRecord}
-use Rattle.records.proofs.SaidLaws.{said-none}
+use Rattle.said.proofs.SaidLaws.{said-none}
 use Rattle.records.proofs.RecordLaws.{preamble-is, preamble-same}
 use Rattle.tables.specs.Written.{itemOf, itemsFor, writtenAt}
 use Rattle.tables.proofs.WrittenLaws.{written-none, written-length, written-twice}
-use Rattle.closing.specs.Closing.{frontOf}
-use Rattle.closing.proofs.ClosingLaws.{laid-front}
-use Rattle.closing.proofs.WriteLaws.{items-length}
+use Rattle.stored.specs.Closing.{frontOf}
+use Rattle.stored.proofs.ClosingLaws.{laid-front}
+use Rattle.stored.proofs.WriteLaws.{items-length}
 use Rattle.below.specs.Below.{rolesAt, ahead, aheadOf, pairsItems}
 use Rattle.below.specs.declared.lines.Next.{Next}
-use Rattle.read.specs.Entries.{entriesAhead}
+use Rattle.entries.specs.Entries.{entriesAhead}
 use Rattle.read.specs.ReadWalk.{readingOf}
-use Rattle.read.proofs.EntriesLaws.{entries-ahead}
-use Rattle.read.proofs.InsideLaws.{values-in}
+use Rattle.entries.proofs.EntriesLaws.{entries-ahead}
+use Rattle.entries.proofs.InsideLaws.{values-in}
 
 module _ (text : List ℕ) where
   abbrev ms : List Marked

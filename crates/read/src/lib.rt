@@ -1,3 +1,2 @@
 // Read: a script into lent tables.
-pub mod entries;
 pub mod reading;

@@ -142,7 +142,7 @@ pub fn read_script(
     );
     let next = led.next;
     let front = f.features + f.server;
-    crate::entries::read_entries(
+    entries::entries::read_entries(
         text,
         kept,
         next,

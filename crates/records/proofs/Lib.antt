@@ -1,4 +1,3 @@
 pub mod CallLaws
 pub mod PreambleLaws
 pub mod RecordLaws
-pub mod SaidLaws

@@ -26,9 +26,9 @@ use Rattle.script.specs.declared.records.MaybeItems.{MaybeItems}
 use Rattle.script.specs.declared.records.Preamble.{Preamble}
 use Rattle.script.specs.declared.roles.Key.{Key}
 use Rattle.script.specs.declared.roles.Key.the-variants as Key
-use Rattle.records.specs.declared.said.Piece.{Piece}
-use Rattle.records.specs.declared.said.Piece.the-variants.{Absent, Is}
-use Rattle.records.specs.Said.{pieceFrom, pieceAt, pieceOf}
+use Rattle.said.specs.declared.said.Piece.{Piece}
+use Rattle.said.specs.declared.said.Piece.the-variants.{Absent, Is}
+use Rattle.said.specs.Said.{pieceFrom, pieceAt, pieceOf}
 use Rattle.records.specs.Records.{maybeSized, preambleRecord}
 
 -- w is the answer of `handshake::parse_version`

@@ -6,8 +6,7 @@ use mathlib.Core.Option.{Option, none, some}
 use lib.ListN.{length}
 use Rattle.text.specs.declared.parts.Span.{Span}
 use Rattle.wire.specs.declared.ops.Op.{Op}
-use Rattle.wire.specs.declared.ops.Op.the-variants.{IsValidPath, QueryReferrers, AddToStore, AddTextToStore, BuildPaths, EnsurePath, AddTempRoot, AddIndirectRoot, SyncWithGC, FindRoots, QueryDeriver, SetOptions, CollectGarbage, QuerySubstitutablePathInfo, QueryDerivationOutputs, QueryAllValidPaths, QueryPathInfo, QueryDerivationOutputNames, QueryPathFromHashPart, QuerySubstitutablePathInfos, QueryValidPaths, QuerySubstitutablePaths, QueryValidDerivers, OptimiseStore, VerifyStore, BuildDerivation, AddSignatures, NarFromPath, AddToStoreNar, QueryMissing, QueryDerivationOutputMap, RegisterDrvOutput, QueryRealisation, AddMultipleToStore, AddBuildLog, BuildPathsWithResults, AddPermRoot}
-use Rattle.script.specs.Operations.{Shape, singlePath, singleString, pathSet, pathSetFlag, pathSetMode, noArgs, setOptions, collectGarbage, verifyStore, addPermRoot, addSignatures, addTextToStore, addToStore, addMultipleToStore, addBuildLog, registerDrvOutput, queryRealisation, querySubstitutablePathInfo, querySubstitutablePathInfos, rawBytes, formOf}
+use Rattle.script.specs.Operations.{Shape, singlePath, singleString, pathSet, pathSetFlag, pathSetMode, noArgs, setOptions, collectGarbage, verifyStore, addPermRoot, addSignatures, addTextToStore, addToStore, addMultipleToStore, addBuildLog, registerDrvOutput, queryRealisation, querySubstitutablePathInfo, querySubstitutablePathInfos, rawBytes}
 use Rattle.script.specs.Values.{plainRules, Framed, inline, fileRef}
 use Rattle.script.specs.Roles.{Marked}
 use Rattle.script.specs.Contents.{sayings, valueOf, featuresIn, orNone, callOf, preambleOf}
@@ -15,10 +14,8 @@ use Rattle.script.specs.Layout.{listed, storedOf, framedAt, laid, maybeItems, l
 use Rattle.script.specs.declared.roles.Key.{Key}
 use Rattle.script.specs.declared.roles.Key.the-variants as Key
 use Rattle.script.specs.declared.roles.Saying.{Saying}
-use Rattle.roles.specs.OpeningRead.{setPlace}
 use Rattle.records.specs.declared.calls.Sizes.{Sizes}
 use Rattle.records.specs.Records.{sizesOf, sizedAt, framedSized, optionsRecord, garbageRecord, verifyRecord, storeRecord, multipleRecord, rootRecord, textsRecord, recordOf, maybeSized, preambleRecord}
-use Rattle.records.specs.RecordRead.{textRecord, setRecord, lineRecord, blockRecord}
 
 -- data takes as many bytes as it has in the store
 sized-is : (d : Framed) (b : ℕ) → sizedAt d b (length (storedOf d)) ≡ framedAt b d
@@ -65,48 +62,6 @@ record-laid text sh op args value i b z ss h e =
     record-same text sh op args value (λ k. valueOf k ss) i b z h
     ∙ ap (recordOf text sh op args (λ k. valueOf k ss) i b) e
     ∙ record-is text op args i b ss sh
-
--- told apart by the lines that the operation takes
-module _ (text : List ℕ) (args : Span) (value : Key → Option Span) (i b : ℕ) (z : Sizes) where
-  pub by-op : (op : Op) → recordOf text (formOf op .shape) op args value i b z ≡ blockRecord text (formOf op .takes) op args value i b z
-  unfolding recordOf blockRecord lineRecord textRecord setRecord setPlace formOf
-  by-op IsValidPath = refl
-  by-op QueryReferrers = refl
-  by-op AddToStore = refl
-  by-op AddTextToStore = refl
-  by-op BuildPaths = refl
-  by-op EnsurePath = refl
-  by-op AddTempRoot = refl
-  by-op AddIndirectRoot = refl
-  by-op SyncWithGC = refl
-  by-op FindRoots = refl
-  by-op QueryDeriver = refl
-  by-op SetOptions = refl
-  by-op CollectGarbage = refl
-  by-op QuerySubstitutablePathInfo = refl
-  by-op QueryDerivationOutputs = refl
-  by-op QueryAllValidPaths = refl
-  by-op QueryPathInfo = refl
-  by-op QueryDerivationOutputNames = refl
-  by-op QueryPathFromHashPart = refl
-  by-op QuerySubstitutablePathInfos = refl
-  by-op QueryValidPaths = refl
-  by-op QuerySubstitutablePaths = refl
-  by-op QueryValidDerivers = refl
-  by-op OptimiseStore = refl
-  by-op VerifyStore = refl
-  by-op BuildDerivation = refl
-  by-op AddSignatures = refl
-  by-op NarFromPath = refl
-  by-op AddToStoreNar = refl
-  by-op QueryMissing = refl
-  by-op QueryDerivationOutputMap = refl
-  by-op RegisterDrvOutput = refl
-  by-op QueryRealisation = refl
-  by-op AddMultipleToStore = refl
-  by-op AddBuildLog = refl
-  by-op BuildPathsWithResults = refl
-  by-op AddPermRoot = refl
 
 -- ---- the preamble
 

@@ -1,3 +1,1 @@
-pub mod RecordRead
 pub mod Records
-pub mod Said

@@ -1,4 +1,3 @@
 // The record of an entry and that of the preamble, by value: what was said so far, and how many items and bytes it takes, give the record.
 pub mod calls;
 pub mod preamble;
-pub mod said;

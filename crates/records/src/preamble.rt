@@ -5,9 +5,9 @@ ghost use Rattle.script.specs.Contents.{versionIn};
 ghost use Rattle.script.specs.Layout.{maybe};
 ghost use Rattle.script.specs.Inside.{In};
 ghost use Rattle.script.specs.declared.roles.Key.the-variants as Key;
-ghost use Rattle.records.specs.Said.{pieceAt, SaidIn};
+ghost use Rattle.said.specs.Said.{pieceAt, SaidIn};
 ghost use Rattle.records.specs.Records.{maybeSized, preambleRecord};
-use crate::said::Piece;
+use said::said::Piece;
 use script::records::Maybe;
 use script::records::MaybeItems;
 use script::records::Preamble;
@@ -34,7 +34,7 @@ fn version_of(text: &[u8], starts: &[usize], ends: &[usize]) -> ProtocolVersion
     requires { ⌜ SaidIn (now text) (now starts) (now ends) ⌝ }
     ensures { λ r. ⌜ r ≡ versionIn (now (text .entry)) (pieceAt (now (starts .entry)) (now (ends .entry)) Key.Protocol) ⌝ }
 {
-    match crate::said::value_of(starts, ends, Key::Protocol) {
+    match said::said::value_of(starts, ends, Key::Protocol) {
         Piece::Absent => ProtocolVersion::default(),
         Piece::Is(v) => version_in(text, v),
     }
@@ -44,7 +44,7 @@ fn version_of(text: &[u8], starts: &[usize], ends: &[usize]) -> ProtocolVersion
 fn maybe_of(starts: &[usize], ends: &[usize], k: Key) -> Maybe
     ensures { λ r. ⌜ r ≡ maybe (pieceAt (now (starts .entry)) (now (ends .entry)) k) ⌝ }
 {
-    match crate::said::value_of(starts, ends, k) {
+    match said::said::value_of(starts, ends, k) {
         Piece::Absent => Maybe::Absent,
         Piece::Is(v) => Maybe::At(matchers::matchers::place_of(v)),
     }
@@ -54,7 +54,7 @@ fn maybe_of(starts: &[usize], ends: &[usize], k: Key) -> Maybe
 fn server_of(starts: &[usize], ends: &[usize], before: usize, n: usize) -> MaybeItems
     ensures { λ r. ⌜ r ≡ maybeSized (pieceAt (now (starts .entry)) (now (ends .entry)) Key.ServerFeatures) before n ⌝ }
 {
-    match crate::said::value_of(starts, ends, Key::ServerFeatures) {
+    match said::said::value_of(starts, ends, Key::ServerFeatures) {
         Piece::Absent => MaybeItems::Absent,
         Piece::Is(_) => MaybeItems::Are(crate::calls::range_of(before, n)),
     }

@@ -1,5 +1,6 @@
 -- `exports::nwscript_i64` meets its contract. Assumes nothing.
 use borrow.Author.Needs.{needs}
+use Rattle.given.proofs.Giving.{given-of, taken-of}
 use Rattle.exports.proofs.nwscript_i64.Statement.{statement}
 use Rattle.exports.proofs.nwscript_i64.Tie as tie
 
@@ -10,7 +11,7 @@ give-signed-requires : tie.Need-give-signed-requires
 give-signed-requires c κs = search needs
 
 returns : tie.Need-returns
-returns c = (cc, cc)
+returns c = (given-of _ _ (c .before .before .parse-i64 .ensures) _ (c .give-signed .ensures .0), taken-of _ _ (c .before .before .parse-i64 .ensures) _ _ (c .give-signed .ensures .1))
 
 pub nwscript-i64-spec : {M : Type 1} → statement M
 nwscript-i64-spec = tie.close (tie.spec parse-i64-requires give-signed-requires returns)

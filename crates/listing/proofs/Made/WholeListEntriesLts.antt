@@ -105,7 +105,7 @@ abbrev b10 : Syntax.Body
 b10 = Syntax.assign (Syntax.place 12 List.[]) (Syntax.aggregate (List._∷_ (Syntax.copy (Syntax.place 11 List.[])) (List._∷_ (Syntax.copy (Syntax.place 3 (List._∷_ (Syntax.field 1) List.[]))) List.[])))
 
 abbrev b11 : Syntax.Body
-b11 = Syntax.call "listing::lines::put_entry_line" (List._∷_ (Syntax.copy (Syntax.place 10 List.[])) (List._∷_ (Syntax.copy (Syntax.place 12 List.[])) (List._∷_ (Syntax.copy (Syntax.place 5 List.[])) List.[]))) (Syntax.place 5 List.[])
+b11 = Syntax.call "printed::lines::put_entry_line" (List._∷_ (Syntax.copy (Syntax.place 10 List.[])) (List._∷_ (Syntax.copy (Syntax.place 12 List.[])) (List._∷_ (Syntax.copy (Syntax.place 5 List.[])) List.[]))) (Syntax.place 5 List.[])
 
 abbrev b12 : Syntax.Body
 b12 = Syntax.assign (Syntax.place 6 List.[]) (Syntax.op2 (Syntax.add Syntax.unsigned) (Syntax.copy (Syntax.place 6 List.[])) (Syntax.int Syntax.w64 1))
@@ -396,7 +396,7 @@ module _ (claims· : Claims) where
   module _ (Pre· : (κs : Lifetimes.Lfts 2) → Kinds.Dens κs ps → Type 0) (Post· : (κs : Lifetimes.Lfts 2) → (a : Kinds.Dens κs ps) → Kinds.Plain 2 ps r κs) where
     module _ (M : Type 1) where
       abbrev pub Closed : Type 2
-      Closed = (𝓤 : URA.URA M) (H : Wp.Heap 𝓤) (A : Atoms.Atoms 𝓤) (W : Kit.Given 𝓤 H A) (𝓣 : Wp.Tables 𝓤 H) (known0 : Plain.Known 𝓤 H A W 𝓣 1 ps·0 r·0 (claims· .0) (claims· .1) "listing::lines::put_entry_line") → Statement.Triple 𝓤 (Wp.WpFn 𝓤 H (𝓣 .C) (𝓣 .Λ) (Function.fnOf 2 ps r xs m hs body)) (Function.plainOf 𝓤 H A 2 ps r Pre· Post·)
+      Closed = (𝓤 : URA.URA M) (H : Wp.Heap 𝓤) (A : Atoms.Atoms 𝓤) (W : Kit.Given 𝓤 H A) (𝓣 : Wp.Tables 𝓤 H) (known0 : Plain.Known 𝓤 H A W 𝓣 1 ps·0 r·0 (claims· .0) (claims· .1) "printed::lines::put_entry_line") → Statement.Triple 𝓤 (Wp.WpFn 𝓤 H (𝓣 .C) (𝓣 .Λ) (Function.fnOf 2 ps r xs m hs body)) (Function.plainOf 𝓤 H A 2 ps r Pre· Post·)
 
     module _ (Inv·0 : InvT-loop) (μ·0 : MeasureT-loop) where
       abbrev at0 : Typed.TF T8 O4
@@ -506,7 +506,7 @@ module _ (claims· : Claims) where
 
       module _ {M : Type 1} (𝓤 : URA.URA M) (H : Wp.Heap 𝓤) (A : Atoms.Atoms 𝓤) (W : Kit.Given 𝓤 H A) (𝓣 : Wp.Tables 𝓤 H) where
         abbrev Knowns : Type 1
-        Knowns = Plain.Known 𝓤 H A W 𝓣 1 ps·0 r·0 (claims· .0) (claims· .1) "listing::lines::put_entry_line"
+        Knowns = Plain.Known 𝓤 H A W 𝓣 1 ps·0 r·0 (claims· .0) (claims· .1) "printed::lines::put_entry_line"
 
       module _ (κs : Lifetimes.Lfts 2) (qs : Lifetimes.Shares 2) where
         abbrev g10 : List.List Row.Entry
@@ -664,7 +664,7 @@ module _ (claims· : Claims) where
           d10 = Typed.g-pre 𝓤 H A W 𝓣 E G18 G19 b12 Δ3 (Typed.pass T18 T19 s15) at9 (RScalar.g-room 𝓤 H A W E G18 10 EntryElem.ty (RLocal.room-whole 𝓤 H A W EntryElem.R EntryElem.ty Path'.refl)) d9
 
           d11 : Typed.Typed 𝓤 H A 𝓣 E G17 b13 Δ3 at11
-          d11 = Typed.s-seq 𝓤 H A W 𝓣 E G17 G18 b11 b12 Δ3 (Typed.both s14) at10 (Plain.t-call-plain 𝓤 H A W 𝓣 1 ps·0 r·0 (claims· .0) (claims· .1) "listing::lines::put_entry_line" known E (λ pos β. β) G17 (record { pos = 10; st = List.[]; d = 0; at = λ x. x }, (record { pos = 12; ty = Syntax.tyRef Syntax.erased Syntax.mut (Syntax.tyInt Syntax.w8); ref = λ x. x }, (Num.vAt 5 λ x. x, tt))) 5 (List._∷_ 2 List.[]) (Call.sub-id 𝓤 H A W (G17 .slots)) ((EntryElem.yields 𝓤 H A W, Path'.refl), (Reads.as-is 𝓤 H A (Mut.mslice (TReferent.rtF (TReferent.fInt Syntax.w8)) (Syntax.tyRef Syntax.erased Syntax.mut (Syntax.tyInt Syntax.w8)) 2), Mut.reads-mslice 𝓤 H A W (TReferent.rtF (TReferent.fInt Syntax.w8)) (Syntax.tyRef Syntax.erased Syntax.mut (Syntax.tyInt Syntax.w8)) 2, Path'.refl, ((RScalar.reads-sc 𝓤 H A W (Row.sInt Syntax.w64), Path'.refl), tt))) (RScalar.room-sc 𝓤 H A W (Row.sInt Syntax.w64)) (tt, tt) Path'.refl) d10
+          d11 = Typed.s-seq 𝓤 H A W 𝓣 E G17 G18 b11 b12 Δ3 (Typed.both s14) at10 (Plain.t-call-plain 𝓤 H A W 𝓣 1 ps·0 r·0 (claims· .0) (claims· .1) "printed::lines::put_entry_line" known E (λ pos β. β) G17 (record { pos = 10; st = List.[]; d = 0; at = λ x. x }, (record { pos = 12; ty = Syntax.tyRef Syntax.erased Syntax.mut (Syntax.tyInt Syntax.w8); ref = λ x. x }, (Num.vAt 5 λ x. x, tt))) 5 (List._∷_ 2 List.[]) (Call.sub-id 𝓤 H A W (G17 .slots)) ((EntryElem.yields 𝓤 H A W, Path'.refl), (Reads.as-is 𝓤 H A (Mut.mslice (TReferent.rtF (TReferent.fInt Syntax.w8)) (Syntax.tyRef Syntax.erased Syntax.mut (Syntax.tyInt Syntax.w8)) 2), Mut.reads-mslice 𝓤 H A W (TReferent.rtF (TReferent.fInt Syntax.w8)) (Syntax.tyRef Syntax.erased Syntax.mut (Syntax.tyInt Syntax.w8)) 2, Path'.refl, ((RScalar.reads-sc 𝓤 H A W (Row.sInt Syntax.w64), Path'.refl), tt))) (RScalar.room-sc 𝓤 H A W (Row.sInt Syntax.w64)) (tt, tt) Path'.refl) d10
 
           d12 : Typed.Typed 𝓤 H A 𝓣 E G16 b14 Δ3 at12
           d12 = Typed.s-seq 𝓤 H A W 𝓣 E G16 G17 b10 b13 Δ3 (Typed.ask s13) at11 (Relend.t-sl-aggregate 𝓤 H A W E (TReferent.rtF (TReferent.fInt Syntax.w8)) 𝓣 (Relend.asMut (TReferent.rtF (TReferent.fInt Syntax.w8))) G16 11 12 2 (Syntax.tyRef Syntax.erased Syntax.mut (Syntax.tyInt Syntax.w8)) (Syntax.tyRef Syntax.erased Syntax.mut (Syntax.tyInt Syntax.w8)) (λ x. x) (RScalar.oFld 3 (List._∷_ (Syntax.field 1) List.[]) (Syntax.tyInt Syntax.w64) 8 λ v. SShared.lenV (v .0)) (Reads.as-is 𝓤 H A (Relend.msptr (TReferent.rtF (TReferent.fInt Syntax.w8)) (Syntax.tyRef Syntax.erased Syntax.mut (Syntax.tyInt Syntax.w8)) 2)) (Reads.room-gone 𝓤 H A τ0) (Relend.reads-owed-len 𝓤 H A W (TReferent.rtF (TReferent.fInt Syntax.w8)) (Syntax.tyRef (Syntax.named 1) Syntax.mut (Syntax.tyInt Syntax.w8)) 1 2 (Row.lease (κs .1 .0) (qs .1 .0)) 8 Path'.refl, Path'.refl) Path'.refl Path'.refl λ b o k. tt) d11
@@ -975,6 +975,6 @@ module _ (claims· : Claims) where
           pub asked : (a : Kinds.Dens κs ps) → (good : Kinds.GoodsP κs ps a) → (pre : Pre· κs a) → (bs : List.List Nat.ℕ) → Φ (Any.wantQ 2 ps r xs m κs qs a (Post· κs a)) (Function.init 2 ps r xs m κs qs a)
           asked = λ a good pre bs. laid record { κs = κs; args = record { entries = a .0; n = a .1 .0; out = a .1 .1 .0; at = a .1 .1 .1 .0 }; good = good; fits = record { n = record { fits = good .1 .0 .1 }; at = record { fits = good .1 .1 .1 .0 .1 } }; pre = pre }
 
-        module _ {M : Type 1} (𝓤 : URA.URA M) (H : Wp.Heap 𝓤) (A : Atoms.Atoms 𝓤) (W : Kit.Given 𝓤 H A) (𝓣 : Wp.Tables 𝓤 H) (known0 : Plain.Known 𝓤 H A W 𝓣 1 ps·0 r·0 (claims· .0) (claims· .1) "listing::lines::put_entry_line") where
+        module _ {M : Type 1} (𝓤 : URA.URA M) (H : Wp.Heap 𝓤) (A : Atoms.Atoms 𝓤) (W : Kit.Given 𝓤 H A) (𝓣 : Wp.Tables 𝓤 H) (known0 : Plain.Known 𝓤 H A W 𝓣 1 ps·0 r·0 (claims· .0) (claims· .1) "printed::lines::put_entry_line") where
           pub spec : Statement.Triple 𝓤 (Wp.WpFn 𝓤 H (𝓣 .C) (𝓣 .Λ) (Function.fnOf 2 ps r xs m hs body)) (Function.plainOf 𝓤 H A 2 ps r Pre· Post·)
           spec = Plain.t-fn-plain 𝓤 H A W 𝓣 2 ps r xs m hs body (λ κs qs bs. Φ) (λ κs qs bs bd. typed κs qs 𝓤 H A W 𝓣 known0 bs bd) Pre· Post· asked

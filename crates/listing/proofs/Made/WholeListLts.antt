@@ -214,7 +214,7 @@ abbrev b18 : Syntax.Body
 b18 = Syntax.assign (Syntax.place 23 List.[]) (Syntax.aggregate (List._∷_ (Syntax.copy (Syntax.place 22 List.[])) (List._∷_ (Syntax.intBig Syntax.w64 16384) List.[])))
 
 abbrev b19 : Syntax.Body
-b19 = Syntax.call "listing::lines::put_refusal" (List._∷_ (Syntax.copy (Syntax.place 8 List.[])) (List._∷_ (Syntax.copy (Syntax.place 23 List.[])) (List._∷_ (Syntax.int Syntax.w64 0) List.[]))) (Syntax.place 21 List.[])
+b19 = Syntax.call "printed::lines::put_refusal" (List._∷_ (Syntax.copy (Syntax.place 8 List.[])) (List._∷_ (Syntax.copy (Syntax.place 23 List.[])) (List._∷_ (Syntax.int Syntax.w64 0) List.[]))) (Syntax.place 21 List.[])
 
 abbrev b20 : Syntax.Body
 b20 = Syntax.seq b18 b19
@@ -886,7 +886,7 @@ module _ (claims· : Claims) where
   module _ (Pre· : (κs : Lifetimes.Lfts 2) → Kinds.Dens κs ps → Type 0) (Post· : (κs : Lifetimes.Lfts 2) → (a : Kinds.Dens κs ps) → Kinds.Plain 2 ps r κs) where
     module _ (M : Type 1) where
       abbrev pub Closed : Type 2
-      Closed = (𝓤 : URA.URA M) (H : Wp.Heap 𝓤) (A : Atoms.Atoms 𝓤) (W : Kit.Given 𝓤 H A) (𝓣 : Wp.Tables 𝓤 H) (known0 : Plain.Known 𝓤 H A W 𝓣 0 ps·0 r·0 (claims· .0) (claims· .1) "listing::blank::blank_entry") (known1 : Plain.Known 𝓤 H A W 𝓣 0 ps·1 r·1 (claims· .2) (claims· .3) "listing::blank::blank_expectation") (known2 : Plain.Known 𝓤 H A W 𝓣 5 ps·2 r·2 (claims· .4) (claims· .5) "read::reading::read") (known3 : Plain.Known 𝓤 H A W 𝓣 1 ps·3 r·3 (claims· .6) (claims· .7) "listing::lines::put_refusal") (known4 : Plain.Known 𝓤 H A W 𝓣 2 ps·4 r·4 (claims· .8) (claims· .9) "listing::whole::list_script") → Statement.Triple 𝓤 (Wp.WpFn 𝓤 H (𝓣 .C) (𝓣 .Λ) (Function.fnOf 2 ps r xs m hs body)) (Function.plainOf 𝓤 H A 2 ps r Pre· Post·)
+      Closed = (𝓤 : URA.URA M) (H : Wp.Heap 𝓤) (A : Atoms.Atoms 𝓤) (W : Kit.Given 𝓤 H A) (𝓣 : Wp.Tables 𝓤 H) (known0 : Plain.Known 𝓤 H A W 𝓣 0 ps·0 r·0 (claims· .0) (claims· .1) "listing::blank::blank_entry") (known1 : Plain.Known 𝓤 H A W 𝓣 0 ps·1 r·1 (claims· .2) (claims· .3) "listing::blank::blank_expectation") (known2 : Plain.Known 𝓤 H A W 𝓣 5 ps·2 r·2 (claims· .4) (claims· .5) "read::reading::read") (known3 : Plain.Known 𝓤 H A W 𝓣 1 ps·3 r·3 (claims· .6) (claims· .7) "printed::lines::put_refusal") (known4 : Plain.Known 𝓤 H A W 𝓣 2 ps·4 r·4 (claims· .8) (claims· .9) "listing::whole::list_script") → Statement.Triple 𝓤 (Wp.WpFn 𝓤 H (𝓣 .C) (𝓣 .Λ) (Function.fnOf 2 ps r xs m hs body)) (Function.plainOf 𝓤 H A 2 ps r Pre· Post·)
 
     module _ where
       abbrev at0 : (bs : List.List Nat.ℕ) → Typed.TF T54 O1
@@ -1101,7 +1101,7 @@ module _ (claims· : Claims) where
 
       module _ {M : Type 1} (𝓤 : URA.URA M) (H : Wp.Heap 𝓤) (A : Atoms.Atoms 𝓤) (W : Kit.Given 𝓤 H A) (𝓣 : Wp.Tables 𝓤 H) where
         abbrev Knowns : Type 1
-        Knowns = Plain.Known 𝓤 H A W 𝓣 0 ps·0 r·0 (claims· .0) (claims· .1) "listing::blank::blank_entry" × Plain.Known 𝓤 H A W 𝓣 0 ps·1 r·1 (claims· .2) (claims· .3) "listing::blank::blank_expectation" × Plain.Known 𝓤 H A W 𝓣 5 ps·2 r·2 (claims· .4) (claims· .5) "read::reading::read" × Plain.Known 𝓤 H A W 𝓣 1 ps·3 r·3 (claims· .6) (claims· .7) "listing::lines::put_refusal" × Plain.Known 𝓤 H A W 𝓣 2 ps·4 r·4 (claims· .8) (claims· .9) "listing::whole::list_script"
+        Knowns = Plain.Known 𝓤 H A W 𝓣 0 ps·0 r·0 (claims· .0) (claims· .1) "listing::blank::blank_entry" × Plain.Known 𝓤 H A W 𝓣 0 ps·1 r·1 (claims· .2) (claims· .3) "listing::blank::blank_expectation" × Plain.Known 𝓤 H A W 𝓣 5 ps·2 r·2 (claims· .4) (claims· .5) "read::reading::read" × Plain.Known 𝓤 H A W 𝓣 1 ps·3 r·3 (claims· .6) (claims· .7) "printed::lines::put_refusal" × Plain.Known 𝓤 H A W 𝓣 2 ps·4 r·4 (claims· .8) (claims· .9) "listing::whole::list_script"
 
       module _ (κs : Lifetimes.Lfts 2) (qs : Lifetimes.Shares 2) where
         abbrev g45 : List.List Row.Entry
@@ -1379,7 +1379,7 @@ module _ (claims· : Claims) where
           E = Frame.EnvOf 𝓤 H (List._∷_ (Kinds.tyR r) (Enter.tysP ps xs)) bs
 
           d0 : Typed.Typed 𝓤 H A 𝓣 E G54 b19 Δ1 (at0 bs)
-          d0 = Typed.s-typed 𝓤 H A W 𝓣 E G54 b19 Δ1 (λ Ψ. Typed.both (s52 bs) (Typed.pass T55 T56 (s53 bs) (Typed.ask (s55 bs) Ψ))) tt (Typed.g-post 𝓤 H A W 𝓣 E G54 G58 G59 b19 (λ Ψ. Typed.both (s52 bs) (Typed.pass T55 T56 (s53 bs) (Typed.ask (s55 bs) Ψ))) (λ Ψ. Ψ) (Typed.g-post 𝓤 H A W 𝓣 E G54 G57 G58 b19 (λ Ψ. Typed.both (s52 bs) (Typed.pass T55 T56 (s53 bs) Ψ)) (Typed.ask (s55 bs)) (Typed.g-post 𝓤 H A W 𝓣 E G54 G56 G57 b19 (λ Ψ. Typed.both (s52 bs) (Typed.pass T55 T56 (s53 bs) Ψ)) (λ Ψ. Ψ) (Typed.g-post 𝓤 H A W 𝓣 E G54 G55 G56 b19 (Typed.both (s52 bs)) (Typed.pass T55 T56 (s53 bs)) (Plain.t-call-plain 𝓤 H A W 𝓣 1 ps·3 r·3 (claims· .6) (claims· .7) "listing::lines::put_refusal" (known .3) E (λ pos β. β) G54 (record { pos = 8; st = List.[]; d = 0; at = λ x. x }, (record { pos = 23; ty = Syntax.tyRef Syntax.erased Syntax.mut (Syntax.tyInt Syntax.w8); ref = λ x. x }, (Num.vLit 0, tt))) 21 (List._∷_ 6 List.[]) (Call.sub-id 𝓤 H A W (G54 .slots)) ((Yields.yields-copy 𝓤 H A W (λ ρ. Unit) (Declared'.row Refusal.the-type) Path'.refl (TCopies.cStruct Refusal.the-type Laws'.the-laws Laws'.the-copy .copy 𝓤 H A W) (Rows'.whole (Declared'.row Refusal.the-type)) (λ x. x) (λ x. x) (λ ρ told. RLocal.mem-whole 𝓤 H A W (Declared'.row Refusal.the-type) ρ) λ ρ told. RLocal.whole-mem 𝓤 H A W (Declared'.row Refusal.the-type) ρ, Path'.refl), (Reads.as-is 𝓤 H A (Mut.mslice (TReferent.rtF (TReferent.fInt Syntax.w8)) (Syntax.tyRef Syntax.erased Syntax.mut (Syntax.tyInt Syntax.w8)) 6), Mut.reads-mslice 𝓤 H A W (TReferent.rtF (TReferent.fInt Syntax.w8)) (Syntax.tyRef Syntax.erased Syntax.mut (Syntax.tyInt Syntax.w8)) 6, Path'.refl, (tt, tt))) (Reads.room-gone 𝓤 H A (Syntax.tyInt Syntax.w64)) (tt, tt) Path'.refl) (RScalar.g-room 𝓤 H A W E G55 8 τ1 (RLocal.room-whole 𝓤 H A W (Declared'.row Refusal.the-type) τ1 Path'.refl))) (Lifetime.g-end 𝓤 H A W E G56 6 Path'.refl)) (WayLend.g-way-back 𝓤 H A W E (Frozen.fz-open Syntax.erased 1 (κs .1 .0) (Row.lease (κs .1 .0) (qs .1 .0)) (AsSlice.fz-lent-sl (TReferent.rtF (TReferent.fInt Syntax.w8)) 16384 6)) G57 23 2 (Rows'.mref (DArray.Array (TReferent.rtF (TReferent.fInt Syntax.w8)) 16384) (Syntax.tyRef (Syntax.named 1) Syntax.mut (Syntax.tyArray (Syntax.tyInt Syntax.w8) 16384)) 1) (Syntax.tyRef Syntax.erased Syntax.mut (Syntax.tyInt Syntax.w8)) (Row.setLife 1 (Row.lease (κs .1 .0) (qs .1 .0)) (G57 .slots)) (λ x. x) (λ x. x) (λ x. x) (Reads.as-is 𝓤 H A (Mut.msleft (TReferent.rtF (TReferent.fInt Syntax.w8)) (Syntax.tyRef Syntax.erased Syntax.mut (Syntax.tyInt Syntax.w8)))) (Reads.as-is 𝓤 H A (Frozen.held (Frozen.fz-open Syntax.erased 1 (κs .1 .0) (Row.lease (κs .1 .0) (qs .1 .0)) (AsSlice.fz-lent-sl (TReferent.rtF (TReferent.fInt Syntax.w8)) 16384 6)))) Path'.refl (WayLend.puts-open 𝓤 H A Syntax.erased 1 (κs .1 .0) (Row.lease (κs .1 .0) (qs .1 .0)) (AsSlice.fz-lent-sl (TReferent.rtF (TReferent.fInt Syntax.w8)) 16384 6) (G57 .slots) (G57 .slots) (Row.setLife 1 (Row.lease (κs .1 .0) (qs .1 .0)) (G57 .slots)) (AsSlice.puts-none-sl 𝓤 H A (TReferent.rtF (TReferent.fInt Syntax.w8)) 16384 6 (G57 .slots)) (Open.puts-whole 𝓤 H A W 1 (Row.lease (κs .1 .0) (qs .1 .0)) (G57 .slots) Path'.refl)) λ ρ pins. RLocal.mref-mem 𝓤 H A W Syntax.erased (κs .1 .0) (DArray.Array (TReferent.rtF (TReferent.fInt Syntax.w8)) 16384) 1 (Syntax.tyRef (Syntax.named 1) Syntax.mut (Syntax.tyArray (Syntax.tyInt Syntax.w8) 16384)) Path'.refl ρ (pins .0))) (Lifetime.g-forget 𝓤 H A W E G58 6 Row.dead Path'.refl))
+          d0 = Typed.s-typed 𝓤 H A W 𝓣 E G54 b19 Δ1 (λ Ψ. Typed.both (s52 bs) (Typed.pass T55 T56 (s53 bs) (Typed.ask (s55 bs) Ψ))) tt (Typed.g-post 𝓤 H A W 𝓣 E G54 G58 G59 b19 (λ Ψ. Typed.both (s52 bs) (Typed.pass T55 T56 (s53 bs) (Typed.ask (s55 bs) Ψ))) (λ Ψ. Ψ) (Typed.g-post 𝓤 H A W 𝓣 E G54 G57 G58 b19 (λ Ψ. Typed.both (s52 bs) (Typed.pass T55 T56 (s53 bs) Ψ)) (Typed.ask (s55 bs)) (Typed.g-post 𝓤 H A W 𝓣 E G54 G56 G57 b19 (λ Ψ. Typed.both (s52 bs) (Typed.pass T55 T56 (s53 bs) Ψ)) (λ Ψ. Ψ) (Typed.g-post 𝓤 H A W 𝓣 E G54 G55 G56 b19 (Typed.both (s52 bs)) (Typed.pass T55 T56 (s53 bs)) (Plain.t-call-plain 𝓤 H A W 𝓣 1 ps·3 r·3 (claims· .6) (claims· .7) "printed::lines::put_refusal" (known .3) E (λ pos β. β) G54 (record { pos = 8; st = List.[]; d = 0; at = λ x. x }, (record { pos = 23; ty = Syntax.tyRef Syntax.erased Syntax.mut (Syntax.tyInt Syntax.w8); ref = λ x. x }, (Num.vLit 0, tt))) 21 (List._∷_ 6 List.[]) (Call.sub-id 𝓤 H A W (G54 .slots)) ((Yields.yields-copy 𝓤 H A W (λ ρ. Unit) (Declared'.row Refusal.the-type) Path'.refl (TCopies.cStruct Refusal.the-type Laws'.the-laws Laws'.the-copy .copy 𝓤 H A W) (Rows'.whole (Declared'.row Refusal.the-type)) (λ x. x) (λ x. x) (λ ρ told. RLocal.mem-whole 𝓤 H A W (Declared'.row Refusal.the-type) ρ) λ ρ told. RLocal.whole-mem 𝓤 H A W (Declared'.row Refusal.the-type) ρ, Path'.refl), (Reads.as-is 𝓤 H A (Mut.mslice (TReferent.rtF (TReferent.fInt Syntax.w8)) (Syntax.tyRef Syntax.erased Syntax.mut (Syntax.tyInt Syntax.w8)) 6), Mut.reads-mslice 𝓤 H A W (TReferent.rtF (TReferent.fInt Syntax.w8)) (Syntax.tyRef Syntax.erased Syntax.mut (Syntax.tyInt Syntax.w8)) 6, Path'.refl, (tt, tt))) (Reads.room-gone 𝓤 H A (Syntax.tyInt Syntax.w64)) (tt, tt) Path'.refl) (RScalar.g-room 𝓤 H A W E G55 8 τ1 (RLocal.room-whole 𝓤 H A W (Declared'.row Refusal.the-type) τ1 Path'.refl))) (Lifetime.g-end 𝓤 H A W E G56 6 Path'.refl)) (WayLend.g-way-back 𝓤 H A W E (Frozen.fz-open Syntax.erased 1 (κs .1 .0) (Row.lease (κs .1 .0) (qs .1 .0)) (AsSlice.fz-lent-sl (TReferent.rtF (TReferent.fInt Syntax.w8)) 16384 6)) G57 23 2 (Rows'.mref (DArray.Array (TReferent.rtF (TReferent.fInt Syntax.w8)) 16384) (Syntax.tyRef (Syntax.named 1) Syntax.mut (Syntax.tyArray (Syntax.tyInt Syntax.w8) 16384)) 1) (Syntax.tyRef Syntax.erased Syntax.mut (Syntax.tyInt Syntax.w8)) (Row.setLife 1 (Row.lease (κs .1 .0) (qs .1 .0)) (G57 .slots)) (λ x. x) (λ x. x) (λ x. x) (Reads.as-is 𝓤 H A (Mut.msleft (TReferent.rtF (TReferent.fInt Syntax.w8)) (Syntax.tyRef Syntax.erased Syntax.mut (Syntax.tyInt Syntax.w8)))) (Reads.as-is 𝓤 H A (Frozen.held (Frozen.fz-open Syntax.erased 1 (κs .1 .0) (Row.lease (κs .1 .0) (qs .1 .0)) (AsSlice.fz-lent-sl (TReferent.rtF (TReferent.fInt Syntax.w8)) 16384 6)))) Path'.refl (WayLend.puts-open 𝓤 H A Syntax.erased 1 (κs .1 .0) (Row.lease (κs .1 .0) (qs .1 .0)) (AsSlice.fz-lent-sl (TReferent.rtF (TReferent.fInt Syntax.w8)) 16384 6) (G57 .slots) (G57 .slots) (Row.setLife 1 (Row.lease (κs .1 .0) (qs .1 .0)) (G57 .slots)) (AsSlice.puts-none-sl 𝓤 H A (TReferent.rtF (TReferent.fInt Syntax.w8)) 16384 6 (G57 .slots)) (Open.puts-whole 𝓤 H A W 1 (Row.lease (κs .1 .0) (qs .1 .0)) (G57 .slots) Path'.refl)) λ ρ pins. RLocal.mref-mem 𝓤 H A W Syntax.erased (κs .1 .0) (DArray.Array (TReferent.rtF (TReferent.fInt Syntax.w8)) 16384) 1 (Syntax.tyRef (Syntax.named 1) Syntax.mut (Syntax.tyArray (Syntax.tyInt Syntax.w8) 16384)) Path'.refl ρ (pins .0))) (Lifetime.g-forget 𝓤 H A W E G58 6 Row.dead Path'.refl))
 
           d1 : Typed.Typed 𝓤 H A 𝓣 E G53 b20 Δ1 (at1 bs)
           d1 = Typed.s-seq 𝓤 H A W 𝓣 E G53 G54 b18 b19 Δ1 (Typed.ask (s51 bs)) (at0 bs) (Relend.t-sl-aggregate 𝓤 H A W E (TReferent.rtF (TReferent.fInt Syntax.w8)) 𝓣 (Relend.asMut (TReferent.rtF (TReferent.fInt Syntax.w8))) G53 22 23 6 (Syntax.tyRef Syntax.erased Syntax.mut (Syntax.tyInt Syntax.w8)) (Syntax.tyRef Syntax.erased Syntax.mut (Syntax.tyInt Syntax.w8)) (λ x. x) (RScalar.oBig Syntax.w64 16384) (Reads.as-is 𝓤 H A (Relend.msptr (TReferent.rtF (TReferent.fInt Syntax.w8)) (Syntax.tyRef Syntax.erased Syntax.mut (Syntax.tyInt Syntax.w8)) 6)) (Reads.room-gone 𝓤 H A τ4) record { lower = record { fits = Dec'.lit< tt } } Path'.refl Path'.refl λ b o k. tt) d0
@@ -2056,6 +2056,6 @@ module _ (claims· : Claims) where
           pub asked : (a : Kinds.Dens κs ps) → (good : Kinds.GoodsP κs ps a) → (pre : Pre· κs a) → (bs : List.List Nat.ℕ) → Φ bs (Any.wantQ 2 ps r xs m κs qs a (Post· κs a)) (Function.init 2 ps r xs m κs qs a)
           asked = λ a good pre bs. laid record { κs = κs; args = record { text = a .0; out = a .1 .0 }; blocks = bs; good = good; pre = pre }
 
-        module _ {M : Type 1} (𝓤 : URA.URA M) (H : Wp.Heap 𝓤) (A : Atoms.Atoms 𝓤) (W : Kit.Given 𝓤 H A) (𝓣 : Wp.Tables 𝓤 H) (known0 : Plain.Known 𝓤 H A W 𝓣 0 ps·0 r·0 (claims· .0) (claims· .1) "listing::blank::blank_entry") (known1 : Plain.Known 𝓤 H A W 𝓣 0 ps·1 r·1 (claims· .2) (claims· .3) "listing::blank::blank_expectation") (known2 : Plain.Known 𝓤 H A W 𝓣 5 ps·2 r·2 (claims· .4) (claims· .5) "read::reading::read") (known3 : Plain.Known 𝓤 H A W 𝓣 1 ps·3 r·3 (claims· .6) (claims· .7) "listing::lines::put_refusal") (known4 : Plain.Known 𝓤 H A W 𝓣 2 ps·4 r·4 (claims· .8) (claims· .9) "listing::whole::list_script") where
+        module _ {M : Type 1} (𝓤 : URA.URA M) (H : Wp.Heap 𝓤) (A : Atoms.Atoms 𝓤) (W : Kit.Given 𝓤 H A) (𝓣 : Wp.Tables 𝓤 H) (known0 : Plain.Known 𝓤 H A W 𝓣 0 ps·0 r·0 (claims· .0) (claims· .1) "listing::blank::blank_entry") (known1 : Plain.Known 𝓤 H A W 𝓣 0 ps·1 r·1 (claims· .2) (claims· .3) "listing::blank::blank_expectation") (known2 : Plain.Known 𝓤 H A W 𝓣 5 ps·2 r·2 (claims· .4) (claims· .5) "read::reading::read") (known3 : Plain.Known 𝓤 H A W 𝓣 1 ps·3 r·3 (claims· .6) (claims· .7) "printed::lines::put_refusal") (known4 : Plain.Known 𝓤 H A W 𝓣 2 ps·4 r·4 (claims· .8) (claims· .9) "listing::whole::list_script") where
           pub spec : Statement.Triple 𝓤 (Wp.WpFn 𝓤 H (𝓣 .C) (𝓣 .Λ) (Function.fnOf 2 ps r xs m hs body)) (Function.plainOf 𝓤 H A 2 ps r Pre· Post·)
           spec = Plain.t-fn-plain 𝓤 H A W 𝓣 2 ps r xs m hs body (λ κs qs bs. Φ bs) (λ κs qs bs bd. typed κs qs 𝓤 H A W 𝓣 (known0, known1, known2, known3, known4) bs bd) Pre· Post· asked

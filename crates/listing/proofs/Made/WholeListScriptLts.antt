@@ -98,7 +98,7 @@ abbrev b1 : Syntax.Body
 b1 = Syntax.assign (Syntax.place 6 List.[]) (Syntax.aggregate (List._∷_ (Syntax.copy (Syntax.place 5 List.[])) (List._∷_ (Syntax.copy (Syntax.place 3 (List._∷_ (Syntax.field 1) List.[]))) List.[])))
 
 abbrev b2 : Syntax.Body
-b2 = Syntax.call "listing::lines::put_header" (List._∷_ (Syntax.copy (Syntax.place 1 List.[])) (List._∷_ (Syntax.copy (Syntax.place 6 List.[])) (List._∷_ (Syntax.int Syntax.w64 0) List.[]))) (Syntax.place 4 List.[])
+b2 = Syntax.call "printed::lines::put_header" (List._∷_ (Syntax.copy (Syntax.place 1 List.[])) (List._∷_ (Syntax.copy (Syntax.place 6 List.[])) (List._∷_ (Syntax.int Syntax.w64 0) List.[]))) (Syntax.place 4 List.[])
 
 abbrev b3 : Syntax.Body
 b3 = Syntax.assign (Syntax.place 7 List.[]) (Syntax.addrOf (Syntax.place 3 (List._∷_ (Syntax.field 0) (List._∷_ (Syntax.deref (Syntax.tyInt Syntax.w8)) List.[]))))
@@ -260,7 +260,7 @@ module _ (claims· : Claims) where
   module _ (Pre· : (κs : Lifetimes.Lfts 2) → Kinds.Dens κs ps → Type 0) (Post· : (κs : Lifetimes.Lfts 2) → (a : Kinds.Dens κs ps) → Kinds.Plain 2 ps r κs) where
     module _ (M : Type 1) where
       abbrev pub Closed : Type 2
-      Closed = (𝓤 : URA.URA M) (H : Wp.Heap 𝓤) (A : Atoms.Atoms 𝓤) (W : Kit.Given 𝓤 H A) (𝓣 : Wp.Tables 𝓤 H) (known0 : Plain.Known 𝓤 H A W 𝓣 1 ps·0 r·0 (claims· .0) (claims· .1) "listing::lines::put_header") (known1 : Plain.Known 𝓤 H A W 𝓣 2 ps·1 r·1 (claims· .2) (claims· .3) "listing::whole::list_entries") → Statement.Triple 𝓤 (Wp.WpFn 𝓤 H (𝓣 .C) (𝓣 .Λ) (Function.fnOf 2 ps r xs m hs body)) (Function.plainOf 𝓤 H A 2 ps r Pre· Post·)
+      Closed = (𝓤 : URA.URA M) (H : Wp.Heap 𝓤) (A : Atoms.Atoms 𝓤) (W : Kit.Given 𝓤 H A) (𝓣 : Wp.Tables 𝓤 H) (known0 : Plain.Known 𝓤 H A W 𝓣 1 ps·0 r·0 (claims· .0) (claims· .1) "printed::lines::put_header") (known1 : Plain.Known 𝓤 H A W 𝓣 2 ps·1 r·1 (claims· .2) (claims· .3) "listing::whole::list_entries") → Statement.Triple 𝓤 (Wp.WpFn 𝓤 H (𝓣 .C) (𝓣 .Λ) (Function.fnOf 2 ps r xs m hs body)) (Function.plainOf 𝓤 H A 2 ps r Pre· Post·)
 
     module _ where
       abbrev at0 : Typed.TF T19 O0
@@ -328,7 +328,7 @@ module _ (claims· : Claims) where
 
       module _ {M : Type 1} (𝓤 : URA.URA M) (H : Wp.Heap 𝓤) (A : Atoms.Atoms 𝓤) (W : Kit.Given 𝓤 H A) (𝓣 : Wp.Tables 𝓤 H) where
         abbrev Knowns : Type 1
-        Knowns = Plain.Known 𝓤 H A W 𝓣 1 ps·0 r·0 (claims· .0) (claims· .1) "listing::lines::put_header" × Plain.Known 𝓤 H A W 𝓣 2 ps·1 r·1 (claims· .2) (claims· .3) "listing::whole::list_entries"
+        Knowns = Plain.Known 𝓤 H A W 𝓣 1 ps·0 r·0 (claims· .0) (claims· .1) "printed::lines::put_header" × Plain.Known 𝓤 H A W 𝓣 2 ps·1 r·1 (claims· .2) (claims· .3) "listing::whole::list_entries"
 
       module _ (κs : Lifetimes.Lfts 2) (qs : Lifetimes.Shares 2) where
         abbrev g2 : List.List Row.Entry
@@ -471,7 +471,7 @@ module _ (claims· : Claims) where
           d14 = Typed.g-pre 𝓤 H A W 𝓣 E G6 G7 b9 Δ0 (λ Ψ. Ψ) at13 (Lifetime.g-end 𝓤 H A W E G6 2 Path'.refl) d13
 
           d15 : Typed.Typed 𝓤 H A 𝓣 E G5 b10 Δ0 at15
-          d15 = Typed.s-seq 𝓤 H A W 𝓣 E G5 G6 b2 b9 Δ0 (Typed.both s4) at14 (Plain.t-call-plain 𝓤 H A W 𝓣 1 ps·0 r·0 (claims· .0) (claims· .1) "listing::lines::put_header" (known .0) E (λ pos β. β) G5 (record { pos = 1; st = List.[]; d = 0; at = λ x. x }, (record { pos = 6; ty = Syntax.tyRef Syntax.erased Syntax.mut (Syntax.tyInt Syntax.w8); ref = λ x. x }, (Num.vLit 0, tt))) 4 (List._∷_ 2 List.[]) (Call.sub-id 𝓤 H A W (G5 .slots)) ((Yields.yields-copy 𝓤 H A W (λ ρ. Unit) (Declared.row Script.the-type) Path'.refl (TCopies.cStruct Script.the-type Laws'.the-laws Laws'.the-copy .copy 𝓤 H A W) (Rows.whole (Declared.row Script.the-type)) (λ x. x) (λ x. x) (λ ρ told. RLocal.mem-whole 𝓤 H A W (Declared.row Script.the-type) ρ) λ ρ told. RLocal.whole-mem 𝓤 H A W (Declared.row Script.the-type) ρ, Path'.refl), (Reads'.as-is 𝓤 H A (Mut.mslice (TReferent.rtF (TReferent.fInt Syntax.w8)) (Syntax.tyRef Syntax.erased Syntax.mut (Syntax.tyInt Syntax.w8)) 2), Mut.reads-mslice 𝓤 H A W (TReferent.rtF (TReferent.fInt Syntax.w8)) (Syntax.tyRef Syntax.erased Syntax.mut (Syntax.tyInt Syntax.w8)) 2, Path'.refl, (tt, tt))) (Reads'.room-gone 𝓤 H A (Syntax.tyInt Syntax.w64)) (tt, tt) Path'.refl) d14
+          d15 = Typed.s-seq 𝓤 H A W 𝓣 E G5 G6 b2 b9 Δ0 (Typed.both s4) at14 (Plain.t-call-plain 𝓤 H A W 𝓣 1 ps·0 r·0 (claims· .0) (claims· .1) "printed::lines::put_header" (known .0) E (λ pos β. β) G5 (record { pos = 1; st = List.[]; d = 0; at = λ x. x }, (record { pos = 6; ty = Syntax.tyRef Syntax.erased Syntax.mut (Syntax.tyInt Syntax.w8); ref = λ x. x }, (Num.vLit 0, tt))) 4 (List._∷_ 2 List.[]) (Call.sub-id 𝓤 H A W (G5 .slots)) ((Yields.yields-copy 𝓤 H A W (λ ρ. Unit) (Declared.row Script.the-type) Path'.refl (TCopies.cStruct Script.the-type Laws'.the-laws Laws'.the-copy .copy 𝓤 H A W) (Rows.whole (Declared.row Script.the-type)) (λ x. x) (λ x. x) (λ ρ told. RLocal.mem-whole 𝓤 H A W (Declared.row Script.the-type) ρ) λ ρ told. RLocal.whole-mem 𝓤 H A W (Declared.row Script.the-type) ρ, Path'.refl), (Reads'.as-is 𝓤 H A (Mut.mslice (TReferent.rtF (TReferent.fInt Syntax.w8)) (Syntax.tyRef Syntax.erased Syntax.mut (Syntax.tyInt Syntax.w8)) 2), Mut.reads-mslice 𝓤 H A W (TReferent.rtF (TReferent.fInt Syntax.w8)) (Syntax.tyRef Syntax.erased Syntax.mut (Syntax.tyInt Syntax.w8)) 2, Path'.refl, (tt, tt))) (Reads'.room-gone 𝓤 H A (Syntax.tyInt Syntax.w64)) (tt, tt) Path'.refl) d14
 
           d16 : Typed.Typed 𝓤 H A 𝓣 E G4 b11 Δ0 at16
           d16 = Typed.s-seq 𝓤 H A W 𝓣 E G4 G5 b1 b10 Δ0 (Typed.ask s3) at15 (Relend.t-sl-aggregate 𝓤 H A W E (TReferent.rtF (TReferent.fInt Syntax.w8)) 𝓣 (Relend.asMut (TReferent.rtF (TReferent.fInt Syntax.w8))) G4 5 6 2 (Syntax.tyRef Syntax.erased Syntax.mut (Syntax.tyInt Syntax.w8)) (Syntax.tyRef Syntax.erased Syntax.mut (Syntax.tyInt Syntax.w8)) (λ x. x) (RScalar.oFld 3 (List._∷_ (Syntax.field 1) List.[]) (Syntax.tyInt Syntax.w64) 8 λ v. SShared.lenV (v .0)) (Reads'.as-is 𝓤 H A (Relend.msptr (TReferent.rtF (TReferent.fInt Syntax.w8)) (Syntax.tyRef Syntax.erased Syntax.mut (Syntax.tyInt Syntax.w8)) 2)) (Reads'.room-gone 𝓤 H A τ0) (Relend.reads-owed-len 𝓤 H A W (TReferent.rtF (TReferent.fInt Syntax.w8)) (Syntax.tyRef (Syntax.named 1) Syntax.mut (Syntax.tyInt Syntax.w8)) 1 2 (Row.lease (κs .1 .0) (qs .1 .0)) 8 Path'.refl, Path'.refl) Path'.refl Path'.refl λ b o k. tt) d15
@@ -652,6 +652,6 @@ module _ (claims· : Claims) where
           pub asked : (a : Kinds.Dens κs ps) → (good : Kinds.GoodsP κs ps a) → (pre : Pre· κs a) → (bs : List.List Nat.ℕ) → Φ (Any.wantQ 2 ps r xs m κs qs a (Post· κs a)) (Function.init 2 ps r xs m κs qs a)
           asked = λ a good pre bs. laid record { κs = κs; args = record { s = a .0; entries = a .1 .0; out = a .1 .1 .0 }; good = good; pre = pre }
 
-        module _ {M : Type 1} (𝓤 : URA.URA M) (H : Wp.Heap 𝓤) (A : Atoms.Atoms 𝓤) (W : Kit.Given 𝓤 H A) (𝓣 : Wp.Tables 𝓤 H) (known0 : Plain.Known 𝓤 H A W 𝓣 1 ps·0 r·0 (claims· .0) (claims· .1) "listing::lines::put_header") (known1 : Plain.Known 𝓤 H A W 𝓣 2 ps·1 r·1 (claims· .2) (claims· .3) "listing::whole::list_entries") where
+        module _ {M : Type 1} (𝓤 : URA.URA M) (H : Wp.Heap 𝓤) (A : Atoms.Atoms 𝓤) (W : Kit.Given 𝓤 H A) (𝓣 : Wp.Tables 𝓤 H) (known0 : Plain.Known 𝓤 H A W 𝓣 1 ps·0 r·0 (claims· .0) (claims· .1) "printed::lines::put_header") (known1 : Plain.Known 𝓤 H A W 𝓣 2 ps·1 r·1 (claims· .2) (claims· .3) "listing::whole::list_entries") where
           pub spec : Statement.Triple 𝓤 (Wp.WpFn 𝓤 H (𝓣 .C) (𝓣 .Λ) (Function.fnOf 2 ps r xs m hs body)) (Function.plainOf 𝓤 H A 2 ps r Pre· Post·)
           spec = Plain.t-fn-plain 𝓤 H A W 𝓣 2 ps r xs m hs body (λ κs qs bs. Φ) (λ κs qs bs bd. typed κs qs 𝓤 H A W 𝓣 (known0, known1) bs bd) Pre· Post· asked

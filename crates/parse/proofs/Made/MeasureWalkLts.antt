@@ -4,26 +4,26 @@ use Prim.Native.Nat
 use Rattle.kept.proofs.Made.KeptElem
 use Rattle.parse.proofs.measure.Measured
 use Rattle.parse.proofs.measure.Measured.Laws
-use Rattle.parse.proofs.measure.Open
-use Rattle.parse.proofs.measure.Open.Laws as Laws'
-use Rattle.parse.proofs.measure.What
-use Rattle.parse.proofs.measure.What.Laws as Laws''
 use Rattle.script.proofs.records.Counts
-use Rattle.script.proofs.records.Counts.Laws as Laws'3
+use Rattle.script.proofs.records.Counts.Laws as Laws'
 use Rattle.script.proofs.records.Refusal
-use Rattle.script.proofs.records.Refusal.Laws as Laws'4
+use Rattle.script.proofs.records.Refusal.Laws as Laws''
 use Rattle.script.proofs.roles.Opening
-use Rattle.script.proofs.roles.Opening.Laws as Laws'5
+use Rattle.script.proofs.roles.Opening.Laws as Laws'3
 use Rattle.script.proofs.roles.Role
-use Rattle.script.proofs.roles.Role.Laws as Laws'6
+use Rattle.script.proofs.roles.Role.Laws as Laws'4
 use Rattle.script.proofs.roles.Saying
-use Rattle.script.proofs.roles.Saying.Laws as Laws'7
+use Rattle.script.proofs.roles.Saying.Laws as Laws'5
 use Rattle.script.proofs.roles.Step
-use Rattle.script.proofs.roles.Step.Laws as Laws'8
+use Rattle.script.proofs.roles.Step.Laws as Laws'6
 use Rattle.script.proofs.roles.Where
-use Rattle.script.proofs.roles.Where.Laws as Laws'9
+use Rattle.script.proofs.roles.Where.Laws as Laws'7
 use Rattle.text.proofs.lines.Line
-use Rattle.text.proofs.lines.Line.Laws as Laws'10
+use Rattle.text.proofs.lines.Line.Laws as Laws'8
+use Rattle.totals.proofs.Open
+use Rattle.totals.proofs.Open.Laws as Laws'9
+use Rattle.totals.proofs.What
+use Rattle.totals.proofs.What.Laws as Laws'10
 use borrow.Author.Called
 use borrow.Author.Tests
 use borrow.Enum.Known
@@ -95,7 +95,7 @@ abbrev τ0 : Syntax.Ty
 τ0 = Syntax.tyStruct (List._∷_ 115 (List._∷_ 99 (List._∷_ 114 (List._∷_ 105 (List._∷_ 112 (List._∷_ 116 (List._∷_ 58 (List._∷_ 58 (List._∷_ 114 (List._∷_ 101 (List._∷_ 99 (List._∷_ 111 (List._∷_ 114 (List._∷_ 100 (List._∷_ 115 (List._∷_ 58 (List._∷_ 58 (List._∷_ 67 (List._∷_ 111 (List._∷_ 117 (List._∷_ 110 (List._∷_ 116 (List._∷_ 115 List.[]))))))))))))))))))))))) (Syntax.tcons (Syntax.tyInt Syntax.w64) (Syntax.tcons (Syntax.tyInt Syntax.w64) (Syntax.tcons (Syntax.tyInt Syntax.w64) (Syntax.tcons (Syntax.tyInt Syntax.w64) Syntax.tnil))))
 
 abbrev τ1 : Syntax.Ty
-τ1 = Syntax.tyStruct (List._∷_ 112 (List._∷_ 97 (List._∷_ 114 (List._∷_ 115 (List._∷_ 101 (List._∷_ 58 (List._∷_ 58 (List._∷_ 109 (List._∷_ 101 (List._∷_ 97 (List._∷_ 115 (List._∷_ 117 (List._∷_ 114 (List._∷_ 101 (List._∷_ 58 (List._∷_ 58 (List._∷_ 79 (List._∷_ 112 (List._∷_ 101 (List._∷_ 110 List.[])))))))))))))))))))) (Syntax.tcons (Syntax.tyEnum (List._∷_ 112 (List._∷_ 97 (List._∷_ 114 (List._∷_ 115 (List._∷_ 101 (List._∷_ 58 (List._∷_ 58 (List._∷_ 109 (List._∷_ 101 (List._∷_ 97 (List._∷_ 115 (List._∷_ 117 (List._∷_ 114 (List._∷_ 101 (List._∷_ 58 (List._∷_ 58 (List._∷_ 87 (List._∷_ 104 (List._∷_ 97 (List._∷_ 116 List.[])))))))))))))))))))) (Syntax.ttcons Syntax.tnil (Syntax.ttcons (Syntax.tcons (Syntax.tyEnum (List._∷_ 119 (List._∷_ 105 (List._∷_ 114 (List._∷_ 101 (List._∷_ 58 (List._∷_ 58 (List._∷_ 111 (List._∷_ 112 (List._∷_ 115 (List._∷_ 58 (List._∷_ 58 (List._∷_ 79 (List._∷_ 112 List.[]))))))))))))) (Syntax.ttcons Syntax.tnil (Syntax.ttcons Syntax.tnil (Syntax.ttcons Syntax.tnil (Syntax.ttcons Syntax.tnil (Syntax.ttcons Syntax.tnil (Syntax.ttcons Syntax.tnil (Syntax.ttcons Syntax.tnil (Syntax.ttcons Syntax.tnil (Syntax.ttcons Syntax.tnil (Syntax.ttcons Syntax.tnil (Syntax.ttcons Syntax.tnil (Syntax.ttcons Syntax.tnil (Syntax.ttcons Syntax.tnil (Syntax.ttcons Syntax.tnil (Syntax.ttcons Syntax.tnil (Syntax.ttcons Syntax.tnil (Syntax.ttcons Syntax.tnil (Syntax.ttcons Syntax.tnil (Syntax.ttcons Syntax.tnil (Syntax.ttcons Syntax.tnil (Syntax.ttcons Syntax.tnil (Syntax.ttcons Syntax.tnil (Syntax.ttcons Syntax.tnil (Syntax.ttcons Syntax.tnil (Syntax.ttcons Syntax.tnil (Syntax.ttcons Syntax.tnil (Syntax.ttcons Syntax.tnil (Syntax.ttcons Syntax.tnil (Syntax.ttcons Syntax.tnil (Syntax.ttcons Syntax.tnil (Syntax.ttcons Syntax.tnil (Syntax.ttcons Syntax.tnil (Syntax.ttcons Syntax.tnil (Syntax.ttcons Syntax.tnil (Syntax.ttcons Syntax.tnil (Syntax.ttcons Syntax.tnil (Syntax.ttcons Syntax.tnil Syntax.ttnil)))))))))))))))))))))))))))))))))))))) Syntax.tnil) Syntax.ttnil))) (Syntax.tcons (Syntax.tyInt Syntax.w64) (Syntax.tcons (Syntax.tyInt Syntax.w64) (Syntax.tcons (Syntax.tyInt Syntax.w64) (Syntax.tcons (Syntax.tyInt Syntax.w64) (Syntax.tcons (Syntax.tyInt Syntax.w64) (Syntax.tcons (Syntax.tyInt Syntax.w64) (Syntax.tcons (Syntax.tyInt Syntax.w64) (Syntax.tcons (Syntax.tyInt Syntax.w64) (Syntax.tcons (Syntax.tyInt Syntax.w64) (Syntax.tcons (Syntax.tyInt Syntax.w64) (Syntax.tcons (Syntax.tyInt Syntax.w64) (Syntax.tcons (Syntax.tyInt Syntax.w64) Syntax.tnil)))))))))))))
+τ1 = Syntax.tyStruct (List._∷_ 116 (List._∷_ 111 (List._∷_ 116 (List._∷_ 97 (List._∷_ 108 (List._∷_ 115 (List._∷_ 58 (List._∷_ 58 (List._∷_ 79 (List._∷_ 112 (List._∷_ 101 (List._∷_ 110 List.[])))))))))))) (Syntax.tcons (Syntax.tyEnum (List._∷_ 116 (List._∷_ 111 (List._∷_ 116 (List._∷_ 97 (List._∷_ 108 (List._∷_ 115 (List._∷_ 58 (List._∷_ 58 (List._∷_ 87 (List._∷_ 104 (List._∷_ 97 (List._∷_ 116 List.[])))))))))))) (Syntax.ttcons Syntax.tnil (Syntax.ttcons (Syntax.tcons (Syntax.tyEnum (List._∷_ 119 (List._∷_ 105 (List._∷_ 114 (List._∷_ 101 (List._∷_ 58 (List._∷_ 58 (List._∷_ 111 (List._∷_ 112 (List._∷_ 115 (List._∷_ 58 (List._∷_ 58 (List._∷_ 79 (List._∷_ 112 List.[]))))))))))))) (Syntax.ttcons Syntax.tnil (Syntax.ttcons Syntax.tnil (Syntax.ttcons Syntax.tnil (Syntax.ttcons Syntax.tnil (Syntax.ttcons Syntax.tnil (Syntax.ttcons Syntax.tnil (Syntax.ttcons Syntax.tnil (Syntax.ttcons Syntax.tnil (Syntax.ttcons Syntax.tnil (Syntax.ttcons Syntax.tnil (Syntax.ttcons Syntax.tnil (Syntax.ttcons Syntax.tnil (Syntax.ttcons Syntax.tnil (Syntax.ttcons Syntax.tnil (Syntax.ttcons Syntax.tnil (Syntax.ttcons Syntax.tnil (Syntax.ttcons Syntax.tnil (Syntax.ttcons Syntax.tnil (Syntax.ttcons Syntax.tnil (Syntax.ttcons Syntax.tnil (Syntax.ttcons Syntax.tnil (Syntax.ttcons Syntax.tnil (Syntax.ttcons Syntax.tnil (Syntax.ttcons Syntax.tnil (Syntax.ttcons Syntax.tnil (Syntax.ttcons Syntax.tnil (Syntax.ttcons Syntax.tnil (Syntax.ttcons Syntax.tnil (Syntax.ttcons Syntax.tnil (Syntax.ttcons Syntax.tnil (Syntax.ttcons Syntax.tnil (Syntax.ttcons Syntax.tnil (Syntax.ttcons Syntax.tnil (Syntax.ttcons Syntax.tnil (Syntax.ttcons Syntax.tnil (Syntax.ttcons Syntax.tnil (Syntax.ttcons Syntax.tnil Syntax.ttnil)))))))))))))))))))))))))))))))))))))) Syntax.tnil) Syntax.ttnil))) (Syntax.tcons (Syntax.tyInt Syntax.w64) (Syntax.tcons (Syntax.tyInt Syntax.w64) (Syntax.tcons (Syntax.tyInt Syntax.w64) (Syntax.tcons (Syntax.tyInt Syntax.w64) (Syntax.tcons (Syntax.tyInt Syntax.w64) (Syntax.tcons (Syntax.tyInt Syntax.w64) (Syntax.tcons (Syntax.tyInt Syntax.w64) (Syntax.tcons (Syntax.tyInt Syntax.w64) (Syntax.tcons (Syntax.tyInt Syntax.w64) (Syntax.tcons (Syntax.tyInt Syntax.w64) (Syntax.tcons (Syntax.tyInt Syntax.w64) (Syntax.tcons (Syntax.tyInt Syntax.w64) Syntax.tnil)))))))))))))
 
 abbrev τ2 : Syntax.Ty
 τ2 = Syntax.tyEnum (List._∷_ 115 (List._∷_ 99 (List._∷_ 114 (List._∷_ 105 (List._∷_ 112 (List._∷_ 116 (List._∷_ 58 (List._∷_ 58 (List._∷_ 114 (List._∷_ 111 (List._∷_ 108 (List._∷_ 101 (List._∷_ 115 (List._∷_ 58 (List._∷_ 58 (List._∷_ 87 (List._∷_ 104 (List._∷_ 101 (List._∷_ 114 (List._∷_ 101 List.[])))))))))))))))))))) (Syntax.ttcons Syntax.tnil (Syntax.ttcons Syntax.tnil (Syntax.ttcons (Syntax.tcons (Syntax.tyEnum (List._∷_ 115 (List._∷_ 99 (List._∷_ 114 (List._∷_ 105 (List._∷_ 112 (List._∷_ 116 (List._∷_ 58 (List._∷_ 58 (List._∷_ 114 (List._∷_ 111 (List._∷_ 108 (List._∷_ 101 (List._∷_ 115 (List._∷_ 58 (List._∷_ 58 (List._∷_ 84 (List._∷_ 97 (List._∷_ 107 (List._∷_ 101 (List._∷_ 115 List.[])))))))))))))))))))) (Syntax.ttcons Syntax.tnil (Syntax.ttcons Syntax.tnil (Syntax.ttcons Syntax.tnil (Syntax.ttcons Syntax.tnil (Syntax.ttcons Syntax.tnil (Syntax.ttcons Syntax.tnil (Syntax.ttcons Syntax.tnil (Syntax.ttcons Syntax.tnil (Syntax.ttcons Syntax.tnil Syntax.ttnil)))))))))) (Syntax.tcons Syntax.tyBool Syntax.tnil)) (Syntax.ttcons Syntax.tnil Syntax.ttnil))))
@@ -116,7 +116,7 @@ abbrev τ7 : Syntax.Ty
 τ7 = Syntax.tyStruct (List._∷_ 115 (List._∷_ 99 (List._∷_ 114 (List._∷_ 105 (List._∷_ 112 (List._∷_ 116 (List._∷_ 58 (List._∷_ 58 (List._∷_ 114 (List._∷_ 111 (List._∷_ 108 (List._∷_ 101 (List._∷_ 115 (List._∷_ 58 (List._∷_ 58 (List._∷_ 79 (List._∷_ 112 (List._∷_ 101 (List._∷_ 110 (List._∷_ 105 (List._∷_ 110 (List._∷_ 103 List.[])))))))))))))))))))))) (Syntax.tcons (Syntax.tyEnum (List._∷_ 115 (List._∷_ 99 (List._∷_ 114 (List._∷_ 105 (List._∷_ 112 (List._∷_ 116 (List._∷_ 58 (List._∷_ 58 (List._∷_ 114 (List._∷_ 101 (List._∷_ 99 (List._∷_ 111 (List._∷_ 114 (List._∷_ 100 (List._∷_ 115 (List._∷_ 58 (List._∷_ 58 (List._∷_ 83 (List._∷_ 116 (List._∷_ 97 (List._∷_ 109 (List._∷_ 112 List.[])))))))))))))))))))))) (Syntax.ttcons Syntax.tnil (Syntax.ttcons (Syntax.tcons (Syntax.tyStruct (List._∷_ 115 (List._∷_ 99 (List._∷_ 114 (List._∷_ 105 (List._∷_ 112 (List._∷_ 116 (List._∷_ 58 (List._∷_ 58 (List._∷_ 114 (List._∷_ 101 (List._∷_ 99 (List._∷_ 111 (List._∷_ 114 (List._∷_ 100 (List._∷_ 115 (List._∷_ 58 (List._∷_ 58 (List._∷_ 84 (List._∷_ 105 (List._∷_ 109 (List._∷_ 101 List.[]))))))))))))))))))))) (Syntax.tcons Syntax.tyBool (Syntax.tcons (Syntax.tyInt Syntax.w64) (Syntax.tcons (Syntax.tyInt Syntax.w64) Syntax.tnil)))) Syntax.tnil) Syntax.ttnil))) (Syntax.tcons (Syntax.tyEnum (List._∷_ 119 (List._∷_ 105 (List._∷_ 114 (List._∷_ 101 (List._∷_ 58 (List._∷_ 58 (List._∷_ 111 (List._∷_ 112 (List._∷_ 115 (List._∷_ 58 (List._∷_ 58 (List._∷_ 79 (List._∷_ 112 List.[]))))))))))))) (Syntax.ttcons Syntax.tnil (Syntax.ttcons Syntax.tnil (Syntax.ttcons Syntax.tnil (Syntax.ttcons Syntax.tnil (Syntax.ttcons Syntax.tnil (Syntax.ttcons Syntax.tnil (Syntax.ttcons Syntax.tnil (Syntax.ttcons Syntax.tnil (Syntax.ttcons Syntax.tnil (Syntax.ttcons Syntax.tnil (Syntax.ttcons Syntax.tnil (Syntax.ttcons Syntax.tnil (Syntax.ttcons Syntax.tnil (Syntax.ttcons Syntax.tnil (Syntax.ttcons Syntax.tnil (Syntax.ttcons Syntax.tnil (Syntax.ttcons Syntax.tnil (Syntax.ttcons Syntax.tnil (Syntax.ttcons Syntax.tnil (Syntax.ttcons Syntax.tnil (Syntax.ttcons Syntax.tnil (Syntax.ttcons Syntax.tnil (Syntax.ttcons Syntax.tnil (Syntax.ttcons Syntax.tnil (Syntax.ttcons Syntax.tnil (Syntax.ttcons Syntax.tnil (Syntax.ttcons Syntax.tnil (Syntax.ttcons Syntax.tnil (Syntax.ttcons Syntax.tnil (Syntax.ttcons Syntax.tnil (Syntax.ttcons Syntax.tnil (Syntax.ttcons Syntax.tnil (Syntax.ttcons Syntax.tnil (Syntax.ttcons Syntax.tnil (Syntax.ttcons Syntax.tnil (Syntax.ttcons Syntax.tnil (Syntax.ttcons Syntax.tnil Syntax.ttnil)))))))))))))))))))))))))))))))))))))) (Syntax.tcons (Syntax.tyStruct (List._∷_ 116 (List._∷_ 101 (List._∷_ 120 (List._∷_ 116 (List._∷_ 58 (List._∷_ 58 (List._∷_ 112 (List._∷_ 97 (List._∷_ 114 (List._∷_ 116 (List._∷_ 115 (List._∷_ 58 (List._∷_ 58 (List._∷_ 83 (List._∷_ 112 (List._∷_ 97 (List._∷_ 110 List.[]))))))))))))))))) (Syntax.tcons (Syntax.tyInt Syntax.w64) (Syntax.tcons (Syntax.tyInt Syntax.w64) Syntax.tnil))) Syntax.tnil)))
 
 abbrev τ8 : Syntax.Ty
-τ8 = Syntax.tyEnum (List._∷_ 112 (List._∷_ 97 (List._∷_ 114 (List._∷_ 115 (List._∷_ 101 (List._∷_ 58 (List._∷_ 58 (List._∷_ 109 (List._∷_ 101 (List._∷_ 97 (List._∷_ 115 (List._∷_ 117 (List._∷_ 114 (List._∷_ 101 (List._∷_ 58 (List._∷_ 58 (List._∷_ 87 (List._∷_ 104 (List._∷_ 97 (List._∷_ 116 List.[])))))))))))))))))))) (Syntax.ttcons Syntax.tnil (Syntax.ttcons (Syntax.tcons (Syntax.tyEnum (List._∷_ 119 (List._∷_ 105 (List._∷_ 114 (List._∷_ 101 (List._∷_ 58 (List._∷_ 58 (List._∷_ 111 (List._∷_ 112 (List._∷_ 115 (List._∷_ 58 (List._∷_ 58 (List._∷_ 79 (List._∷_ 112 List.[]))))))))))))) (Syntax.ttcons Syntax.tnil (Syntax.ttcons Syntax.tnil (Syntax.ttcons Syntax.tnil (Syntax.ttcons Syntax.tnil (Syntax.ttcons Syntax.tnil (Syntax.ttcons Syntax.tnil (Syntax.ttcons Syntax.tnil (Syntax.ttcons Syntax.tnil (Syntax.ttcons Syntax.tnil (Syntax.ttcons Syntax.tnil (Syntax.ttcons Syntax.tnil (Syntax.ttcons Syntax.tnil (Syntax.ttcons Syntax.tnil (Syntax.ttcons Syntax.tnil (Syntax.ttcons Syntax.tnil (Syntax.ttcons Syntax.tnil (Syntax.ttcons Syntax.tnil (Syntax.ttcons Syntax.tnil (Syntax.ttcons Syntax.tnil (Syntax.ttcons Syntax.tnil (Syntax.ttcons Syntax.tnil (Syntax.ttcons Syntax.tnil (Syntax.ttcons Syntax.tnil (Syntax.ttcons Syntax.tnil (Syntax.ttcons Syntax.tnil (Syntax.ttcons Syntax.tnil (Syntax.ttcons Syntax.tnil (Syntax.ttcons Syntax.tnil (Syntax.ttcons Syntax.tnil (Syntax.ttcons Syntax.tnil (Syntax.ttcons Syntax.tnil (Syntax.ttcons Syntax.tnil (Syntax.ttcons Syntax.tnil (Syntax.ttcons Syntax.tnil (Syntax.ttcons Syntax.tnil (Syntax.ttcons Syntax.tnil (Syntax.ttcons Syntax.tnil Syntax.ttnil)))))))))))))))))))))))))))))))))))))) Syntax.tnil) Syntax.ttnil))
+τ8 = Syntax.tyEnum (List._∷_ 116 (List._∷_ 111 (List._∷_ 116 (List._∷_ 97 (List._∷_ 108 (List._∷_ 115 (List._∷_ 58 (List._∷_ 58 (List._∷_ 87 (List._∷_ 104 (List._∷_ 97 (List._∷_ 116 List.[])))))))))))) (Syntax.ttcons Syntax.tnil (Syntax.ttcons (Syntax.tcons (Syntax.tyEnum (List._∷_ 119 (List._∷_ 105 (List._∷_ 114 (List._∷_ 101 (List._∷_ 58 (List._∷_ 58 (List._∷_ 111 (List._∷_ 112 (List._∷_ 115 (List._∷_ 58 (List._∷_ 58 (List._∷_ 79 (List._∷_ 112 List.[]))))))))))))) (Syntax.ttcons Syntax.tnil (Syntax.ttcons Syntax.tnil (Syntax.ttcons Syntax.tnil (Syntax.ttcons Syntax.tnil (Syntax.ttcons Syntax.tnil (Syntax.ttcons Syntax.tnil (Syntax.ttcons Syntax.tnil (Syntax.ttcons Syntax.tnil (Syntax.ttcons Syntax.tnil (Syntax.ttcons Syntax.tnil (Syntax.ttcons Syntax.tnil (Syntax.ttcons Syntax.tnil (Syntax.ttcons Syntax.tnil (Syntax.ttcons Syntax.tnil (Syntax.ttcons Syntax.tnil (Syntax.ttcons Syntax.tnil (Syntax.ttcons Syntax.tnil (Syntax.ttcons Syntax.tnil (Syntax.ttcons Syntax.tnil (Syntax.ttcons Syntax.tnil (Syntax.ttcons Syntax.tnil (Syntax.ttcons Syntax.tnil (Syntax.ttcons Syntax.tnil (Syntax.ttcons Syntax.tnil (Syntax.ttcons Syntax.tnil (Syntax.ttcons Syntax.tnil (Syntax.ttcons Syntax.tnil (Syntax.ttcons Syntax.tnil (Syntax.ttcons Syntax.tnil (Syntax.ttcons Syntax.tnil (Syntax.ttcons Syntax.tnil (Syntax.ttcons Syntax.tnil (Syntax.ttcons Syntax.tnil (Syntax.ttcons Syntax.tnil (Syntax.ttcons Syntax.tnil (Syntax.ttcons Syntax.tnil (Syntax.ttcons Syntax.tnil Syntax.ttnil)))))))))))))))))))))))))))))))))))))) Syntax.tnil) Syntax.ttnil))
 
 abbrev τ9 : Syntax.Ty
 τ9 = Syntax.tyStruct (List._∷_ 115 (List._∷_ 99 (List._∷_ 114 (List._∷_ 105 (List._∷_ 112 (List._∷_ 116 (List._∷_ 58 (List._∷_ 58 (List._∷_ 114 (List._∷_ 101 (List._∷_ 99 (List._∷_ 111 (List._∷_ 114 (List._∷_ 100 (List._∷_ 115 (List._∷_ 58 (List._∷_ 58 (List._∷_ 82 (List._∷_ 101 (List._∷_ 102 (List._∷_ 117 (List._∷_ 115 (List._∷_ 97 (List._∷_ 108 List.[])))))))))))))))))))))))) (Syntax.tcons (Syntax.tyInt Syntax.w64) (Syntax.tcons (Syntax.tyInt Syntax.w64) Syntax.tnil))
@@ -131,52 +131,52 @@ abbrev kind0-laws : (M : Type 1) (𝓤 : URA.URA M) (H : Wp.Heap 𝓤) (A : Atom
 kind0-laws = λ M 𝓤 H A W. record { copies = Laws'11.copy Measured.the-type Laws.the-copy 𝓤 H A W; lawful = Laws'11.lawful Measured.the-type Laws.the-laws 𝓤 H A W tt; makes = Laws'11.makes Measured.the-type Laws.the-plain 𝓤 H A; in-mem = RLocal.mem-whole 𝓤 H A W (Declared.row Measured.the-type); of-mem = RLocal.whole-mem 𝓤 H A W (Declared.row Measured.the-type) }
 
 abbrev kind1 : KValue.Valued
-kind1 = record { ty = Declared.row What.the-type; one = Path'.refl; val = Laws'11.val What.the-type Laws''.the-laws; tells = Laws'11.tells What.the-type Laws''.the-laws; still = Laws'11.still What.the-type Laws''.the-copy Exit.yes; row = Rows.whole (Declared.row What.the-type); rd = λ x. x; mk = λ x. x }
+kind1 = record { ty = Declared.row What.the-type; one = Path'.refl; val = Laws'11.val What.the-type Laws'10.the-laws; tells = Laws'11.tells What.the-type Laws'10.the-laws; still = Laws'11.still What.the-type Laws'10.the-copy Exit.yes; row = Rows.whole (Declared.row What.the-type); rd = λ x. x; mk = λ x. x }
 
 abbrev kind1-laws : (M : Type 1) (𝓤 : URA.URA M) (H : Wp.Heap 𝓤) (A : Atoms.Atoms 𝓤) → Kit.Given 𝓤 H A → KValue.ValuedLaws 𝓤 H A kind1
-kind1-laws = λ M 𝓤 H A W. record { copies = Laws'11.copy What.the-type Laws''.the-copy 𝓤 H A W; lawful = Laws'11.lawful What.the-type Laws''.the-laws 𝓤 H A W tt; makes = Laws'11.makes What.the-type Laws''.the-plain 𝓤 H A; in-mem = RLocal.mem-whole 𝓤 H A W (Declared.row What.the-type); of-mem = RLocal.whole-mem 𝓤 H A W (Declared.row What.the-type) }
+kind1-laws = λ M 𝓤 H A W. record { copies = Laws'11.copy What.the-type Laws'10.the-copy 𝓤 H A W; lawful = Laws'11.lawful What.the-type Laws'10.the-laws 𝓤 H A W tt; makes = Laws'11.makes What.the-type Laws'10.the-plain 𝓤 H A; in-mem = RLocal.mem-whole 𝓤 H A W (Declared.row What.the-type); of-mem = RLocal.whole-mem 𝓤 H A W (Declared.row What.the-type) }
 
 abbrev kind2 : KValue.Valued
-kind2 = record { ty = Declared'.row Open.the-type; one = Path'.refl; val = Laws'13.val Open.the-type Laws'.the-laws; tells = Laws'13.tells Open.the-type Laws'.the-laws; still = Laws'13.still Open.the-type Laws'.the-copy Exit.yes; row = Rows.whole (Declared'.row Open.the-type); rd = λ x. x; mk = λ x. x }
+kind2 = record { ty = Declared'.row Open.the-type; one = Path'.refl; val = Laws'13.val Open.the-type Laws'9.the-laws; tells = Laws'13.tells Open.the-type Laws'9.the-laws; still = Laws'13.still Open.the-type Laws'9.the-copy Exit.yes; row = Rows.whole (Declared'.row Open.the-type); rd = λ x. x; mk = λ x. x }
 
 abbrev kind2-laws : (M : Type 1) (𝓤 : URA.URA M) (H : Wp.Heap 𝓤) (A : Atoms.Atoms 𝓤) → Kit.Given 𝓤 H A → KValue.ValuedLaws 𝓤 H A kind2
-kind2-laws = λ M 𝓤 H A W. record { copies = Laws'13.copy Open.the-type Laws'.the-copy 𝓤 H A W; lawful = Laws'13.lawful Open.the-type Laws'.the-laws 𝓤 H A W; makes = Laws'13.makes Open.the-type Laws'.the-plain 𝓤 H A; in-mem = RLocal.mem-whole 𝓤 H A W (Declared'.row Open.the-type); of-mem = RLocal.whole-mem 𝓤 H A W (Declared'.row Open.the-type) }
+kind2-laws = λ M 𝓤 H A W. record { copies = Laws'13.copy Open.the-type Laws'9.the-copy 𝓤 H A W; lawful = Laws'13.lawful Open.the-type Laws'9.the-laws 𝓤 H A W; makes = Laws'13.makes Open.the-type Laws'9.the-plain 𝓤 H A; in-mem = RLocal.mem-whole 𝓤 H A W (Declared'.row Open.the-type); of-mem = RLocal.whole-mem 𝓤 H A W (Declared'.row Open.the-type) }
 
 abbrev kind3 : KValue.Valued
-kind3 = record { ty = Declared'.row Line.the-type; one = Path'.refl; val = Laws'13.val Line.the-type Laws'10.the-laws; tells = Laws'13.tells Line.the-type Laws'10.the-laws; still = Laws'13.still Line.the-type Laws'10.the-copy Exit.yes; row = Rows.whole (Declared'.row Line.the-type); rd = λ x. x; mk = λ x. x }
+kind3 = record { ty = Declared'.row Line.the-type; one = Path'.refl; val = Laws'13.val Line.the-type Laws'8.the-laws; tells = Laws'13.tells Line.the-type Laws'8.the-laws; still = Laws'13.still Line.the-type Laws'8.the-copy Exit.yes; row = Rows.whole (Declared'.row Line.the-type); rd = λ x. x; mk = λ x. x }
 
 abbrev kind3-laws : (M : Type 1) (𝓤 : URA.URA M) (H : Wp.Heap 𝓤) (A : Atoms.Atoms 𝓤) → Kit.Given 𝓤 H A → KValue.ValuedLaws 𝓤 H A kind3
-kind3-laws = λ M 𝓤 H A W. record { copies = Laws'13.copy Line.the-type Laws'10.the-copy 𝓤 H A W; lawful = Laws'13.lawful Line.the-type Laws'10.the-laws 𝓤 H A W; makes = Laws'13.makes Line.the-type Laws'10.the-plain 𝓤 H A; in-mem = RLocal.mem-whole 𝓤 H A W (Declared'.row Line.the-type); of-mem = RLocal.whole-mem 𝓤 H A W (Declared'.row Line.the-type) }
+kind3-laws = λ M 𝓤 H A W. record { copies = Laws'13.copy Line.the-type Laws'8.the-copy 𝓤 H A W; lawful = Laws'13.lawful Line.the-type Laws'8.the-laws 𝓤 H A W; makes = Laws'13.makes Line.the-type Laws'8.the-plain 𝓤 H A; in-mem = RLocal.mem-whole 𝓤 H A W (Declared'.row Line.the-type); of-mem = RLocal.whole-mem 𝓤 H A W (Declared'.row Line.the-type) }
 
 abbrev kind4 : KValue.Valued
-kind4 = record { ty = Declared.row Where.the-type; one = Path'.refl; val = Laws'11.val Where.the-type Laws'9.the-laws; tells = Laws'11.tells Where.the-type Laws'9.the-laws; still = Laws'11.still Where.the-type Laws'9.the-copy Exit.yes; row = Rows.whole (Declared.row Where.the-type); rd = λ x. x; mk = λ x. x }
+kind4 = record { ty = Declared.row Where.the-type; one = Path'.refl; val = Laws'11.val Where.the-type Laws'7.the-laws; tells = Laws'11.tells Where.the-type Laws'7.the-laws; still = Laws'11.still Where.the-type Laws'7.the-copy Exit.yes; row = Rows.whole (Declared.row Where.the-type); rd = λ x. x; mk = λ x. x }
 
 abbrev kind4-laws : (M : Type 1) (𝓤 : URA.URA M) (H : Wp.Heap 𝓤) (A : Atoms.Atoms 𝓤) → Kit.Given 𝓤 H A → KValue.ValuedLaws 𝓤 H A kind4
-kind4-laws = λ M 𝓤 H A W. record { copies = Laws'11.copy Where.the-type Laws'9.the-copy 𝓤 H A W; lawful = Laws'11.lawful Where.the-type Laws'9.the-laws 𝓤 H A W tt; makes = Laws'11.makes Where.the-type Laws'9.the-plain 𝓤 H A; in-mem = RLocal.mem-whole 𝓤 H A W (Declared.row Where.the-type); of-mem = RLocal.whole-mem 𝓤 H A W (Declared.row Where.the-type) }
+kind4-laws = λ M 𝓤 H A W. record { copies = Laws'11.copy Where.the-type Laws'7.the-copy 𝓤 H A W; lawful = Laws'11.lawful Where.the-type Laws'7.the-laws 𝓤 H A W tt; makes = Laws'11.makes Where.the-type Laws'7.the-plain 𝓤 H A; in-mem = RLocal.mem-whole 𝓤 H A W (Declared.row Where.the-type); of-mem = RLocal.whole-mem 𝓤 H A W (Declared.row Where.the-type) }
 
 abbrev kind5 : KValue.Valued
-kind5 = record { ty = Declared'.row Step.the-type; one = Path'.refl; val = Laws'13.val Step.the-type Laws'8.the-laws; tells = Laws'13.tells Step.the-type Laws'8.the-laws; still = Laws'13.still Step.the-type Laws'8.the-copy Exit.yes; row = Rows.whole (Declared'.row Step.the-type); rd = λ x. x; mk = λ x. x }
+kind5 = record { ty = Declared'.row Step.the-type; one = Path'.refl; val = Laws'13.val Step.the-type Laws'6.the-laws; tells = Laws'13.tells Step.the-type Laws'6.the-laws; still = Laws'13.still Step.the-type Laws'6.the-copy Exit.yes; row = Rows.whole (Declared'.row Step.the-type); rd = λ x. x; mk = λ x. x }
 
 abbrev kind5-laws : (M : Type 1) (𝓤 : URA.URA M) (H : Wp.Heap 𝓤) (A : Atoms.Atoms 𝓤) → Kit.Given 𝓤 H A → KValue.ValuedLaws 𝓤 H A kind5
-kind5-laws = λ M 𝓤 H A W. record { copies = Laws'13.copy Step.the-type Laws'8.the-copy 𝓤 H A W; lawful = Laws'13.lawful Step.the-type Laws'8.the-laws 𝓤 H A W; makes = Laws'13.makes Step.the-type Laws'8.the-plain 𝓤 H A; in-mem = RLocal.mem-whole 𝓤 H A W (Declared'.row Step.the-type); of-mem = RLocal.whole-mem 𝓤 H A W (Declared'.row Step.the-type) }
+kind5-laws = λ M 𝓤 H A W. record { copies = Laws'13.copy Step.the-type Laws'6.the-copy 𝓤 H A W; lawful = Laws'13.lawful Step.the-type Laws'6.the-laws 𝓤 H A W; makes = Laws'13.makes Step.the-type Laws'6.the-plain 𝓤 H A; in-mem = RLocal.mem-whole 𝓤 H A W (Declared'.row Step.the-type); of-mem = RLocal.whole-mem 𝓤 H A W (Declared'.row Step.the-type) }
 
 abbrev kind6 : KValue.Valued
-kind6 = record { ty = Declared.row Saying.the-type; one = Path'.refl; val = Laws'11.val Saying.the-type Laws'7.the-laws; tells = Laws'11.tells Saying.the-type Laws'7.the-laws; still = Laws'11.still Saying.the-type Laws'7.the-copy Exit.yes; row = Rows.whole (Declared.row Saying.the-type); rd = λ x. x; mk = λ x. x }
+kind6 = record { ty = Declared.row Saying.the-type; one = Path'.refl; val = Laws'11.val Saying.the-type Laws'5.the-laws; tells = Laws'11.tells Saying.the-type Laws'5.the-laws; still = Laws'11.still Saying.the-type Laws'5.the-copy Exit.yes; row = Rows.whole (Declared.row Saying.the-type); rd = λ x. x; mk = λ x. x }
 
 abbrev kind6-laws : (M : Type 1) (𝓤 : URA.URA M) (H : Wp.Heap 𝓤) (A : Atoms.Atoms 𝓤) → Kit.Given 𝓤 H A → KValue.ValuedLaws 𝓤 H A kind6
-kind6-laws = λ M 𝓤 H A W. record { copies = Laws'11.copy Saying.the-type Laws'7.the-copy 𝓤 H A W; lawful = Laws'11.lawful Saying.the-type Laws'7.the-laws 𝓤 H A W tt; makes = Laws'11.makes Saying.the-type Laws'7.the-plain 𝓤 H A; in-mem = RLocal.mem-whole 𝓤 H A W (Declared.row Saying.the-type); of-mem = RLocal.whole-mem 𝓤 H A W (Declared.row Saying.the-type) }
+kind6-laws = λ M 𝓤 H A W. record { copies = Laws'11.copy Saying.the-type Laws'5.the-copy 𝓤 H A W; lawful = Laws'11.lawful Saying.the-type Laws'5.the-laws 𝓤 H A W tt; makes = Laws'11.makes Saying.the-type Laws'5.the-plain 𝓤 H A; in-mem = RLocal.mem-whole 𝓤 H A W (Declared.row Saying.the-type); of-mem = RLocal.whole-mem 𝓤 H A W (Declared.row Saying.the-type) }
 
 abbrev kind7 : KValue.Valued
-kind7 = record { ty = Declared'.row Counts.the-type; one = Path'.refl; val = Laws'13.val Counts.the-type Laws'3.the-laws; tells = Laws'13.tells Counts.the-type Laws'3.the-laws; still = Laws'13.still Counts.the-type Laws'3.the-copy Exit.yes; row = Rows.whole (Declared'.row Counts.the-type); rd = λ x. x; mk = λ x. x }
+kind7 = record { ty = Declared'.row Counts.the-type; one = Path'.refl; val = Laws'13.val Counts.the-type Laws'.the-laws; tells = Laws'13.tells Counts.the-type Laws'.the-laws; still = Laws'13.still Counts.the-type Laws'.the-copy Exit.yes; row = Rows.whole (Declared'.row Counts.the-type); rd = λ x. x; mk = λ x. x }
 
 abbrev kind7-laws : (M : Type 1) (𝓤 : URA.URA M) (H : Wp.Heap 𝓤) (A : Atoms.Atoms 𝓤) → Kit.Given 𝓤 H A → KValue.ValuedLaws 𝓤 H A kind7
-kind7-laws = λ M 𝓤 H A W. record { copies = Laws'13.copy Counts.the-type Laws'3.the-copy 𝓤 H A W; lawful = Laws'13.lawful Counts.the-type Laws'3.the-laws 𝓤 H A W; makes = Laws'13.makes Counts.the-type Laws'3.the-plain 𝓤 H A; in-mem = RLocal.mem-whole 𝓤 H A W (Declared'.row Counts.the-type); of-mem = RLocal.whole-mem 𝓤 H A W (Declared'.row Counts.the-type) }
+kind7-laws = λ M 𝓤 H A W. record { copies = Laws'13.copy Counts.the-type Laws'.the-copy 𝓤 H A W; lawful = Laws'13.lawful Counts.the-type Laws'.the-laws 𝓤 H A W; makes = Laws'13.makes Counts.the-type Laws'.the-plain 𝓤 H A; in-mem = RLocal.mem-whole 𝓤 H A W (Declared'.row Counts.the-type); of-mem = RLocal.whole-mem 𝓤 H A W (Declared'.row Counts.the-type) }
 
 abbrev kind8 : KValue.Valued
-kind8 = record { ty = Declared'.row Opening.the-type; one = Path'.refl; val = Laws'13.val Opening.the-type Laws'5.the-laws; tells = Laws'13.tells Opening.the-type Laws'5.the-laws; still = Laws'13.still Opening.the-type Laws'5.the-copy Exit.yes; row = Rows.whole (Declared'.row Opening.the-type); rd = λ x. x; mk = λ x. x }
+kind8 = record { ty = Declared'.row Opening.the-type; one = Path'.refl; val = Laws'13.val Opening.the-type Laws'3.the-laws; tells = Laws'13.tells Opening.the-type Laws'3.the-laws; still = Laws'13.still Opening.the-type Laws'3.the-copy Exit.yes; row = Rows.whole (Declared'.row Opening.the-type); rd = λ x. x; mk = λ x. x }
 
 abbrev kind8-laws : (M : Type 1) (𝓤 : URA.URA M) (H : Wp.Heap 𝓤) (A : Atoms.Atoms 𝓤) → Kit.Given 𝓤 H A → KValue.ValuedLaws 𝓤 H A kind8
-kind8-laws = λ M 𝓤 H A W. record { copies = Laws'13.copy Opening.the-type Laws'5.the-copy 𝓤 H A W; lawful = Laws'13.lawful Opening.the-type Laws'5.the-laws 𝓤 H A W; makes = Laws'13.makes Opening.the-type Laws'5.the-plain 𝓤 H A; in-mem = RLocal.mem-whole 𝓤 H A W (Declared'.row Opening.the-type); of-mem = RLocal.whole-mem 𝓤 H A W (Declared'.row Opening.the-type) }
+kind8-laws = λ M 𝓤 H A W. record { copies = Laws'13.copy Opening.the-type Laws'3.the-copy 𝓤 H A W; lawful = Laws'13.lawful Opening.the-type Laws'3.the-laws 𝓤 H A W; makes = Laws'13.makes Opening.the-type Laws'3.the-plain 𝓤 H A; in-mem = RLocal.mem-whole 𝓤 H A W (Declared'.row Opening.the-type); of-mem = RLocal.whole-mem 𝓤 H A W (Declared'.row Opening.the-type) }
 
 abbrev pub ps : List.List (Kinds.PK 2)
 ps = List._∷_ (ShrSlice.pShrS (TReferent.rtF (TReferent.fInt Syntax.w8)) 0 tt) (List._∷_ (MutSlice.pMutS KeptElem.R 1 tt) List.[])
@@ -254,7 +254,7 @@ abbrev b1 : Syntax.Body
 b1 = Syntax.assign (Syntax.place 15 List.[]) (Syntax.aggregate (List._∷_ (Syntax.int Syntax.w8 0) List.[]))
 
 abbrev b2 : Syntax.Body
-b2 = Syntax.call "parse::measure::begin" (List._∷_ (Syntax.copy (Syntax.place 15 List.[])) (List._∷_ (Syntax.int Syntax.w64 0) List.[])) (Syntax.place 4 List.[])
+b2 = Syntax.call "totals::begin" (List._∷_ (Syntax.copy (Syntax.place 15 List.[])) (List._∷_ (Syntax.int Syntax.w64 0) List.[])) (Syntax.place 4 List.[])
 
 abbrev b3 : Syntax.Body
 b3 = Syntax.assign (Syntax.place 5 List.[]) (Syntax.aggregate (List._∷_ (Syntax.int Syntax.w8 0) List.[]))
@@ -308,7 +308,7 @@ abbrev b19 : Syntax.Body
 b19 = Syntax.assign (Syntax.place 12 List.[]) (Syntax.rvOpd (Syntax.copy (Syntax.place 10 (List._∷_ (Syntax.variant 1) (List._∷_ (Syntax.field 1) List.[])))))
 
 abbrev b20 : Syntax.Body
-b20 = Syntax.call "parse::measure::say_on" (List._∷_ (Syntax.copy (Syntax.place 1 List.[])) (List._∷_ (Syntax.copy (Syntax.place 4 List.[])) (List._∷_ (Syntax.copy (Syntax.place 12 List.[])) List.[]))) (Syntax.place 4 List.[])
+b20 = Syntax.call "totals::say_on" (List._∷_ (Syntax.copy (Syntax.place 1 List.[])) (List._∷_ (Syntax.copy (Syntax.place 4 List.[])) (List._∷_ (Syntax.copy (Syntax.place 12 List.[])) List.[]))) (Syntax.place 4 List.[])
 
 abbrev b21 : Syntax.Body
 b21 = Syntax.seq b19 b20
@@ -320,10 +320,10 @@ abbrev b23 : Syntax.Body
 b23 = Syntax.assign (Syntax.place 13 List.[]) (Syntax.rvOpd (Syntax.copy (Syntax.place 10 (List._∷_ (Syntax.variant 3) (List._∷_ (Syntax.field 1) List.[])))))
 
 abbrev b24 : Syntax.Body
-b24 = Syntax.call "parse::measure::enter" (List._∷_ (Syntax.copy (Syntax.place 3 List.[])) (List._∷_ (Syntax.copy (Syntax.place 4 List.[])) List.[])) (Syntax.place 3 List.[])
+b24 = Syntax.call "totals::enter" (List._∷_ (Syntax.copy (Syntax.place 3 List.[])) (List._∷_ (Syntax.copy (Syntax.place 4 List.[])) List.[])) (Syntax.place 3 List.[])
 
 abbrev b25 : Syntax.Body
-b25 = Syntax.call "parse::measure::open_entry" (List._∷_ (Syntax.copy (Syntax.place 1 List.[])) (List._∷_ (Syntax.copy (Syntax.place 13 List.[])) List.[])) (Syntax.place 4 List.[])
+b25 = Syntax.call "totals::open_entry" (List._∷_ (Syntax.copy (Syntax.place 1 List.[])) (List._∷_ (Syntax.copy (Syntax.place 13 List.[])) List.[])) (Syntax.place 4 List.[])
 
 abbrev b26 : Syntax.Body
 b26 = Syntax.seq b24 b25
@@ -410,7 +410,7 @@ abbrev b53 : Syntax.Body
 b53 = Syntax.block b52
 
 abbrev b54 : Syntax.Body
-b54 = Syntax.call "parse::measure::close_on" (List._∷_ (Syntax.copy (Syntax.place 3 List.[])) (List._∷_ (Syntax.copy (Syntax.place 4 List.[])) List.[])) (Syntax.place 22 List.[])
+b54 = Syntax.call "totals::close_on" (List._∷_ (Syntax.copy (Syntax.place 3 List.[])) (List._∷_ (Syntax.copy (Syntax.place 4 List.[])) List.[])) (Syntax.place 22 List.[])
 
 abbrev b55 : Syntax.Body
 b55 = Syntax.assign (Syntax.place 0 List.[]) (Syntax.aggregate (List._∷_ (Syntax.int Syntax.w8 1) (List._∷_ (Syntax.copy (Syntax.place 22 List.[])) List.[])))
@@ -993,7 +993,7 @@ module _ (claims· : Claims) where
   s32 = Known.k-enum-known Role.enum 1 T32 10 λ x. x
 
   abbrev s33 : Typed.Gives T37 T38
-  s33 = Known.k-known-told Role.enum Laws'6.the-laws 1 T37 10 λ x. x
+  s33 = Known.k-known-told Role.enum Laws'4.the-laws 1 T37 10 λ x. x
 
   abbrev s34 : Typed.Mo T38 → Typed.Mo T39
   s34 = RScalar.n-room T38 6 (Syntax.tyInt Syntax.w64)
@@ -1023,10 +1023,10 @@ module _ (claims· : Claims) where
   s42 = AtSlots.n-as-by T46 3 (Rows.whole (Declared'.row (Apart.apartT Counts.the-type))) (Counts.struct .as-values)
 
   abbrev s43 : Typed.Gives T47 T48
-  s43 = Know'.k-struct-known (Apart.apartT Counts.the-type) Laws'3.the-laws T47 3 λ x. x
+  s43 = Know'.k-struct-known (Apart.apartT Counts.the-type) Laws'.the-laws T47 3 λ x. x
 
   abbrev s44 : Typed.Asks T48 T49
-  s44 = Rules.k-field-op2 Counts.the-type (TReferent.fInt Syntax.w64) (λ v y. At.putAt (Counts.the-type .parts) 2 y v) T48 3 (Syntax.add Syntax.unsigned) (RScalar.oFld 3 (List._∷_ (Syntax.field 2) List.[]) (Syntax.tyInt Syntax.w64) 16 (Reads.fieldV (Apart.apartT Counts.the-type) Laws'3.the-laws 2)) (RScalar.oInt Syntax.w64 1) λ x. x
+  s44 = Rules.k-field-op2 Counts.the-type (TReferent.fInt Syntax.w64) (λ v y. At.putAt (Counts.the-type .parts) 2 y v) T48 3 (Syntax.add Syntax.unsigned) (RScalar.oFld 3 (List._∷_ (Syntax.field 2) List.[]) (Syntax.tyInt Syntax.w64) 16 (Reads.fieldV (Apart.apartT Counts.the-type) Laws'.the-laws 2)) (RScalar.oInt Syntax.w64 1) λ x. x
 
   abbrev s45 : Typed.Mo T49 → Typed.Mo T50
   s45 = AtSlots.n-as-by T49 3 (Rows.whole (Declared'.row Counts.the-type)) λ v. Counts.struct .make v tt
@@ -1035,7 +1035,7 @@ module _ (claims· : Claims) where
   s46 = Known.k-enum-known Role.enum 3 T32 10 λ x. x
 
   abbrev s47 : Typed.Gives T51 T52
-  s47 = Known.k-known-told Role.enum Laws'6.the-laws 3 T51 10 λ x. x
+  s47 = Known.k-known-told Role.enum Laws'4.the-laws 3 T51 10 λ x. x
 
   abbrev s48 : Typed.Mo T52 → Typed.Mo T53
   s48 = RScalar.n-room T52 6 (Syntax.tyInt Syntax.w64)
@@ -1062,7 +1062,7 @@ module _ (claims· : Claims) where
   s55 = Known.k-enum-known Role.enum 4 T32 10 λ x. x
 
   abbrev s56 : Typed.Gives T60 T61
-  s56 = Known.k-known-told Role.enum Laws'6.the-laws 4 T60 10 λ x. x
+  s56 = Known.k-known-told Role.enum Laws'4.the-laws 4 T60 10 λ x. x
 
   abbrev s57 : Typed.Mo T61 → Typed.Mo T62
   s57 = RScalar.n-room T61 3 τ0
@@ -1077,7 +1077,7 @@ module _ (claims· : Claims) where
   s60 = RScalar.n-room T64 11 τ2
 
   abbrev s61 : Typed.Mo T65 → Typed.Mo T66
-  s61 = RScalar.n-use T65 (RScalar.oFld 10 (List._∷_ (Syntax.variant 4) (List._∷_ (Syntax.field 1) List.[])) (Syntax.tyInt Syntax.w64) 8 λ v. Laws'6.the-laws .1 .1 .1 .1 .0 .0 .val (v .0)) 14 (Rows.sc-here (Row.sInt Syntax.w64)) (Row.sInt Syntax.w64 .of)
+  s61 = RScalar.n-use T65 (RScalar.oFld 10 (List._∷_ (Syntax.variant 4) (List._∷_ (Syntax.field 1) List.[])) (Syntax.tyInt Syntax.w64) 8 λ v. Laws'4.the-laws .1 .1 .1 .1 .0 .0 .val (v .0)) 14 (Rows.sc-here (Row.sInt Syntax.w64)) (Row.sInt Syntax.w64 .of)
 
   abbrev s62 : Typed.Mo T66 → Typed.Mo T67
   s62 = RScalar.n-room T66 10 τ5
@@ -1110,7 +1110,7 @@ module _ (claims· : Claims) where
   s71 = RScalar.n-room T75 11 τ2
 
   abbrev s72 : Typed.Mo T76 → Typed.Mo T77
-  s72 = RScalar.n-use T76 (RScalar.oFld 8 (List._∷_ (Syntax.field 3) List.[]) (Syntax.tyInt Syntax.w64) 24 (Reads.fieldV Line.the-type Laws'10.the-laws 3)) 6 (Rows.sc-here (Row.sInt Syntax.w64)) (Row.sInt Syntax.w64 .of)
+  s72 = RScalar.n-use T76 (RScalar.oFld 8 (List._∷_ (Syntax.field 3) List.[]) (Syntax.tyInt Syntax.w64) 24 (Reads.fieldV Line.the-type Laws'8.the-laws 3)) 6 (Rows.sc-here (Row.sInt Syntax.w64)) (Row.sInt Syntax.w64 .of)
 
   abbrev s73 : Typed.Mo T77 → Typed.Mo T78
   s73 = RScalar.n-room T77 8 τ3
@@ -1145,7 +1145,7 @@ module _ (claims· : Claims) where
   module _ (Pre· : (κs : Lifetimes.Lfts 2) → Kinds.Dens κs ps → Type 0) (Post· : (κs : Lifetimes.Lfts 2) → (a : Kinds.Dens κs ps) → Kinds.Plain 2 ps r κs) where
     module _ (M : Type 1) where
       abbrev pub Closed : Type 2
-      Closed = (𝓤 : URA.URA M) (H : Wp.Heap 𝓤) (A : Atoms.Atoms 𝓤) (W : Kit.Given 𝓤 H A) (𝓣 : Wp.Tables 𝓤 H) (known0 : Plain.Known 𝓤 H A W 𝓣 0 ps·0 r·0 (claims· .0) (claims· .1) "parse::measure::begin") (known1 : Plain.Known 𝓤 H A W 𝓣 1 ps·1 r·1 (claims· .2) (claims· .3) "text::lines::line_at") (known2 : Plain.Known 𝓤 H A W 𝓣 1 ps·2 r·2 (claims· .4) (claims· .5) "roles::steps::step") (known3 : Plain.Known 𝓤 H A W 𝓣 1 ps·3 r·3 (claims· .6) (claims· .7) "kept::keep") (known4 : Plain.Known 𝓤 H A W 𝓣 1 ps·4 r·4 (claims· .8) (claims· .9) "parse::measure::say_on") (known5 : Plain.Known 𝓤 H A W 𝓣 0 ps·5 r·5 (claims· .10) (claims· .11) "parse::measure::enter") (known6 : Plain.Known 𝓤 H A W 𝓣 1 ps·6 r·6 (claims· .12) (claims· .13) "parse::measure::open_entry") (known7 : Plain.Known 𝓤 H A W 𝓣 0 ps·7 r·7 (claims· .14) (claims· .15) "roles::steps::same_place") (known8 : Plain.Known 𝓤 H A W 𝓣 0 ps·8 r·8 (claims· .16) (claims· .17) "parse::measure::close_on") → Statement.Triple 𝓤 (Wp.WpFn 𝓤 H (𝓣 .C) (𝓣 .Λ) (Function.fnOf 2 ps r xs m hs body)) (Function.plainOf 𝓤 H A 2 ps r Pre· Post·)
+      Closed = (𝓤 : URA.URA M) (H : Wp.Heap 𝓤) (A : Atoms.Atoms 𝓤) (W : Kit.Given 𝓤 H A) (𝓣 : Wp.Tables 𝓤 H) (known0 : Plain.Known 𝓤 H A W 𝓣 0 ps·0 r·0 (claims· .0) (claims· .1) "totals::begin") (known1 : Plain.Known 𝓤 H A W 𝓣 1 ps·1 r·1 (claims· .2) (claims· .3) "text::lines::line_at") (known2 : Plain.Known 𝓤 H A W 𝓣 1 ps·2 r·2 (claims· .4) (claims· .5) "roles::steps::step") (known3 : Plain.Known 𝓤 H A W 𝓣 1 ps·3 r·3 (claims· .6) (claims· .7) "kept::keep") (known4 : Plain.Known 𝓤 H A W 𝓣 1 ps·4 r·4 (claims· .8) (claims· .9) "totals::say_on") (known5 : Plain.Known 𝓤 H A W 𝓣 0 ps·5 r·5 (claims· .10) (claims· .11) "totals::enter") (known6 : Plain.Known 𝓤 H A W 𝓣 1 ps·6 r·6 (claims· .12) (claims· .13) "totals::open_entry") (known7 : Plain.Known 𝓤 H A W 𝓣 0 ps·7 r·7 (claims· .14) (claims· .15) "roles::steps::same_place") (known8 : Plain.Known 𝓤 H A W 𝓣 0 ps·8 r·8 (claims· .16) (claims· .17) "totals::close_on") → Statement.Triple 𝓤 (Wp.WpFn 𝓤 H (𝓣 .C) (𝓣 .Λ) (Function.fnOf 2 ps r xs m hs body)) (Function.plainOf 𝓤 H A 2 ps r Pre· Post·)
 
     module _ (Inv·0 : InvT-loop) (μ·0 : MeasureT-loop) where
       abbrev at0 : Typed.TF T16 O4
@@ -1426,7 +1426,7 @@ module _ (claims· : Claims) where
 
       module _ {M : Type 1} (𝓤 : URA.URA M) (H : Wp.Heap 𝓤) (A : Atoms.Atoms 𝓤) (W : Kit.Given 𝓤 H A) (𝓣 : Wp.Tables 𝓤 H) where
         abbrev Knowns : Type 1
-        Knowns = Plain.Known 𝓤 H A W 𝓣 0 ps·0 r·0 (claims· .0) (claims· .1) "parse::measure::begin" × Plain.Known 𝓤 H A W 𝓣 1 ps·1 r·1 (claims· .2) (claims· .3) "text::lines::line_at" × Plain.Known 𝓤 H A W 𝓣 1 ps·2 r·2 (claims· .4) (claims· .5) "roles::steps::step" × Plain.Known 𝓤 H A W 𝓣 1 ps·3 r·3 (claims· .6) (claims· .7) "kept::keep" × Plain.Known 𝓤 H A W 𝓣 1 ps·4 r·4 (claims· .8) (claims· .9) "parse::measure::say_on" × Plain.Known 𝓤 H A W 𝓣 0 ps·5 r·5 (claims· .10) (claims· .11) "parse::measure::enter" × Plain.Known 𝓤 H A W 𝓣 1 ps·6 r·6 (claims· .12) (claims· .13) "parse::measure::open_entry" × Plain.Known 𝓤 H A W 𝓣 0 ps·7 r·7 (claims· .14) (claims· .15) "roles::steps::same_place" × Plain.Known 𝓤 H A W 𝓣 0 ps·8 r·8 (claims· .16) (claims· .17) "parse::measure::close_on"
+        Knowns = Plain.Known 𝓤 H A W 𝓣 0 ps·0 r·0 (claims· .0) (claims· .1) "totals::begin" × Plain.Known 𝓤 H A W 𝓣 1 ps·1 r·1 (claims· .2) (claims· .3) "text::lines::line_at" × Plain.Known 𝓤 H A W 𝓣 1 ps·2 r·2 (claims· .4) (claims· .5) "roles::steps::step" × Plain.Known 𝓤 H A W 𝓣 1 ps·3 r·3 (claims· .6) (claims· .7) "kept::keep" × Plain.Known 𝓤 H A W 𝓣 1 ps·4 r·4 (claims· .8) (claims· .9) "totals::say_on" × Plain.Known 𝓤 H A W 𝓣 0 ps·5 r·5 (claims· .10) (claims· .11) "totals::enter" × Plain.Known 𝓤 H A W 𝓣 1 ps·6 r·6 (claims· .12) (claims· .13) "totals::open_entry" × Plain.Known 𝓤 H A W 𝓣 0 ps·7 r·7 (claims· .14) (claims· .15) "roles::steps::same_place" × Plain.Known 𝓤 H A W 𝓣 0 ps·8 r·8 (claims· .16) (claims· .17) "totals::close_on"
 
       module _ (κs : Lifetimes.Lfts 2) (qs : Lifetimes.Shares 2) where
         abbrev g19 : List.List Row.Entry
@@ -1755,28 +1755,28 @@ module _ (claims· : Claims) where
           d10 = Typed.g-pre 𝓤 H A W 𝓣 E G33 G34 b18 Δ5 (Typed.both s29) at9 (Known.g-enum-told 𝓤 H A W E Role.enum 0 G33 10 λ x. x) d9
 
           d11 : Typed.Typed 𝓤 H A 𝓣 E G41 b20 Δ5 at11
-          d11 = Typed.s-typed 𝓤 H A W 𝓣 E G41 b20 Δ5 (λ Ψ. Typed.both s37 (Typed.pass T42 T43 s38 Ψ)) tt (Typed.g-post 𝓤 H A W 𝓣 E G41 G42 G43 b20 (Typed.both s37) (Typed.pass T42 T43 s38) (Plain.t-call-plain 𝓤 H A W 𝓣 1 ps·4 r·4 (claims· .8) (claims· .9) "parse::measure::say_on" (known .4) E (λ pos β. β) G41 (record { pos = 1; ty = Syntax.tyRef (Syntax.named 0) Syntax.imm (Syntax.tyInt Syntax.w8); ref = λ x. x }, (record { pos = 4; st = List.[]; d = 0; at = λ x. x }, (record { pos = 12; st = List.[]; d = 0; at = λ x. x }, tt))) 4 (List._∷_ 0 List.[]) (Call.sub-id 𝓤 H A W (G41 .slots)) (ShrSlice.spares-sslice 𝓤 H A W (TReferent.rtF (TReferent.fInt Syntax.w8)) (Syntax.tyRef (Syntax.named 0) Syntax.imm (Syntax.tyInt Syntax.w8)) 0, SShared.reads-sslice 𝓤 H A W (TReferent.rtF (TReferent.fInt Syntax.w8)) (Syntax.tyRef (Syntax.named 0) Syntax.imm (Syntax.tyInt Syntax.w8)) 0, Path'.refl, ((Yields.yields-copy 𝓤 H A W (λ ρ. Unit) (Declared'.row Open.the-type) Path'.refl (TCopies.cStruct Open.the-type Laws'.the-laws Laws'.the-copy .copy 𝓤 H A W) (Rows.whole (Declared'.row Open.the-type)) (λ x. x) (λ x. x) (λ ρ told. RLocal.mem-whole 𝓤 H A W (Declared'.row Open.the-type) ρ) λ ρ told. RLocal.whole-mem 𝓤 H A W (Declared'.row Open.the-type) ρ, Path'.refl), ((Yields.yields-copy 𝓤 H A W (λ ρ. Unit) (Declared.row Saying.the-type) Path'.refl (TCopies.cEnum Saying.the-type Laws'7.the-laws Laws'7.the-copy .copy 𝓤 H A W) (Rows.whole (Declared.row Saying.the-type)) (λ x. x) (λ x. x) (λ ρ told. RLocal.mem-whole 𝓤 H A W (Declared.row Saying.the-type) ρ) λ ρ told. RLocal.whole-mem 𝓤 H A W (Declared.row Saying.the-type) ρ, Path'.refl), tt))) (RLocal.room-whole 𝓤 H A W (Declared'.row Open.the-type) τ1 Path'.refl) (tt, tt) Path'.refl) (RScalar.g-room 𝓤 H A W E G42 12 τ6 (RLocal.room-whole 𝓤 H A W (Declared.row Saying.the-type) τ6 Path'.refl)))
+          d11 = Typed.s-typed 𝓤 H A W 𝓣 E G41 b20 Δ5 (λ Ψ. Typed.both s37 (Typed.pass T42 T43 s38 Ψ)) tt (Typed.g-post 𝓤 H A W 𝓣 E G41 G42 G43 b20 (Typed.both s37) (Typed.pass T42 T43 s38) (Plain.t-call-plain 𝓤 H A W 𝓣 1 ps·4 r·4 (claims· .8) (claims· .9) "totals::say_on" (known .4) E (λ pos β. β) G41 (record { pos = 1; ty = Syntax.tyRef (Syntax.named 0) Syntax.imm (Syntax.tyInt Syntax.w8); ref = λ x. x }, (record { pos = 4; st = List.[]; d = 0; at = λ x. x }, (record { pos = 12; st = List.[]; d = 0; at = λ x. x }, tt))) 4 (List._∷_ 0 List.[]) (Call.sub-id 𝓤 H A W (G41 .slots)) (ShrSlice.spares-sslice 𝓤 H A W (TReferent.rtF (TReferent.fInt Syntax.w8)) (Syntax.tyRef (Syntax.named 0) Syntax.imm (Syntax.tyInt Syntax.w8)) 0, SShared.reads-sslice 𝓤 H A W (TReferent.rtF (TReferent.fInt Syntax.w8)) (Syntax.tyRef (Syntax.named 0) Syntax.imm (Syntax.tyInt Syntax.w8)) 0, Path'.refl, ((Yields.yields-copy 𝓤 H A W (λ ρ. Unit) (Declared'.row Open.the-type) Path'.refl (TCopies.cStruct Open.the-type Laws'9.the-laws Laws'9.the-copy .copy 𝓤 H A W) (Rows.whole (Declared'.row Open.the-type)) (λ x. x) (λ x. x) (λ ρ told. RLocal.mem-whole 𝓤 H A W (Declared'.row Open.the-type) ρ) λ ρ told. RLocal.whole-mem 𝓤 H A W (Declared'.row Open.the-type) ρ, Path'.refl), ((Yields.yields-copy 𝓤 H A W (λ ρ. Unit) (Declared.row Saying.the-type) Path'.refl (TCopies.cEnum Saying.the-type Laws'5.the-laws Laws'5.the-copy .copy 𝓤 H A W) (Rows.whole (Declared.row Saying.the-type)) (λ x. x) (λ x. x) (λ ρ told. RLocal.mem-whole 𝓤 H A W (Declared.row Saying.the-type) ρ) λ ρ told. RLocal.whole-mem 𝓤 H A W (Declared.row Saying.the-type) ρ, Path'.refl), tt))) (RLocal.room-whole 𝓤 H A W (Declared'.row Open.the-type) τ1 Path'.refl) (tt, tt) Path'.refl) (RScalar.g-room 𝓤 H A W E G42 12 τ6 (RLocal.room-whole 𝓤 H A W (Declared.row Saying.the-type) τ6 Path'.refl)))
 
           d12 : Typed.Typed 𝓤 H A 𝓣 E G40 b20 Δ5 at12
           d12 = Typed.g-pre 𝓤 H A W 𝓣 E G40 G41 b20 Δ5 (Typed.pass T40 T41 s36) at11 (RScalar.g-room 𝓤 H A W E G40 10 τ5 (RLocal.room-whole 𝓤 H A W (Known.Known Role.enum 1) τ5 Path'.refl)) d11
 
           d13 : Typed.Typed 𝓤 H A 𝓣 E G39 b21 Δ5 at13
-          d13 = Typed.s-seq 𝓤 H A W 𝓣 E G39 G40 b19 b20 Δ5 (Typed.pass T39 T40 s35) at12 (CopyOut.t-copy-told 𝓤 H A W E 𝓣 (Declared.row Saying.the-type) Path'.refl (Laws'11.val Saying.the-type Laws'7.the-laws) (Laws'11.lawful Saying.the-type Laws'7.the-laws 𝓤 H A W tt) (Laws'11.makes Saying.the-type Laws'7.the-plain 𝓤 H A) G39 12 (RScalar.oFld 10 (List._∷_ (Syntax.variant 1) (List._∷_ (Syntax.field 1) List.[])) τ6 8 λ v. Laws'11.val Saying.the-type Laws'7.the-laws (v .0)) (λ m. m .1 .1 .1 .1 .1 .1 .1 .1 .1 .1 .0 .0) (λ m. Laws'11.Fields (Declared.variants Role.the-type) (Laws'11.spellss (Role.enum .parts) Laws'6.the-laws) (Role.the-type .to (Known.at Role.enum 1 (m .1 .1 .1 .1 .1 .1 .1 .1 .1 .1 .0)))) (Reads'.room-gone 𝓤 H A τ6) (Match.reads-payload 𝓤 H A W Role.enum Laws'6.the-laws 1 Path'.refl Path'.refl (λ v. Val.vcons (Laws'11.val Saying.the-type Laws'7.the-laws (v .0)) Val.vnil) (λ v. Path'.refl) 0 τ6 8 Path'.refl, Path'.refl) Path'.refl (λ ρ m. Make'.tells-row 𝓤 H A W E ρ (Row.out 12 (G39 .locals)) m 10 (Laws'11.Fields (Declared.variants Role.the-type) (Laws'11.spellss (Role.enum .parts) Laws'6.the-laws) (Role.the-type .to (Known.at Role.enum 1 (m .1 .1 .1 .1 .1 .1 .1 .1 .1 .1 .0)))) (Known.known-is 𝓤 H A W E Role.enum 1 Laws'6.the-laws ρ 10 (m .1 .1 .1 .1 .1 .1 .1 .1 .1 .1 .0))) (λ m k wa. Path'.refl) λ m k wa. k .0) d12
+          d13 = Typed.s-seq 𝓤 H A W 𝓣 E G39 G40 b19 b20 Δ5 (Typed.pass T39 T40 s35) at12 (CopyOut.t-copy-told 𝓤 H A W E 𝓣 (Declared.row Saying.the-type) Path'.refl (Laws'11.val Saying.the-type Laws'5.the-laws) (Laws'11.lawful Saying.the-type Laws'5.the-laws 𝓤 H A W tt) (Laws'11.makes Saying.the-type Laws'5.the-plain 𝓤 H A) G39 12 (RScalar.oFld 10 (List._∷_ (Syntax.variant 1) (List._∷_ (Syntax.field 1) List.[])) τ6 8 λ v. Laws'11.val Saying.the-type Laws'5.the-laws (v .0)) (λ m. m .1 .1 .1 .1 .1 .1 .1 .1 .1 .1 .0 .0) (λ m. Laws'11.Fields (Declared.variants Role.the-type) (Laws'11.spellss (Role.enum .parts) Laws'4.the-laws) (Role.the-type .to (Known.at Role.enum 1 (m .1 .1 .1 .1 .1 .1 .1 .1 .1 .1 .0)))) (Reads'.room-gone 𝓤 H A τ6) (Match.reads-payload 𝓤 H A W Role.enum Laws'4.the-laws 1 Path'.refl Path'.refl (λ v. Val.vcons (Laws'11.val Saying.the-type Laws'5.the-laws (v .0)) Val.vnil) (λ v. Path'.refl) 0 τ6 8 Path'.refl, Path'.refl) Path'.refl (λ ρ m. Make'.tells-row 𝓤 H A W E ρ (Row.out 12 (G39 .locals)) m 10 (Laws'11.Fields (Declared.variants Role.the-type) (Laws'11.spellss (Role.enum .parts) Laws'4.the-laws) (Role.the-type .to (Known.at Role.enum 1 (m .1 .1 .1 .1 .1 .1 .1 .1 .1 .1 .0)))) (Known.known-is 𝓤 H A W E Role.enum 1 Laws'4.the-laws ρ 10 (m .1 .1 .1 .1 .1 .1 .1 .1 .1 .1 .0))) (λ m k wa. Path'.refl) λ m k wa. k .0) d12
 
           d14 : Typed.Typed 𝓤 H A 𝓣 E G38 b21 Δ5 at14
           d14 = Typed.g-pre 𝓤 H A W 𝓣 E G38 G39 b21 Δ5 (Typed.pass T38 T39 s34) at13 (RScalar.g-room 𝓤 H A W E G38 6 (Syntax.tyInt Syntax.w64) (RScalar.room-sc 𝓤 H A W (Row.sInt Syntax.w64))) d13
 
           d15 : Typed.Typed 𝓤 H A 𝓣 E G37 b21 Δ5 at15
-          d15 = Typed.g-pre 𝓤 H A W 𝓣 E G37 G38 b21 Δ5 (Typed.give s33) at14 (Known.g-known-told 𝓤 H A W E Role.enum 1 G37 10 Laws'6.the-laws (λ x. x) (Reads'.as-is 𝓤 H A (Rows.whole (Known.Known Role.enum 1)))) d14
+          d15 = Typed.g-pre 𝓤 H A W 𝓣 E G37 G38 b21 Δ5 (Typed.give s33) at14 (Known.g-known-told 𝓤 H A W E Role.enum 1 G37 10 Laws'4.the-laws (λ x. x) (Reads'.as-is 𝓤 H A (Rows.whole (Known.Known Role.enum 1)))) d14
 
           d16 : Typed.Typed 𝓤 H A 𝓣 E G33 b21 Δ5 at16
           d16 = Typed.g-pre 𝓤 H A W 𝓣 E G33 G37 b21 Δ5 (Typed.both s32) at15 (Known.g-enum-known 𝓤 H A W E Role.enum 1 G33 10 (λ x. x) (Reads'.as-is 𝓤 H A (Rows.whole (Declared.row Role.the-type)))) d15
 
           d17 : Typed.Typed 𝓤 H A 𝓣 E G48 b22 Δ5 at17
-          d17 = Typed.s-typed 𝓤 H A W 𝓣 E G48 b22 Δ5 (λ Ψ. Typed.ask s44 (Typed.pass T49 T50 s45 Ψ)) tt (Typed.g-post 𝓤 H A W 𝓣 E G48 G49 G50 b22 (Typed.ask s44) (Typed.pass T49 T50 s45) (Rules.t-field-op2 𝓤 H A W E 𝓣 Counts.the-type (TReferent.fInt Syntax.w64) 2 16 (At.getAt (Counts.the-type .parts) 2) (λ v y. At.putAt (Counts.the-type .parts) 2 y v) G48 3 (Syntax.add Syntax.unsigned) (RScalar.oFld 3 (List._∷_ (Syntax.field 2) List.[]) (Syntax.tyInt Syntax.w64) 16 (Reads.fieldV (Apart.apartT Counts.the-type) Laws'3.the-laws 2)) (RScalar.oInt Syntax.w64 1) (λ x. x) (Reads'.as-is 𝓤 H A (Rows.whole (Declared'.row (Apart.apartT Counts.the-type)))) (λ v y a. Way.field-cut 𝓤 H A W TreeShare.fullShare Counts.the-type Laws'3.the-laws 2 16 Path'.refl Path'.refl v y a) (Reads.reads-field 𝓤 H A W (Apart.apartT Counts.the-type) Laws'3.the-laws 2 (Syntax.tyInt Syntax.w64) 16 Path'.refl, Path'.refl) tt Path'.refl λ u. Path'.refl) (AtSlots.g-as-by 𝓤 H A W E (λ ρ. Unit) G49 3 (Rows.whole (Declared'.row Counts.the-type)) (λ v. Counts.struct .make v tt) (Own.told-none 𝓤 H A (G49 .slots)) λ ρ told v b. Apart.folds 𝓤 H A Counts.the-type (Counts.struct .Ghost) (Counts.struct .make) (λ v g. Path'.refl) ρ v tt b))
+          d17 = Typed.s-typed 𝓤 H A W 𝓣 E G48 b22 Δ5 (λ Ψ. Typed.ask s44 (Typed.pass T49 T50 s45 Ψ)) tt (Typed.g-post 𝓤 H A W 𝓣 E G48 G49 G50 b22 (Typed.ask s44) (Typed.pass T49 T50 s45) (Rules.t-field-op2 𝓤 H A W E 𝓣 Counts.the-type (TReferent.fInt Syntax.w64) 2 16 (At.getAt (Counts.the-type .parts) 2) (λ v y. At.putAt (Counts.the-type .parts) 2 y v) G48 3 (Syntax.add Syntax.unsigned) (RScalar.oFld 3 (List._∷_ (Syntax.field 2) List.[]) (Syntax.tyInt Syntax.w64) 16 (Reads.fieldV (Apart.apartT Counts.the-type) Laws'.the-laws 2)) (RScalar.oInt Syntax.w64 1) (λ x. x) (Reads'.as-is 𝓤 H A (Rows.whole (Declared'.row (Apart.apartT Counts.the-type)))) (λ v y a. Way.field-cut 𝓤 H A W TreeShare.fullShare Counts.the-type Laws'.the-laws 2 16 Path'.refl Path'.refl v y a) (Reads.reads-field 𝓤 H A W (Apart.apartT Counts.the-type) Laws'.the-laws 2 (Syntax.tyInt Syntax.w64) 16 Path'.refl, Path'.refl) tt Path'.refl λ u. Path'.refl) (AtSlots.g-as-by 𝓤 H A W E (λ ρ. Unit) G49 3 (Rows.whole (Declared'.row Counts.the-type)) (λ v. Counts.struct .make v tt) (Own.told-none 𝓤 H A (G49 .slots)) λ ρ told v b. Apart.folds 𝓤 H A Counts.the-type (Counts.struct .Ghost) (Counts.struct .make) (λ v g. Path'.refl) ρ v tt b))
 
           d18 : Typed.Typed 𝓤 H A 𝓣 E G47 b22 Δ5 at18
-          d18 = Typed.g-pre 𝓤 H A W 𝓣 E G47 G48 b22 Δ5 (Typed.give s43) at17 (Know'.g-struct-known 𝓤 H A W E (Apart.apartT Counts.the-type) Laws'3.the-laws G47 3 (λ x. x) (Reads'.as-is 𝓤 H A (Rows.whole (Declared'.row (Apart.apartT Counts.the-type))))) d17
+          d18 = Typed.g-pre 𝓤 H A W 𝓣 E G47 G48 b22 Δ5 (Typed.give s43) at17 (Know'.g-struct-known 𝓤 H A W E (Apart.apartT Counts.the-type) Laws'.the-laws G47 3 (λ x. x) (Reads'.as-is 𝓤 H A (Rows.whole (Declared'.row (Apart.apartT Counts.the-type))))) d17
 
           d19 : Typed.Typed 𝓤 H A 𝓣 E G46 b22 Δ5 at19
           d19 = Typed.g-pre 𝓤 H A W 𝓣 E G46 G47 b22 Δ5 (Typed.pass T46 T47 s42) at18 (AtSlots.g-as-by 𝓤 H A W E (λ ρ. Unit) G46 3 (Rows.whole (Declared'.row (Apart.apartT Counts.the-type))) (Counts.struct .as-values) (Own.told-none 𝓤 H A (G46 .slots)) λ ρ told. Apart.unfolds 𝓤 H A Counts.the-type (Counts.struct .as-values) (λ d. Path'.refl) ρ) d18
@@ -1791,25 +1791,25 @@ module _ (claims· : Claims) where
           d22 = Typed.g-pre 𝓤 H A W 𝓣 E G33 G44 b22 Δ5 (Typed.both s39) at21 (Known.g-enum-told 𝓤 H A W E Role.enum 2 G33 10 λ x. x) d21
 
           d23 : Typed.Typed 𝓤 H A 𝓣 E G57 b25 Δ5 at23
-          d23 = Typed.s-typed 𝓤 H A W 𝓣 E G57 b25 Δ5 (λ Ψ. Typed.both s53 (Typed.pass T58 T59 s54 Ψ)) tt (Typed.g-post 𝓤 H A W 𝓣 E G57 G58 G59 b25 (Typed.both s53) (Typed.pass T58 T59 s54) (Plain.t-call-plain 𝓤 H A W 𝓣 1 ps·6 r·6 (claims· .12) (claims· .13) "parse::measure::open_entry" (known .6) E (λ pos β. β) G57 (record { pos = 1; ty = Syntax.tyRef (Syntax.named 0) Syntax.imm (Syntax.tyInt Syntax.w8); ref = λ x. x }, (record { pos = 13; st = List.[]; d = 0; at = λ x. x }, tt)) 4 (List._∷_ 0 List.[]) (Call.sub-id 𝓤 H A W (G57 .slots)) (ShrSlice.spares-sslice 𝓤 H A W (TReferent.rtF (TReferent.fInt Syntax.w8)) (Syntax.tyRef (Syntax.named 0) Syntax.imm (Syntax.tyInt Syntax.w8)) 0, SShared.reads-sslice 𝓤 H A W (TReferent.rtF (TReferent.fInt Syntax.w8)) (Syntax.tyRef (Syntax.named 0) Syntax.imm (Syntax.tyInt Syntax.w8)) 0, Path'.refl, ((Yields.yields-copy 𝓤 H A W (λ ρ. Unit) (Declared'.row Opening.the-type) Path'.refl (TCopies.cStruct Opening.the-type Laws'5.the-laws Laws'5.the-copy .copy 𝓤 H A W) (Rows.whole (Declared'.row Opening.the-type)) (λ x. x) (λ x. x) (λ ρ told. RLocal.mem-whole 𝓤 H A W (Declared'.row Opening.the-type) ρ) λ ρ told. RLocal.whole-mem 𝓤 H A W (Declared'.row Opening.the-type) ρ, Path'.refl), tt)) (Reads'.room-gone 𝓤 H A τ1) (tt, tt) Path'.refl) (RScalar.g-room 𝓤 H A W E G58 13 τ7 (RLocal.room-whole 𝓤 H A W (Declared'.row Opening.the-type) τ7 Path'.refl)))
+          d23 = Typed.s-typed 𝓤 H A W 𝓣 E G57 b25 Δ5 (λ Ψ. Typed.both s53 (Typed.pass T58 T59 s54 Ψ)) tt (Typed.g-post 𝓤 H A W 𝓣 E G57 G58 G59 b25 (Typed.both s53) (Typed.pass T58 T59 s54) (Plain.t-call-plain 𝓤 H A W 𝓣 1 ps·6 r·6 (claims· .12) (claims· .13) "totals::open_entry" (known .6) E (λ pos β. β) G57 (record { pos = 1; ty = Syntax.tyRef (Syntax.named 0) Syntax.imm (Syntax.tyInt Syntax.w8); ref = λ x. x }, (record { pos = 13; st = List.[]; d = 0; at = λ x. x }, tt)) 4 (List._∷_ 0 List.[]) (Call.sub-id 𝓤 H A W (G57 .slots)) (ShrSlice.spares-sslice 𝓤 H A W (TReferent.rtF (TReferent.fInt Syntax.w8)) (Syntax.tyRef (Syntax.named 0) Syntax.imm (Syntax.tyInt Syntax.w8)) 0, SShared.reads-sslice 𝓤 H A W (TReferent.rtF (TReferent.fInt Syntax.w8)) (Syntax.tyRef (Syntax.named 0) Syntax.imm (Syntax.tyInt Syntax.w8)) 0, Path'.refl, ((Yields.yields-copy 𝓤 H A W (λ ρ. Unit) (Declared'.row Opening.the-type) Path'.refl (TCopies.cStruct Opening.the-type Laws'3.the-laws Laws'3.the-copy .copy 𝓤 H A W) (Rows.whole (Declared'.row Opening.the-type)) (λ x. x) (λ x. x) (λ ρ told. RLocal.mem-whole 𝓤 H A W (Declared'.row Opening.the-type) ρ) λ ρ told. RLocal.whole-mem 𝓤 H A W (Declared'.row Opening.the-type) ρ, Path'.refl), tt)) (Reads'.room-gone 𝓤 H A τ1) (tt, tt) Path'.refl) (RScalar.g-room 𝓤 H A W E G58 13 τ7 (RLocal.room-whole 𝓤 H A W (Declared'.row Opening.the-type) τ7 Path'.refl)))
 
           d24 : Typed.Typed 𝓤 H A 𝓣 E G56 b25 Δ5 at24
           d24 = Typed.g-pre 𝓤 H A W 𝓣 E G56 G57 b25 Δ5 (Typed.pass T56 T57 s52) at23 (RScalar.g-room 𝓤 H A W E G56 4 τ1 (RLocal.room-whole 𝓤 H A W (Declared'.row Open.the-type) τ1 Path'.refl)) d23
 
           d25 : Typed.Typed 𝓤 H A 𝓣 E G55 b26 Δ5 at25
-          d25 = Typed.s-seq 𝓤 H A W 𝓣 E G55 G56 b24 b25 Δ5 (Typed.both s51) at24 (Plain.t-call-plain 𝓤 H A W 𝓣 0 ps·5 r·5 (claims· .10) (claims· .11) "parse::measure::enter" (known .5) E (λ pos β. β) G55 (record { pos = 3; st = List.[]; d = 0; at = λ x. x }, (record { pos = 4; st = List.[]; d = 0; at = λ x. x }, tt)) 3 List.[] (Call.sub-id 𝓤 H A W (G55 .slots)) ((Yields.yields-copy 𝓤 H A W (λ ρ. Unit) (Declared'.row Counts.the-type) Path'.refl (TCopies.cStruct Counts.the-type Laws'3.the-laws Laws'3.the-copy .copy 𝓤 H A W) (Rows.whole (Declared'.row Counts.the-type)) (λ x. x) (λ x. x) (λ ρ told. RLocal.mem-whole 𝓤 H A W (Declared'.row Counts.the-type) ρ) λ ρ told. RLocal.whole-mem 𝓤 H A W (Declared'.row Counts.the-type) ρ, Path'.refl), ((Yields.yields-copy 𝓤 H A W (λ ρ. Unit) (Declared'.row Open.the-type) Path'.refl (TCopies.cStruct Open.the-type Laws'.the-laws Laws'.the-copy .copy 𝓤 H A W) (Rows.whole (Declared'.row Open.the-type)) (λ x. x) (λ x. x) (λ ρ told. RLocal.mem-whole 𝓤 H A W (Declared'.row Open.the-type) ρ) λ ρ told. RLocal.whole-mem 𝓤 H A W (Declared'.row Open.the-type) ρ, Path'.refl), tt)) (RLocal.room-whole 𝓤 H A W (Declared'.row Counts.the-type) τ0 Path'.refl) tt Path'.refl) d24
+          d25 = Typed.s-seq 𝓤 H A W 𝓣 E G55 G56 b24 b25 Δ5 (Typed.both s51) at24 (Plain.t-call-plain 𝓤 H A W 𝓣 0 ps·5 r·5 (claims· .10) (claims· .11) "totals::enter" (known .5) E (λ pos β. β) G55 (record { pos = 3; st = List.[]; d = 0; at = λ x. x }, (record { pos = 4; st = List.[]; d = 0; at = λ x. x }, tt)) 3 List.[] (Call.sub-id 𝓤 H A W (G55 .slots)) ((Yields.yields-copy 𝓤 H A W (λ ρ. Unit) (Declared'.row Counts.the-type) Path'.refl (TCopies.cStruct Counts.the-type Laws'.the-laws Laws'.the-copy .copy 𝓤 H A W) (Rows.whole (Declared'.row Counts.the-type)) (λ x. x) (λ x. x) (λ ρ told. RLocal.mem-whole 𝓤 H A W (Declared'.row Counts.the-type) ρ) λ ρ told. RLocal.whole-mem 𝓤 H A W (Declared'.row Counts.the-type) ρ, Path'.refl), ((Yields.yields-copy 𝓤 H A W (λ ρ. Unit) (Declared'.row Open.the-type) Path'.refl (TCopies.cStruct Open.the-type Laws'9.the-laws Laws'9.the-copy .copy 𝓤 H A W) (Rows.whole (Declared'.row Open.the-type)) (λ x. x) (λ x. x) (λ ρ told. RLocal.mem-whole 𝓤 H A W (Declared'.row Open.the-type) ρ) λ ρ told. RLocal.whole-mem 𝓤 H A W (Declared'.row Open.the-type) ρ, Path'.refl), tt)) (RLocal.room-whole 𝓤 H A W (Declared'.row Counts.the-type) τ0 Path'.refl) tt Path'.refl) d24
 
           d26 : Typed.Typed 𝓤 H A 𝓣 E G54 b26 Δ5 at26
           d26 = Typed.g-pre 𝓤 H A W 𝓣 E G54 G55 b26 Δ5 (Typed.pass T54 T55 s50) at25 (RScalar.g-room 𝓤 H A W E G54 10 τ5 (RLocal.room-whole 𝓤 H A W (Known.Known Role.enum 3) τ5 Path'.refl)) d25
 
           d27 : Typed.Typed 𝓤 H A 𝓣 E G53 b27 Δ5 at27
-          d27 = Typed.s-seq 𝓤 H A W 𝓣 E G53 G54 b23 b26 Δ5 (Typed.pass T53 T54 s49) at26 (CopyOut.t-copy-told 𝓤 H A W E 𝓣 (Declared'.row Opening.the-type) Path'.refl (Laws'13.val Opening.the-type Laws'5.the-laws) (Laws'13.lawful Opening.the-type Laws'5.the-laws 𝓤 H A W) (Laws'13.makes Opening.the-type Laws'5.the-plain 𝓤 H A) G53 13 (RScalar.oFld 10 (List._∷_ (Syntax.variant 3) (List._∷_ (Syntax.field 1) List.[])) τ7 8 λ v. Laws'13.val Opening.the-type Laws'5.the-laws (v .0)) (λ m. m .1 .1 .1 .1 .1 .1 .1 .1 .1 .1 .0 .0) (λ m. Laws'11.Fields (Declared.variants Role.the-type) (Laws'11.spellss (Role.enum .parts) Laws'6.the-laws) (Role.the-type .to (Known.at Role.enum 3 (m .1 .1 .1 .1 .1 .1 .1 .1 .1 .1 .0)))) (Reads'.room-gone 𝓤 H A τ7) (Match.reads-payload 𝓤 H A W Role.enum Laws'6.the-laws 3 Path'.refl Path'.refl (λ v. Val.vcons (Laws'13.val Opening.the-type Laws'5.the-laws (v .0)) Val.vnil) (λ v. Path'.refl) 0 τ7 8 Path'.refl, Path'.refl) Path'.refl (λ ρ m. Make'.tells-row 𝓤 H A W E ρ (Row.out 13 (G53 .locals)) m 10 (Laws'11.Fields (Declared.variants Role.the-type) (Laws'11.spellss (Role.enum .parts) Laws'6.the-laws) (Role.the-type .to (Known.at Role.enum 3 (m .1 .1 .1 .1 .1 .1 .1 .1 .1 .1 .0)))) (Known.known-is 𝓤 H A W E Role.enum 3 Laws'6.the-laws ρ 10 (m .1 .1 .1 .1 .1 .1 .1 .1 .1 .1 .0))) (λ m k wa. Path'.refl) λ m k wa. k .0) d26
+          d27 = Typed.s-seq 𝓤 H A W 𝓣 E G53 G54 b23 b26 Δ5 (Typed.pass T53 T54 s49) at26 (CopyOut.t-copy-told 𝓤 H A W E 𝓣 (Declared'.row Opening.the-type) Path'.refl (Laws'13.val Opening.the-type Laws'3.the-laws) (Laws'13.lawful Opening.the-type Laws'3.the-laws 𝓤 H A W) (Laws'13.makes Opening.the-type Laws'3.the-plain 𝓤 H A) G53 13 (RScalar.oFld 10 (List._∷_ (Syntax.variant 3) (List._∷_ (Syntax.field 1) List.[])) τ7 8 λ v. Laws'13.val Opening.the-type Laws'3.the-laws (v .0)) (λ m. m .1 .1 .1 .1 .1 .1 .1 .1 .1 .1 .0 .0) (λ m. Laws'11.Fields (Declared.variants Role.the-type) (Laws'11.spellss (Role.enum .parts) Laws'4.the-laws) (Role.the-type .to (Known.at Role.enum 3 (m .1 .1 .1 .1 .1 .1 .1 .1 .1 .1 .0)))) (Reads'.room-gone 𝓤 H A τ7) (Match.reads-payload 𝓤 H A W Role.enum Laws'4.the-laws 3 Path'.refl Path'.refl (λ v. Val.vcons (Laws'13.val Opening.the-type Laws'3.the-laws (v .0)) Val.vnil) (λ v. Path'.refl) 0 τ7 8 Path'.refl, Path'.refl) Path'.refl (λ ρ m. Make'.tells-row 𝓤 H A W E ρ (Row.out 13 (G53 .locals)) m 10 (Laws'11.Fields (Declared.variants Role.the-type) (Laws'11.spellss (Role.enum .parts) Laws'4.the-laws) (Role.the-type .to (Known.at Role.enum 3 (m .1 .1 .1 .1 .1 .1 .1 .1 .1 .1 .0)))) (Known.known-is 𝓤 H A W E Role.enum 3 Laws'4.the-laws ρ 10 (m .1 .1 .1 .1 .1 .1 .1 .1 .1 .1 .0))) (λ m k wa. Path'.refl) λ m k wa. k .0) d26
 
           d28 : Typed.Typed 𝓤 H A 𝓣 E G52 b27 Δ5 at28
           d28 = Typed.g-pre 𝓤 H A W 𝓣 E G52 G53 b27 Δ5 (Typed.pass T52 T53 s48) at27 (RScalar.g-room 𝓤 H A W E G52 6 (Syntax.tyInt Syntax.w64) (RScalar.room-sc 𝓤 H A W (Row.sInt Syntax.w64))) d27
 
           d29 : Typed.Typed 𝓤 H A 𝓣 E G51 b27 Δ5 at29
-          d29 = Typed.g-pre 𝓤 H A W 𝓣 E G51 G52 b27 Δ5 (Typed.give s47) at28 (Known.g-known-told 𝓤 H A W E Role.enum 3 G51 10 Laws'6.the-laws (λ x. x) (Reads'.as-is 𝓤 H A (Rows.whole (Known.Known Role.enum 3)))) d28
+          d29 = Typed.g-pre 𝓤 H A W 𝓣 E G51 G52 b27 Δ5 (Typed.give s47) at28 (Known.g-known-told 𝓤 H A W E Role.enum 3 G51 10 Laws'4.the-laws (λ x. x) (Reads'.as-is 𝓤 H A (Rows.whole (Known.Known Role.enum 3)))) d28
 
           d30 : Typed.Typed 𝓤 H A 𝓣 E G33 b27 Δ5 at30
           d30 = Typed.g-pre 𝓤 H A W 𝓣 E G33 G51 b27 Δ5 (Typed.both s46) at29 (Known.g-enum-known 𝓤 H A W E Role.enum 3 G33 10 (λ x. x) (Reads'.as-is 𝓤 H A (Rows.whole (Declared.row Role.the-type)))) d29
@@ -1830,19 +1830,19 @@ module _ (claims· : Claims) where
           d35 = Typed.g-pre 𝓤 H A W 𝓣 E G70 G71 b31 Δ5 (Typed.pass T70 T71 s66) at34 (RScalar.g-room 𝓤 H A W E G70 21 τ9 (RLocal.room-whole 𝓤 H A W (Declared'.row Refusal.the-type) τ9 Path'.refl)) d34
 
           d36 : Typed.Typed 𝓤 H A 𝓣 E G69 b32 Δ5 at36
-          d36 = Typed.s-seq 𝓤 H A W 𝓣 E G69 G70 b30 b31 Δ5 (Typed.pass T69 T70 s65) at35 (Make.t-enum-make-wt 𝓤 H A W E 𝓣 Measured.the-type Laws.the-laws Laws.the-plain tt G69 0 (List._∷_ (RScalar.oInt Syntax.w8 0) (List._∷_ (RScalar.oAt 21 τ9 (Laws'13.val Refusal.the-type Laws'4.the-laws)) List.[])) (λ m. Measured.enum .make (Logic.inl (m .1 .1 .1 .1 .1 .1 .1 .1 .1 .1 .1 .1 .1 .1 .1 .1 .1 .1 .1 .1 .1 .0, tt))) (Reads'.room-gone 𝓤 H A τ10) (tt, ((Reads.reads-struct 𝓤 H A W Refusal.the-type Laws'4.the-laws, Path'.refl), tt)) Path'.refl (λ m wa. Make.made-val Measured.the-type Laws.the-laws (List._∷_ (Laws'13.val Refusal.the-type Laws'4.the-laws (m .1 .1 .1 .1 .1 .1 .1 .1 .1 .1 .1 .1 .1 .1 .1 .1 .1 .1 .1 .1 .1 .0)) List.[]) (Measured.enum .make (Logic.inl (m .1 .1 .1 .1 .1 .1 .1 .1 .1 .1 .1 .1 .1 .1 .1 .1 .1 .1 .1 .1 .1 .0, tt))) (Signed.made-wt Refusal.the-field Laws'4.the-field-laws (Make'.struct-wt Refusal.the-type Laws'4.the-laws (Make'.u64-wt, (Make'.u64-wt, tt))) (Refusal.the-type .to (m .1 .1 .1 .1 .1 .1 .1 .1 .1 .1 .1 .1 .1 .1 .1 .1 .1 .1 .1 .1 .1 .0)), tt) (wa .1)) λ m wa. Make.made-is Measured.the-type Laws.the-laws (List._∷_ (Laws'13.val Refusal.the-type Laws'4.the-laws (m .1 .1 .1 .1 .1 .1 .1 .1 .1 .1 .1 .1 .1 .1 .1 .1 .1 .1 .1 .1 .1 .0)) List.[]) (Measured.enum .make (Logic.inl (m .1 .1 .1 .1 .1 .1 .1 .1 .1 .1 .1 .1 .1 .1 .1 .1 .1 .1 .1 .1 .1 .0, tt))) (Signed.made-wt Refusal.the-field Laws'4.the-field-laws (Make'.struct-wt Refusal.the-type Laws'4.the-laws (Make'.u64-wt, (Make'.u64-wt, tt))) (Refusal.the-type .to (m .1 .1 .1 .1 .1 .1 .1 .1 .1 .1 .1 .1 .1 .1 .1 .1 .1 .1 .1 .1 .1 .0)), tt) (wa .1)) d35
+          d36 = Typed.s-seq 𝓤 H A W 𝓣 E G69 G70 b30 b31 Δ5 (Typed.pass T69 T70 s65) at35 (Make.t-enum-make-wt 𝓤 H A W E 𝓣 Measured.the-type Laws.the-laws Laws.the-plain tt G69 0 (List._∷_ (RScalar.oInt Syntax.w8 0) (List._∷_ (RScalar.oAt 21 τ9 (Laws'13.val Refusal.the-type Laws''.the-laws)) List.[])) (λ m. Measured.enum .make (Logic.inl (m .1 .1 .1 .1 .1 .1 .1 .1 .1 .1 .1 .1 .1 .1 .1 .1 .1 .1 .1 .1 .1 .0, tt))) (Reads'.room-gone 𝓤 H A τ10) (tt, ((Reads.reads-struct 𝓤 H A W Refusal.the-type Laws''.the-laws, Path'.refl), tt)) Path'.refl (λ m wa. Make.made-val Measured.the-type Laws.the-laws (List._∷_ (Laws'13.val Refusal.the-type Laws''.the-laws (m .1 .1 .1 .1 .1 .1 .1 .1 .1 .1 .1 .1 .1 .1 .1 .1 .1 .1 .1 .1 .1 .0)) List.[]) (Measured.enum .make (Logic.inl (m .1 .1 .1 .1 .1 .1 .1 .1 .1 .1 .1 .1 .1 .1 .1 .1 .1 .1 .1 .1 .1 .0, tt))) (Signed.made-wt Refusal.the-field Laws''.the-field-laws (Make'.struct-wt Refusal.the-type Laws''.the-laws (Make'.u64-wt, (Make'.u64-wt, tt))) (Refusal.the-type .to (m .1 .1 .1 .1 .1 .1 .1 .1 .1 .1 .1 .1 .1 .1 .1 .1 .1 .1 .1 .1 .1 .0)), tt) (wa .1)) λ m wa. Make.made-is Measured.the-type Laws.the-laws (List._∷_ (Laws'13.val Refusal.the-type Laws''.the-laws (m .1 .1 .1 .1 .1 .1 .1 .1 .1 .1 .1 .1 .1 .1 .1 .1 .1 .1 .1 .1 .1 .0)) List.[]) (Measured.enum .make (Logic.inl (m .1 .1 .1 .1 .1 .1 .1 .1 .1 .1 .1 .1 .1 .1 .1 .1 .1 .1 .1 .1 .1 .0, tt))) (Signed.made-wt Refusal.the-field Laws''.the-field-laws (Make'.struct-wt Refusal.the-type Laws''.the-laws (Make'.u64-wt, (Make'.u64-wt, tt))) (Refusal.the-type .to (m .1 .1 .1 .1 .1 .1 .1 .1 .1 .1 .1 .1 .1 .1 .1 .1 .1 .1 .1 .1 .1 .0)), tt) (wa .1)) d35
 
           d37 : Typed.Typed 𝓤 H A 𝓣 E G68 b32 Δ5 at37
           d37 = Typed.g-pre 𝓤 H A W 𝓣 E G68 G69 b32 Δ5 (Typed.pass T68 T69 s64) at36 (AtSlots.g-as-by 𝓤 H A W E (λ ρ. Unit) G68 21 (Rows.whole (Declared'.row Refusal.the-type)) (λ v. Refusal.struct .make v tt) (Own.told-none 𝓤 H A (G68 .slots)) λ ρ told v b. Apart.folds 𝓤 H A Refusal.the-type (Refusal.struct .Ghost) (Refusal.struct .make) (λ v g. Path'.refl) ρ v tt b) d36
 
           d38 : Typed.Typed 𝓤 H A 𝓣 E G67 b33 Δ5 at38
-          d38 = Typed.s-seq 𝓤 H A W 𝓣 E G67 G68 b29 b32 Δ5 (Typed.pass T67 T68 s63) at37 (Make'.t-struct-make 𝓤 H A W E 𝓣 (Apart.apartT Refusal.the-type) Laws'4.the-laws Laws'4.the-plain G67 21 (List._∷_ (RScalar.oAt 14 (Syntax.tyInt Syntax.w64) (Row.valS (Row.sInt Syntax.w64))) (List._∷_ (RScalar.oAt 7 (Syntax.tyInt Syntax.w64) (Row.valS (Row.sInt Syntax.w64))) List.[])) (λ m. (m .1 .1 .1 .1 .1 .1 .1 .1 .1 .1 .1 .1 .1 .1 .0, (m .1 .1 .1 .1 .1 .1 .1 .0, tt))) (Reads'.room-gone 𝓤 H A τ9) ((RScalar.reads-sc 𝓤 H A W (Row.sInt Syntax.w64), Path'.refl), ((RScalar.reads-sc 𝓤 H A W (Row.sInt Syntax.w64), Path'.refl), tt)) Path'.refl (λ u. Path'.refl) λ m. Make'.is-wt (Apart.apartT Refusal.the-type) Laws'4.the-laws (Make'.u64-wt, (Make'.u64-wt, tt)) (m .1 .1 .1 .1 .1 .1 .1 .1 .1 .1 .1 .1 .1 .1 .0, (m .1 .1 .1 .1 .1 .1 .1 .0, tt))) d37
+          d38 = Typed.s-seq 𝓤 H A W 𝓣 E G67 G68 b29 b32 Δ5 (Typed.pass T67 T68 s63) at37 (Make'.t-struct-make 𝓤 H A W E 𝓣 (Apart.apartT Refusal.the-type) Laws''.the-laws Laws''.the-plain G67 21 (List._∷_ (RScalar.oAt 14 (Syntax.tyInt Syntax.w64) (Row.valS (Row.sInt Syntax.w64))) (List._∷_ (RScalar.oAt 7 (Syntax.tyInt Syntax.w64) (Row.valS (Row.sInt Syntax.w64))) List.[])) (λ m. (m .1 .1 .1 .1 .1 .1 .1 .1 .1 .1 .1 .1 .1 .1 .0, (m .1 .1 .1 .1 .1 .1 .1 .0, tt))) (Reads'.room-gone 𝓤 H A τ9) ((RScalar.reads-sc 𝓤 H A W (Row.sInt Syntax.w64), Path'.refl), ((RScalar.reads-sc 𝓤 H A W (Row.sInt Syntax.w64), Path'.refl), tt)) Path'.refl (λ u. Path'.refl) λ m. Make'.is-wt (Apart.apartT Refusal.the-type) Laws''.the-laws (Make'.u64-wt, (Make'.u64-wt, tt)) (m .1 .1 .1 .1 .1 .1 .1 .1 .1 .1 .1 .1 .1 .1 .0, (m .1 .1 .1 .1 .1 .1 .1 .0, tt))) d37
 
           d39 : Typed.Typed 𝓤 H A 𝓣 E G66 b33 Δ5 at39
           d39 = Typed.g-pre 𝓤 H A W 𝓣 E G66 G67 b33 Δ5 (Typed.pass T66 T67 s62) at38 (RScalar.g-room 𝓤 H A W E G66 10 τ5 (RLocal.room-whole 𝓤 H A W (Known.Known Role.enum 4) τ5 Path'.refl)) d38
 
           d40 : Typed.Typed 𝓤 H A 𝓣 E G65 b34 Δ5 at40
-          d40 = Typed.s-seq 𝓤 H A W 𝓣 E G65 G66 b28 b33 Δ5 (Typed.pass T65 T66 s61) at39 (RScalar.t-use 𝓤 H A W E 𝓣 G65 (RScalar.oFld 10 (List._∷_ (Syntax.variant 4) (List._∷_ (Syntax.field 1) List.[])) (Syntax.tyInt Syntax.w64) 8 λ v. Laws'6.the-laws .1 .1 .1 .1 .0 .0 .val (v .0)) 14 (Rows.sc-here (Row.sInt Syntax.w64)) (Syntax.tyInt Syntax.w64) (Row.valS (Row.sInt Syntax.w64)) (Row.sInt Syntax.w64 .of) (Match.reads-payload 𝓤 H A W Role.enum Laws'6.the-laws 4 Path'.refl Path'.refl (λ v. Val.vcons (Laws'6.the-laws .1 .1 .1 .1 .0 .0 .val (v .0)) Val.vnil) (λ v. Path'.refl) 0 (Syntax.tyInt Syntax.w64) 8 Path'.refl, Path'.refl) (Reads'.room-gone 𝓤 H A (Syntax.tyInt Syntax.w64)) (RScalar.holds-sc 𝓤 H A W (Row.sInt Syntax.w64)) Path'.refl (λ u. Path'.refl) λ u. tt) d39
+          d40 = Typed.s-seq 𝓤 H A W 𝓣 E G65 G66 b28 b33 Δ5 (Typed.pass T65 T66 s61) at39 (RScalar.t-use 𝓤 H A W E 𝓣 G65 (RScalar.oFld 10 (List._∷_ (Syntax.variant 4) (List._∷_ (Syntax.field 1) List.[])) (Syntax.tyInt Syntax.w64) 8 λ v. Laws'4.the-laws .1 .1 .1 .1 .0 .0 .val (v .0)) 14 (Rows.sc-here (Row.sInt Syntax.w64)) (Syntax.tyInt Syntax.w64) (Row.valS (Row.sInt Syntax.w64)) (Row.sInt Syntax.w64 .of) (Match.reads-payload 𝓤 H A W Role.enum Laws'4.the-laws 4 Path'.refl Path'.refl (λ v. Val.vcons (Laws'4.the-laws .1 .1 .1 .1 .0 .0 .val (v .0)) Val.vnil) (λ v. Path'.refl) 0 (Syntax.tyInt Syntax.w64) 8 Path'.refl, Path'.refl) (Reads'.room-gone 𝓤 H A (Syntax.tyInt Syntax.w64)) (RScalar.holds-sc 𝓤 H A W (Row.sInt Syntax.w64)) Path'.refl (λ u. Path'.refl) λ u. tt) d39
 
           d41 : Typed.Typed 𝓤 H A 𝓣 E G64 b34 Δ5 at41
           d41 = Typed.g-pre 𝓤 H A W 𝓣 E G64 G65 b34 Δ5 (Typed.pass T64 T65 s60) at40 (RScalar.g-room 𝓤 H A W E G64 11 τ2 (RLocal.room-whole 𝓤 H A W (Declared.row Where.the-type) τ2 Path'.refl)) d40
@@ -1857,13 +1857,13 @@ module _ (claims· : Claims) where
           d44 = Typed.g-pre 𝓤 H A W 𝓣 E G61 G62 b34 Δ5 (Typed.pass T61 T62 s57) at43 (RScalar.g-room 𝓤 H A W E G61 3 τ0 (RLocal.room-whole 𝓤 H A W (Declared'.row Counts.the-type) τ0 Path'.refl)) d43
 
           d45 : Typed.Typed 𝓤 H A 𝓣 E G60 b34 Δ5 at45
-          d45 = Typed.g-pre 𝓤 H A W 𝓣 E G60 G61 b34 Δ5 (Typed.give s56) at44 (Known.g-known-told 𝓤 H A W E Role.enum 4 G60 10 Laws'6.the-laws (λ x. x) (Reads'.as-is 𝓤 H A (Rows.whole (Known.Known Role.enum 4)))) d44
+          d45 = Typed.g-pre 𝓤 H A W 𝓣 E G60 G61 b34 Δ5 (Typed.give s56) at44 (Known.g-known-told 𝓤 H A W E Role.enum 4 G60 10 Laws'4.the-laws (λ x. x) (Reads'.as-is 𝓤 H A (Rows.whole (Known.Known Role.enum 4)))) d44
 
           d46 : Typed.Typed 𝓤 H A 𝓣 E G33 b34 Δ5 at46
           d46 = Typed.g-pre 𝓤 H A W 𝓣 E G33 G60 b34 Δ5 (Typed.both s55) at45 (Known.g-enum-known 𝓤 H A W E Role.enum 4 G33 10 (λ x. x) (Reads'.as-is 𝓤 H A (Rows.whole (Declared.row Role.the-type)))) d45
 
           d47 : Typed.Typed 𝓤 H A 𝓣 E G33 b35 Δ5 at47
-          d47 = Switch.t-switch-on 𝓤 H A W E 𝓣 G33 (RScalar.oFld 10 (List._∷_ (Syntax.variant 0) (List._∷_ (Syntax.field 0) List.[])) (Syntax.tyInt Syntax.w8) 0 λ x. Val.vint Syntax.w8 (Declared.tagOf Role.the-type x)) Syntax.w8 (λ u. Declared.tagOf Role.the-type (u .1 .1 .1 .1 .1 .1 .1 .1 .1 .1 .0)) (Syntax.arm (List._∷_ 0 List.[]) b18 (Syntax.arm (List._∷_ 1 List.[]) b21 (Syntax.arm (List._∷_ 2 List.[]) b22 (Syntax.arm (List._∷_ 3 List.[]) b27 (Syntax.arm (List._∷_ 4 List.[]) b34 Syntax.noDefault))))) Δ5 (at10, (at16, (at22, (at30, (at46, tt))))) (Match.reads-tag 𝓤 H A W Role.the-type Laws'6.the-laws (Rows.whole (Declared.row Role.the-type)) 0 (λ x. x) (Whole.reads-enum 𝓤 H A W Role.the-type Laws'6.the-laws), Path'.refl) (λ u. Path'.refl) (d10, (d16, (d22, (d30, (d46, tt)))))
+          d47 = Switch.t-switch-on 𝓤 H A W E 𝓣 G33 (RScalar.oFld 10 (List._∷_ (Syntax.variant 0) (List._∷_ (Syntax.field 0) List.[])) (Syntax.tyInt Syntax.w8) 0 λ x. Val.vint Syntax.w8 (Declared.tagOf Role.the-type x)) Syntax.w8 (λ u. Declared.tagOf Role.the-type (u .1 .1 .1 .1 .1 .1 .1 .1 .1 .1 .0)) (Syntax.arm (List._∷_ 0 List.[]) b18 (Syntax.arm (List._∷_ 1 List.[]) b21 (Syntax.arm (List._∷_ 2 List.[]) b22 (Syntax.arm (List._∷_ 3 List.[]) b27 (Syntax.arm (List._∷_ 4 List.[]) b34 Syntax.noDefault))))) Δ5 (at10, (at16, (at22, (at30, (at46, tt))))) (Match.reads-tag 𝓤 H A W Role.the-type Laws'4.the-laws (Rows.whole (Declared.row Role.the-type)) 0 (λ x. x) (Whole.reads-enum 𝓤 H A W Role.the-type Laws'4.the-laws), Path'.refl) (λ u. Path'.refl) (d10, (d16, (d22, (d30, (d46, tt)))))
 
           d48 : Typed.Typed 𝓤 H A 𝓣 E G32 b35 Δ5 at48
           d48 = Typed.g-pre 𝓤 H A W 𝓣 E G32 G33 b35 Δ5 (λ Ψ. Ψ) at47 (Lifetime.g-forget 𝓤 H A W E G32 2 Row.dead Path'.refl) d47
@@ -1890,20 +1890,20 @@ module _ (claims· : Claims) where
           d55 = Typed.g-pre 𝓤 H A W 𝓣 E G77 G78 b38 Δ3 (Typed.pass T77 T78 s73) at54 (RScalar.g-room 𝓤 H A W E G77 8 τ3 (RLocal.room-whole 𝓤 H A W (Declared'.row Line.the-type) τ3 Path'.refl)) d54
 
           d56 : Typed.Typed 𝓤 H A 𝓣 E G76 b39 Δ3 at56
-          d56 = Typed.s-seq 𝓤 H A W 𝓣 E G76 G77 b37 b38 Δ3 (Typed.pass T76 T77 s72) at55 (RScalar.t-use 𝓤 H A W E 𝓣 G76 (RScalar.oFld 8 (List._∷_ (Syntax.field 3) List.[]) (Syntax.tyInt Syntax.w64) 24 (Reads.fieldV Line.the-type Laws'10.the-laws 3)) 6 (Rows.sc-here (Row.sInt Syntax.w64)) (Syntax.tyInt Syntax.w64) (Row.valS (Row.sInt Syntax.w64)) (Row.sInt Syntax.w64 .of) (Reads.reads-field 𝓤 H A W Line.the-type Laws'10.the-laws 3 (Syntax.tyInt Syntax.w64) 24 Path'.refl, Path'.refl) (Reads'.room-gone 𝓤 H A (Syntax.tyInt Syntax.w64)) (RScalar.holds-sc 𝓤 H A W (Row.sInt Syntax.w64)) Path'.refl (λ u. Path'.refl) λ u. tt) d55
+          d56 = Typed.s-seq 𝓤 H A W 𝓣 E G76 G77 b37 b38 Δ3 (Typed.pass T76 T77 s72) at55 (RScalar.t-use 𝓤 H A W E 𝓣 G76 (RScalar.oFld 8 (List._∷_ (Syntax.field 3) List.[]) (Syntax.tyInt Syntax.w64) 24 (Reads.fieldV Line.the-type Laws'8.the-laws 3)) 6 (Rows.sc-here (Row.sInt Syntax.w64)) (Syntax.tyInt Syntax.w64) (Row.valS (Row.sInt Syntax.w64)) (Row.sInt Syntax.w64 .of) (Reads.reads-field 𝓤 H A W Line.the-type Laws'8.the-laws 3 (Syntax.tyInt Syntax.w64) 24 Path'.refl, Path'.refl) (Reads'.room-gone 𝓤 H A (Syntax.tyInt Syntax.w64)) (RScalar.holds-sc 𝓤 H A W (Row.sInt Syntax.w64)) Path'.refl (λ u. Path'.refl) λ u. tt) d55
 
           d57 : Typed.Typed 𝓤 H A 𝓣 E G75 b39 Δ3 at57
           d57 = Typed.g-pre 𝓤 H A W 𝓣 E G75 G76 b39 Δ3 (Typed.pass T75 T76 s71) at56 (RScalar.g-room 𝓤 H A W E G75 11 τ2 (RLocal.room-whole 𝓤 H A W (Declared.row Where.the-type) τ2 Path'.refl)) d56
 
           d58 : Typed.Typed 𝓤 H A 𝓣 E G27 b40 Δ3 at58
           unfolding at58
-          d58 = Typed.s-seq 𝓤 H A W 𝓣 E G27 G75 b36 b39 Δ3 (Typed.both s70) at57 (Plain.t-call-plain 𝓤 H A W 𝓣 0 ps·7 r·7 (claims· .14) (claims· .15) "roles::steps::same_place" (known .7) E (λ pos β. β) G27 (record { pos = 11; st = List.[]; d = 0; at = λ x. x }, tt) 5 List.[] (Call.sub-id 𝓤 H A W (G27 .slots)) ((Yields.yields-copy 𝓤 H A W (λ ρ. Unit) (Declared.row Where.the-type) Path'.refl (TCopies.cEnum Where.the-type Laws'9.the-laws Laws'9.the-copy .copy 𝓤 H A W) (Rows.whole (Declared.row Where.the-type)) (λ x. x) (λ x. x) (λ ρ told. RLocal.mem-whole 𝓤 H A W (Declared.row Where.the-type) ρ) λ ρ told. RLocal.whole-mem 𝓤 H A W (Declared.row Where.the-type) ρ, Path'.refl), tt) (Reads'.room-gone 𝓤 H A τ2) tt Path'.refl) d57
+          d58 = Typed.s-seq 𝓤 H A W 𝓣 E G27 G75 b36 b39 Δ3 (Typed.both s70) at57 (Plain.t-call-plain 𝓤 H A W 𝓣 0 ps·7 r·7 (claims· .14) (claims· .15) "roles::steps::same_place" (known .7) E (λ pos β. β) G27 (record { pos = 11; st = List.[]; d = 0; at = λ x. x }, tt) 5 List.[] (Call.sub-id 𝓤 H A W (G27 .slots)) ((Yields.yields-copy 𝓤 H A W (λ ρ. Unit) (Declared.row Where.the-type) Path'.refl (TCopies.cEnum Where.the-type Laws'7.the-laws Laws'7.the-copy .copy 𝓤 H A W) (Rows.whole (Declared.row Where.the-type)) (λ x. x) (λ x. x) (λ ρ told. RLocal.mem-whole 𝓤 H A W (Declared.row Where.the-type) ρ) λ ρ told. RLocal.whole-mem 𝓤 H A W (Declared.row Where.the-type) ρ, Path'.refl), tt) (Reads'.room-gone 𝓤 H A τ2) tt Path'.refl) d57
 
           d59 : Typed.Typed 𝓤 H A 𝓣 E G26 b41 Δ3 at59
           d59 = Typed.t-seq 𝓤 H A W 𝓣 E G26 G27 b35 b40 Δ3 at53 at58 d53 d58
 
           d60 : Typed.Typed 𝓤 H A 𝓣 E G25 b42 Δ3 at60
-          d60 = Typed.s-seq 𝓤 H A W 𝓣 E G25 G26 b17 b41 Δ3 (Typed.both s22) at59 (Plain.t-call-plain 𝓤 H A W 𝓣 1 ps·3 r·3 (claims· .6) (claims· .7) "kept::keep" (known .3) E (λ pos β. β) G25 (record { pos = 20; ty = Syntax.tyRef Syntax.erased Syntax.mut KeptElem.behind; ref = λ x. x }, (Num.vAt 7 λ x. x, (Num.vAt 6 λ x. x, (record { pos = 5; st = List.[]; d = 0; at = λ x. x }, (Num.vFld 8 (List._∷_ (Syntax.field 3) List.[]) 24 λ x. Line.struct .as-values x .1 .1 .1 .0, (record { pos = 9; st = List.[]; d = 0; at = λ x. x }, tt)))))) 18 (List._∷_ 2 List.[]) (Call.sub-id 𝓤 H A W (G25 .slots)) (Reads'.as-is 𝓤 H A (Mut.mslice KeptElem.R (Syntax.tyRef Syntax.erased Syntax.mut KeptElem.behind) 2), Mut.reads-mslice 𝓤 H A W KeptElem.R (Syntax.tyRef Syntax.erased Syntax.mut KeptElem.behind) 2, Path'.refl, ((RScalar.reads-sc 𝓤 H A W (Row.sInt Syntax.w64), Path'.refl), ((RScalar.reads-sc 𝓤 H A W (Row.sInt Syntax.w64), Path'.refl), ((Yields.yields-copy 𝓤 H A W (λ ρ. Unit) (Declared.row Where.the-type) Path'.refl (TCopies.cEnum Where.the-type Laws'9.the-laws Laws'9.the-copy .copy 𝓤 H A W) (Rows.whole (Declared.row Where.the-type)) (λ x. x) (λ x. x) (λ ρ told. RLocal.mem-whole 𝓤 H A W (Declared.row Where.the-type) ρ) λ ρ told. RLocal.whole-mem 𝓤 H A W (Declared.row Where.the-type) ρ, Path'.refl), ((Reads.reads-field 𝓤 H A W Line.the-type Laws'10.the-laws 3 (Syntax.tyInt Syntax.w64) 24 Path'.refl, Path'.refl), ((Yields.yields-copy 𝓤 H A W (λ ρ. Unit) (Declared'.row Step.the-type) Path'.refl (TCopies.cStruct Step.the-type Laws'8.the-laws Laws'8.the-copy .copy 𝓤 H A W) (Rows.whole (Declared'.row Step.the-type)) (λ x. x) (λ x. x) (λ ρ told. RLocal.mem-whole 𝓤 H A W (Declared'.row Step.the-type) ρ) λ ρ told. RLocal.whole-mem 𝓤 H A W (Declared'.row Step.the-type) ρ, Path'.refl), tt)))))) (Reads'.room-gone 𝓤 H A Syntax.tyUnit) (tt, tt) Path'.refl) d59
+          d60 = Typed.s-seq 𝓤 H A W 𝓣 E G25 G26 b17 b41 Δ3 (Typed.both s22) at59 (Plain.t-call-plain 𝓤 H A W 𝓣 1 ps·3 r·3 (claims· .6) (claims· .7) "kept::keep" (known .3) E (λ pos β. β) G25 (record { pos = 20; ty = Syntax.tyRef Syntax.erased Syntax.mut KeptElem.behind; ref = λ x. x }, (Num.vAt 7 λ x. x, (Num.vAt 6 λ x. x, (record { pos = 5; st = List.[]; d = 0; at = λ x. x }, (Num.vFld 8 (List._∷_ (Syntax.field 3) List.[]) 24 λ x. Line.struct .as-values x .1 .1 .1 .0, (record { pos = 9; st = List.[]; d = 0; at = λ x. x }, tt)))))) 18 (List._∷_ 2 List.[]) (Call.sub-id 𝓤 H A W (G25 .slots)) (Reads'.as-is 𝓤 H A (Mut.mslice KeptElem.R (Syntax.tyRef Syntax.erased Syntax.mut KeptElem.behind) 2), Mut.reads-mslice 𝓤 H A W KeptElem.R (Syntax.tyRef Syntax.erased Syntax.mut KeptElem.behind) 2, Path'.refl, ((RScalar.reads-sc 𝓤 H A W (Row.sInt Syntax.w64), Path'.refl), ((RScalar.reads-sc 𝓤 H A W (Row.sInt Syntax.w64), Path'.refl), ((Yields.yields-copy 𝓤 H A W (λ ρ. Unit) (Declared.row Where.the-type) Path'.refl (TCopies.cEnum Where.the-type Laws'7.the-laws Laws'7.the-copy .copy 𝓤 H A W) (Rows.whole (Declared.row Where.the-type)) (λ x. x) (λ x. x) (λ ρ told. RLocal.mem-whole 𝓤 H A W (Declared.row Where.the-type) ρ) λ ρ told. RLocal.whole-mem 𝓤 H A W (Declared.row Where.the-type) ρ, Path'.refl), ((Reads.reads-field 𝓤 H A W Line.the-type Laws'8.the-laws 3 (Syntax.tyInt Syntax.w64) 24 Path'.refl, Path'.refl), ((Yields.yields-copy 𝓤 H A W (λ ρ. Unit) (Declared'.row Step.the-type) Path'.refl (TCopies.cStruct Step.the-type Laws'6.the-laws Laws'6.the-copy .copy 𝓤 H A W) (Rows.whole (Declared'.row Step.the-type)) (λ x. x) (λ x. x) (λ ρ told. RLocal.mem-whole 𝓤 H A W (Declared'.row Step.the-type) ρ) λ ρ told. RLocal.whole-mem 𝓤 H A W (Declared'.row Step.the-type) ρ, Path'.refl), tt)))))) (Reads'.room-gone 𝓤 H A Syntax.tyUnit) (tt, tt) Path'.refl) d59
 
           d61 : Typed.Typed 𝓤 H A 𝓣 E G24 b43 Δ3 at61
           d61 = Typed.s-seq 𝓤 H A W 𝓣 E G24 G25 b16 b42 Δ3 (Typed.ask s21) at60 (Relend.t-sl-aggregate 𝓤 H A W E KeptElem.R 𝓣 (Relend.asMut KeptElem.R) G24 19 20 2 (Syntax.tyRef Syntax.erased Syntax.mut KeptElem.behind) (Syntax.tyRef Syntax.erased Syntax.mut KeptElem.behind) (λ x. x) (RScalar.oFld 2 (List._∷_ (Syntax.field 1) List.[]) (Syntax.tyInt Syntax.w64) 8 λ v. SShared.lenV (v .0)) (Reads'.as-is 𝓤 H A (Relend.msptr KeptElem.R (Syntax.tyRef Syntax.erased Syntax.mut KeptElem.behind) 2)) (Reads'.room-gone 𝓤 H A (Syntax.tyStruct (List._∷_ 38 (List._∷_ 91 (List._∷_ 93 List.[]))) (Syntax.tcons (Syntax.tyRef Syntax.erased Syntax.mut KeptElem.behind) (Syntax.tcons (Syntax.tyInt Syntax.w64) Syntax.tnil)))) (Relend.reads-owed-len 𝓤 H A W KeptElem.R (Syntax.tyRef (Syntax.named 1) Syntax.mut KeptElem.behind) 1 2 (Row.lease (κs .1 .0) (qs .1 .0)) 8 Path'.refl, Path'.refl) Path'.refl Path'.refl λ b o k. tt) d60
@@ -1915,13 +1915,13 @@ module _ (claims· : Claims) where
           d63 = Typed.g-pre 𝓤 H A W 𝓣 E G22 G23 b44 Δ3 (λ Ψ. Ψ) at62 (Lifetime.g-begin 𝓤 H A W E G22 2 (tt, (tt, (tt, (tt, (tt, (tt, (tt, (tt, (tt, (tt, (tt, (tt, (tt, (tt, (tt, (tt, (tt, (tt, (tt, (tt, (tt, (tt, (tt, tt)))))))))))))))))))))))) d62
 
           d64 : Typed.Typed 𝓤 H A 𝓣 E G21 b45 Δ3 at64
-          d64 = Typed.s-seq 𝓤 H A W 𝓣 E G21 G22 b14 b44 Δ3 (Typed.pass T21 T22 s18) at63 (CopyOut.t-copy-told 𝓤 H A W E 𝓣 (Declared.row Where.the-type) Path'.refl (Laws'11.val Where.the-type Laws'9.the-laws) (Laws'11.lawful Where.the-type Laws'9.the-laws 𝓤 H A W tt) (Laws'11.makes Where.the-type Laws'9.the-plain 𝓤 H A) G21 11 (RScalar.oFld 9 (List._∷_ (Syntax.field 1) List.[]) τ2 64 λ x. Laws'11.val Where.the-type Laws'9.the-laws (Step.struct .as-values x .1 .0)) (λ m. Step.struct .as-values (m .1 .1 .1 .1 .1 .1 .1 .1 .1 .0) .1 .0) (λ m. Laws'12.Is (Declared'.row Step.the-type) (m .1 .1 .1 .1 .1 .1 .1 .1 .1 .0) (Laws'13.vals Step.the-type Laws'8.the-laws (m .1 .1 .1 .1 .1 .1 .1 .1 .1 .0))) (Reads'.room-gone 𝓤 H A τ2) (Reads.reads-field 𝓤 H A W Step.the-type Laws'8.the-laws 1 τ2 64 Path'.refl, Path'.refl) Path'.refl (λ ρ m. Make'.tells-row 𝓤 H A W E ρ (Row.out 11 (G21 .locals)) m 9 (Laws'12.Is (Declared'.row Step.the-type) (m .1 .1 .1 .1 .1 .1 .1 .1 .1 .0) (Laws'13.vals Step.the-type Laws'8.the-laws (m .1 .1 .1 .1 .1 .1 .1 .1 .1 .0))) (Make'.whole-is 𝓤 H A W E (Declared'.row Step.the-type) Path'.refl (Laws'13.val Step.the-type Laws'8.the-laws) (Laws'13.tells Step.the-type Laws'8.the-laws) ρ 9 (m .1 .1 .1 .1 .1 .1 .1 .1 .1 .0))) (λ m k wa. Path'.refl) λ m k wa. Laws'13.owed Step.the-type Laws'8.the-laws (m .1 .1 .1 .1 .1 .1 .1 .1 .1 .0) (Laws'13.vals Step.the-type Laws'8.the-laws (m .1 .1 .1 .1 .1 .1 .1 .1 .1 .0)) k .1 .0) d63
+          d64 = Typed.s-seq 𝓤 H A W 𝓣 E G21 G22 b14 b44 Δ3 (Typed.pass T21 T22 s18) at63 (CopyOut.t-copy-told 𝓤 H A W E 𝓣 (Declared.row Where.the-type) Path'.refl (Laws'11.val Where.the-type Laws'7.the-laws) (Laws'11.lawful Where.the-type Laws'7.the-laws 𝓤 H A W tt) (Laws'11.makes Where.the-type Laws'7.the-plain 𝓤 H A) G21 11 (RScalar.oFld 9 (List._∷_ (Syntax.field 1) List.[]) τ2 64 λ x. Laws'11.val Where.the-type Laws'7.the-laws (Step.struct .as-values x .1 .0)) (λ m. Step.struct .as-values (m .1 .1 .1 .1 .1 .1 .1 .1 .1 .0) .1 .0) (λ m. Laws'12.Is (Declared'.row Step.the-type) (m .1 .1 .1 .1 .1 .1 .1 .1 .1 .0) (Laws'13.vals Step.the-type Laws'6.the-laws (m .1 .1 .1 .1 .1 .1 .1 .1 .1 .0))) (Reads'.room-gone 𝓤 H A τ2) (Reads.reads-field 𝓤 H A W Step.the-type Laws'6.the-laws 1 τ2 64 Path'.refl, Path'.refl) Path'.refl (λ ρ m. Make'.tells-row 𝓤 H A W E ρ (Row.out 11 (G21 .locals)) m 9 (Laws'12.Is (Declared'.row Step.the-type) (m .1 .1 .1 .1 .1 .1 .1 .1 .1 .0) (Laws'13.vals Step.the-type Laws'6.the-laws (m .1 .1 .1 .1 .1 .1 .1 .1 .1 .0))) (Make'.whole-is 𝓤 H A W E (Declared'.row Step.the-type) Path'.refl (Laws'13.val Step.the-type Laws'6.the-laws) (Laws'13.tells Step.the-type Laws'6.the-laws) ρ 9 (m .1 .1 .1 .1 .1 .1 .1 .1 .1 .0))) (λ m k wa. Path'.refl) λ m k wa. Laws'13.owed Step.the-type Laws'6.the-laws (m .1 .1 .1 .1 .1 .1 .1 .1 .1 .0) (Laws'13.vals Step.the-type Laws'6.the-laws (m .1 .1 .1 .1 .1 .1 .1 .1 .1 .0)) k .1 .0) d63
 
           d65 : Typed.Typed 𝓤 H A 𝓣 E G20 b46 Δ3 at65
-          d65 = Typed.s-seq 𝓤 H A W 𝓣 E G20 G21 b13 b45 Δ3 (Typed.pass T20 T21 s17) at64 (CopyOut.t-copy-told 𝓤 H A W E 𝓣 (Declared.row Role.the-type) Path'.refl (Laws'11.val Role.the-type Laws'6.the-laws) (Laws'11.lawful Role.the-type Laws'6.the-laws 𝓤 H A W tt) (Laws'11.makes Role.the-type Laws'6.the-plain 𝓤 H A) G20 10 (RScalar.oFld 9 (List._∷_ (Syntax.field 0) List.[]) τ5 0 λ x. Laws'11.val Role.the-type Laws'6.the-laws (Step.struct .as-values x .0)) (λ m. Step.struct .as-values (m .1 .1 .1 .1 .1 .1 .1 .1 .1 .0) .0) (λ m. Laws'12.Is (Declared'.row Step.the-type) (m .1 .1 .1 .1 .1 .1 .1 .1 .1 .0) (Laws'13.vals Step.the-type Laws'8.the-laws (m .1 .1 .1 .1 .1 .1 .1 .1 .1 .0))) (Reads'.room-gone 𝓤 H A τ5) (Reads.reads-field 𝓤 H A W Step.the-type Laws'8.the-laws 0 τ5 0 Path'.refl, Path'.refl) Path'.refl (λ ρ m. Make'.tells-row 𝓤 H A W E ρ (Row.out 10 (G20 .locals)) m 9 (Laws'12.Is (Declared'.row Step.the-type) (m .1 .1 .1 .1 .1 .1 .1 .1 .1 .0) (Laws'13.vals Step.the-type Laws'8.the-laws (m .1 .1 .1 .1 .1 .1 .1 .1 .1 .0))) (Make'.whole-is 𝓤 H A W E (Declared'.row Step.the-type) Path'.refl (Laws'13.val Step.the-type Laws'8.the-laws) (Laws'13.tells Step.the-type Laws'8.the-laws) ρ 9 (m .1 .1 .1 .1 .1 .1 .1 .1 .1 .0))) (λ m k wa. Path'.refl) λ m k wa. Laws'13.owed Step.the-type Laws'8.the-laws (m .1 .1 .1 .1 .1 .1 .1 .1 .1 .0) (Laws'13.vals Step.the-type Laws'8.the-laws (m .1 .1 .1 .1 .1 .1 .1 .1 .1 .0)) k .0) d64
+          d65 = Typed.s-seq 𝓤 H A W 𝓣 E G20 G21 b13 b45 Δ3 (Typed.pass T20 T21 s17) at64 (CopyOut.t-copy-told 𝓤 H A W E 𝓣 (Declared.row Role.the-type) Path'.refl (Laws'11.val Role.the-type Laws'4.the-laws) (Laws'11.lawful Role.the-type Laws'4.the-laws 𝓤 H A W tt) (Laws'11.makes Role.the-type Laws'4.the-plain 𝓤 H A) G20 10 (RScalar.oFld 9 (List._∷_ (Syntax.field 0) List.[]) τ5 0 λ x. Laws'11.val Role.the-type Laws'4.the-laws (Step.struct .as-values x .0)) (λ m. Step.struct .as-values (m .1 .1 .1 .1 .1 .1 .1 .1 .1 .0) .0) (λ m. Laws'12.Is (Declared'.row Step.the-type) (m .1 .1 .1 .1 .1 .1 .1 .1 .1 .0) (Laws'13.vals Step.the-type Laws'6.the-laws (m .1 .1 .1 .1 .1 .1 .1 .1 .1 .0))) (Reads'.room-gone 𝓤 H A τ5) (Reads.reads-field 𝓤 H A W Step.the-type Laws'6.the-laws 0 τ5 0 Path'.refl, Path'.refl) Path'.refl (λ ρ m. Make'.tells-row 𝓤 H A W E ρ (Row.out 10 (G20 .locals)) m 9 (Laws'12.Is (Declared'.row Step.the-type) (m .1 .1 .1 .1 .1 .1 .1 .1 .1 .0) (Laws'13.vals Step.the-type Laws'6.the-laws (m .1 .1 .1 .1 .1 .1 .1 .1 .1 .0))) (Make'.whole-is 𝓤 H A W E (Declared'.row Step.the-type) Path'.refl (Laws'13.val Step.the-type Laws'6.the-laws) (Laws'13.tells Step.the-type Laws'6.the-laws) ρ 9 (m .1 .1 .1 .1 .1 .1 .1 .1 .1 .0))) (λ m k wa. Path'.refl) λ m k wa. Laws'13.owed Step.the-type Laws'6.the-laws (m .1 .1 .1 .1 .1 .1 .1 .1 .1 .0) (Laws'13.vals Step.the-type Laws'6.the-laws (m .1 .1 .1 .1 .1 .1 .1 .1 .1 .0)) k .0) d64
 
           d66 : Typed.Typed 𝓤 H A 𝓣 E G19 b47 Δ3 at66
-          d66 = Typed.s-seq 𝓤 H A W 𝓣 E G19 G20 b12 b46 Δ3 (Typed.both s16) at65 (Plain.t-call-plain 𝓤 H A W 𝓣 1 ps·2 r·2 (claims· .4) (claims· .5) "roles::steps::step" (known .2) E (λ pos β. β) G19 (record { pos = 1; ty = Syntax.tyRef (Syntax.named 0) Syntax.imm (Syntax.tyInt Syntax.w8); ref = λ x. x }, (record { pos = 5; st = List.[]; d = 0; at = λ x. x }, (record { pos = 8; st = List.[]; d = 0; at = λ x. x }, tt))) 9 (List._∷_ 0 List.[]) (Call.sub-id 𝓤 H A W (G19 .slots)) (ShrSlice.spares-sslice 𝓤 H A W (TReferent.rtF (TReferent.fInt Syntax.w8)) (Syntax.tyRef (Syntax.named 0) Syntax.imm (Syntax.tyInt Syntax.w8)) 0, SShared.reads-sslice 𝓤 H A W (TReferent.rtF (TReferent.fInt Syntax.w8)) (Syntax.tyRef (Syntax.named 0) Syntax.imm (Syntax.tyInt Syntax.w8)) 0, Path'.refl, ((Yields.yields-copy 𝓤 H A W (λ ρ. Unit) (Declared.row Where.the-type) Path'.refl (TCopies.cEnum Where.the-type Laws'9.the-laws Laws'9.the-copy .copy 𝓤 H A W) (Rows.whole (Declared.row Where.the-type)) (λ x. x) (λ x. x) (λ ρ told. RLocal.mem-whole 𝓤 H A W (Declared.row Where.the-type) ρ) λ ρ told. RLocal.whole-mem 𝓤 H A W (Declared.row Where.the-type) ρ, Path'.refl), ((Yields.yields-copy 𝓤 H A W (λ ρ. Unit) (Declared'.row Line.the-type) Path'.refl (TCopies.cStruct Line.the-type Laws'10.the-laws Laws'10.the-copy .copy 𝓤 H A W) (Rows.whole (Declared'.row Line.the-type)) (λ x. x) (λ x. x) (λ ρ told. RLocal.mem-whole 𝓤 H A W (Declared'.row Line.the-type) ρ) λ ρ told. RLocal.whole-mem 𝓤 H A W (Declared'.row Line.the-type) ρ, Path'.refl), tt))) (Reads'.room-gone 𝓤 H A τ4) (tt, tt) Path'.refl) d65
+          d66 = Typed.s-seq 𝓤 H A W 𝓣 E G19 G20 b12 b46 Δ3 (Typed.both s16) at65 (Plain.t-call-plain 𝓤 H A W 𝓣 1 ps·2 r·2 (claims· .4) (claims· .5) "roles::steps::step" (known .2) E (λ pos β. β) G19 (record { pos = 1; ty = Syntax.tyRef (Syntax.named 0) Syntax.imm (Syntax.tyInt Syntax.w8); ref = λ x. x }, (record { pos = 5; st = List.[]; d = 0; at = λ x. x }, (record { pos = 8; st = List.[]; d = 0; at = λ x. x }, tt))) 9 (List._∷_ 0 List.[]) (Call.sub-id 𝓤 H A W (G19 .slots)) (ShrSlice.spares-sslice 𝓤 H A W (TReferent.rtF (TReferent.fInt Syntax.w8)) (Syntax.tyRef (Syntax.named 0) Syntax.imm (Syntax.tyInt Syntax.w8)) 0, SShared.reads-sslice 𝓤 H A W (TReferent.rtF (TReferent.fInt Syntax.w8)) (Syntax.tyRef (Syntax.named 0) Syntax.imm (Syntax.tyInt Syntax.w8)) 0, Path'.refl, ((Yields.yields-copy 𝓤 H A W (λ ρ. Unit) (Declared.row Where.the-type) Path'.refl (TCopies.cEnum Where.the-type Laws'7.the-laws Laws'7.the-copy .copy 𝓤 H A W) (Rows.whole (Declared.row Where.the-type)) (λ x. x) (λ x. x) (λ ρ told. RLocal.mem-whole 𝓤 H A W (Declared.row Where.the-type) ρ) λ ρ told. RLocal.whole-mem 𝓤 H A W (Declared.row Where.the-type) ρ, Path'.refl), ((Yields.yields-copy 𝓤 H A W (λ ρ. Unit) (Declared'.row Line.the-type) Path'.refl (TCopies.cStruct Line.the-type Laws'8.the-laws Laws'8.the-copy .copy 𝓤 H A W) (Rows.whole (Declared'.row Line.the-type)) (λ x. x) (λ x. x) (λ ρ told. RLocal.mem-whole 𝓤 H A W (Declared'.row Line.the-type) ρ) λ ρ told. RLocal.whole-mem 𝓤 H A W (Declared'.row Line.the-type) ρ, Path'.refl), tt))) (Reads'.room-gone 𝓤 H A τ4) (tt, tt) Path'.refl) d65
 
           d67 : Typed.Typed 𝓤 H A 𝓣 E G14 b48 Δ3 at67
           d67 = Typed.s-seq 𝓤 H A W 𝓣 E G14 G19 b11 b47 Δ3 (Typed.both s15) at66 (Plain.t-call-plain 𝓤 H A W 𝓣 1 ps·1 r·1 (claims· .2) (claims· .3) "text::lines::line_at" (known .1) E (λ pos β. β) G14 (record { pos = 1; ty = Syntax.tyRef (Syntax.named 0) Syntax.imm (Syntax.tyInt Syntax.w8); ref = λ x. x }, (Num.vAt 6 λ x. x, (Num.vAt 7 λ x. x, tt))) 8 (List._∷_ 0 List.[]) (Call.sub-id 𝓤 H A W (G14 .slots)) (ShrSlice.spares-sslice 𝓤 H A W (TReferent.rtF (TReferent.fInt Syntax.w8)) (Syntax.tyRef (Syntax.named 0) Syntax.imm (Syntax.tyInt Syntax.w8)) 0, SShared.reads-sslice 𝓤 H A W (TReferent.rtF (TReferent.fInt Syntax.w8)) (Syntax.tyRef (Syntax.named 0) Syntax.imm (Syntax.tyInt Syntax.w8)) 0, Path'.refl, ((RScalar.reads-sc 𝓤 H A W (Row.sInt Syntax.w64), Path'.refl), ((RScalar.reads-sc 𝓤 H A W (Row.sInt Syntax.w64), Path'.refl), tt))) (Reads'.room-gone 𝓤 H A τ3) (tt, tt) Path'.refl) d66
@@ -1957,7 +1957,7 @@ module _ (claims· : Claims) where
           d77 = Typed.g-pre 𝓤 H A W 𝓣 E G83 G84 b56 Δ0 (Typed.pass T83 T84 s79) at76 (RScalar.g-room 𝓤 H A W E G83 6 (Syntax.tyInt Syntax.w64) (RScalar.room-sc 𝓤 H A W (Row.sInt Syntax.w64))) d76
 
           d78 : Typed.Typed 𝓤 H A 𝓣 E G82 b57 Δ0 at78
-          d78 = Typed.s-seq 𝓤 H A W 𝓣 E G82 G83 b55 b56 Δ0 (Typed.pass T82 T83 s78) at77 (Make.t-enum-make-wt 𝓤 H A W E 𝓣 Measured.the-type Laws.the-laws Laws.the-plain tt G82 0 (List._∷_ (RScalar.oInt Syntax.w8 1) (List._∷_ (RScalar.oAt 22 τ0 (Laws'13.val Counts.the-type Laws'3.the-laws)) List.[])) (λ m. Measured.enum .make (Logic.inr (Logic.inl (m .1 .1 .1 .1 .1 .1 .1 .1 .1 .1 .1 .1 .1 .1 .1 .1 .1 .1 .1 .1 .1 .1 .0, tt)))) (Reads'.room-gone 𝓤 H A τ10) (tt, ((Reads.reads-struct 𝓤 H A W Counts.the-type Laws'3.the-laws, Path'.refl), tt)) Path'.refl (λ m wa. Make.made-val Measured.the-type Laws.the-laws (List._∷_ (Laws'13.val Counts.the-type Laws'3.the-laws (m .1 .1 .1 .1 .1 .1 .1 .1 .1 .1 .1 .1 .1 .1 .1 .1 .1 .1 .1 .1 .1 .1 .0)) List.[]) (Measured.enum .make (Logic.inr (Logic.inl (m .1 .1 .1 .1 .1 .1 .1 .1 .1 .1 .1 .1 .1 .1 .1 .1 .1 .1 .1 .1 .1 .1 .0, tt)))) (Signed.made-wt Counts.the-field Laws'3.the-field-laws (Make'.struct-wt Counts.the-type Laws'3.the-laws (Make'.u64-wt, (Make'.u64-wt, (Make'.u64-wt, (Make'.u64-wt, tt))))) (Counts.the-type .to (m .1 .1 .1 .1 .1 .1 .1 .1 .1 .1 .1 .1 .1 .1 .1 .1 .1 .1 .1 .1 .1 .1 .0)), tt) (wa .1)) λ m wa. Make.made-is Measured.the-type Laws.the-laws (List._∷_ (Laws'13.val Counts.the-type Laws'3.the-laws (m .1 .1 .1 .1 .1 .1 .1 .1 .1 .1 .1 .1 .1 .1 .1 .1 .1 .1 .1 .1 .1 .1 .0)) List.[]) (Measured.enum .make (Logic.inr (Logic.inl (m .1 .1 .1 .1 .1 .1 .1 .1 .1 .1 .1 .1 .1 .1 .1 .1 .1 .1 .1 .1 .1 .1 .0, tt)))) (Signed.made-wt Counts.the-field Laws'3.the-field-laws (Make'.struct-wt Counts.the-type Laws'3.the-laws (Make'.u64-wt, (Make'.u64-wt, (Make'.u64-wt, (Make'.u64-wt, tt))))) (Counts.the-type .to (m .1 .1 .1 .1 .1 .1 .1 .1 .1 .1 .1 .1 .1 .1 .1 .1 .1 .1 .1 .1 .1 .1 .0)), tt) (wa .1)) d77
+          d78 = Typed.s-seq 𝓤 H A W 𝓣 E G82 G83 b55 b56 Δ0 (Typed.pass T82 T83 s78) at77 (Make.t-enum-make-wt 𝓤 H A W E 𝓣 Measured.the-type Laws.the-laws Laws.the-plain tt G82 0 (List._∷_ (RScalar.oInt Syntax.w8 1) (List._∷_ (RScalar.oAt 22 τ0 (Laws'13.val Counts.the-type Laws'.the-laws)) List.[])) (λ m. Measured.enum .make (Logic.inr (Logic.inl (m .1 .1 .1 .1 .1 .1 .1 .1 .1 .1 .1 .1 .1 .1 .1 .1 .1 .1 .1 .1 .1 .1 .0, tt)))) (Reads'.room-gone 𝓤 H A τ10) (tt, ((Reads.reads-struct 𝓤 H A W Counts.the-type Laws'.the-laws, Path'.refl), tt)) Path'.refl (λ m wa. Make.made-val Measured.the-type Laws.the-laws (List._∷_ (Laws'13.val Counts.the-type Laws'.the-laws (m .1 .1 .1 .1 .1 .1 .1 .1 .1 .1 .1 .1 .1 .1 .1 .1 .1 .1 .1 .1 .1 .1 .0)) List.[]) (Measured.enum .make (Logic.inr (Logic.inl (m .1 .1 .1 .1 .1 .1 .1 .1 .1 .1 .1 .1 .1 .1 .1 .1 .1 .1 .1 .1 .1 .1 .0, tt)))) (Signed.made-wt Counts.the-field Laws'.the-field-laws (Make'.struct-wt Counts.the-type Laws'.the-laws (Make'.u64-wt, (Make'.u64-wt, (Make'.u64-wt, (Make'.u64-wt, tt))))) (Counts.the-type .to (m .1 .1 .1 .1 .1 .1 .1 .1 .1 .1 .1 .1 .1 .1 .1 .1 .1 .1 .1 .1 .1 .1 .0)), tt) (wa .1)) λ m wa. Make.made-is Measured.the-type Laws.the-laws (List._∷_ (Laws'13.val Counts.the-type Laws'.the-laws (m .1 .1 .1 .1 .1 .1 .1 .1 .1 .1 .1 .1 .1 .1 .1 .1 .1 .1 .1 .1 .1 .1 .0)) List.[]) (Measured.enum .make (Logic.inr (Logic.inl (m .1 .1 .1 .1 .1 .1 .1 .1 .1 .1 .1 .1 .1 .1 .1 .1 .1 .1 .1 .1 .1 .1 .0, tt)))) (Signed.made-wt Counts.the-field Laws'.the-field-laws (Make'.struct-wt Counts.the-type Laws'.the-laws (Make'.u64-wt, (Make'.u64-wt, (Make'.u64-wt, (Make'.u64-wt, tt))))) (Counts.the-type .to (m .1 .1 .1 .1 .1 .1 .1 .1 .1 .1 .1 .1 .1 .1 .1 .1 .1 .1 .1 .1 .1 .1 .0)), tt) (wa .1)) d77
 
           d79 : Typed.Typed 𝓤 H A 𝓣 E G81 b57 Δ0 at79
           d79 = Typed.g-pre 𝓤 H A W 𝓣 E G81 G82 b57 Δ0 (Typed.pass T81 T82 s77) at78 (RScalar.g-room 𝓤 H A W E G81 4 τ1 (RLocal.room-whole 𝓤 H A W (Declared'.row Open.the-type) τ1 Path'.refl)) d78
@@ -1966,7 +1966,7 @@ module _ (claims· : Claims) where
           d80 = Typed.g-pre 𝓤 H A W 𝓣 E G80 G81 b57 Δ0 (Typed.pass T80 T81 s76) at79 (RScalar.g-room 𝓤 H A W E G80 3 τ0 (RLocal.room-whole 𝓤 H A W (Declared'.row Counts.the-type) τ0 Path'.refl)) d79
 
           d81 : Typed.Typed 𝓤 H A 𝓣 E G10 b58 Δ0 at81
-          d81 = Typed.s-seq 𝓤 H A W 𝓣 E G10 G80 b54 b57 Δ0 (Typed.both s75) at80 (Plain.t-call-plain 𝓤 H A W 𝓣 0 ps·8 r·8 (claims· .16) (claims· .17) "parse::measure::close_on" (known .8) E (λ pos β. β) G10 (record { pos = 3; st = List.[]; d = 0; at = λ x. x }, (record { pos = 4; st = List.[]; d = 0; at = λ x. x }, tt)) 22 List.[] (Call.sub-id 𝓤 H A W (G10 .slots)) ((Yields.yields-copy 𝓤 H A W (λ ρ. Unit) (Declared'.row Counts.the-type) Path'.refl (TCopies.cStruct Counts.the-type Laws'3.the-laws Laws'3.the-copy .copy 𝓤 H A W) (Rows.whole (Declared'.row Counts.the-type)) (λ x. x) (λ x. x) (λ ρ told. RLocal.mem-whole 𝓤 H A W (Declared'.row Counts.the-type) ρ) λ ρ told. RLocal.whole-mem 𝓤 H A W (Declared'.row Counts.the-type) ρ, Path'.refl), ((Yields.yields-copy 𝓤 H A W (λ ρ. Unit) (Declared'.row Open.the-type) Path'.refl (TCopies.cStruct Open.the-type Laws'.the-laws Laws'.the-copy .copy 𝓤 H A W) (Rows.whole (Declared'.row Open.the-type)) (λ x. x) (λ x. x) (λ ρ told. RLocal.mem-whole 𝓤 H A W (Declared'.row Open.the-type) ρ) λ ρ told. RLocal.whole-mem 𝓤 H A W (Declared'.row Open.the-type) ρ, Path'.refl), tt)) (Reads'.room-gone 𝓤 H A τ0) tt Path'.refl) d80
+          d81 = Typed.s-seq 𝓤 H A W 𝓣 E G10 G80 b54 b57 Δ0 (Typed.both s75) at80 (Plain.t-call-plain 𝓤 H A W 𝓣 0 ps·8 r·8 (claims· .16) (claims· .17) "totals::close_on" (known .8) E (λ pos β. β) G10 (record { pos = 3; st = List.[]; d = 0; at = λ x. x }, (record { pos = 4; st = List.[]; d = 0; at = λ x. x }, tt)) 22 List.[] (Call.sub-id 𝓤 H A W (G10 .slots)) ((Yields.yields-copy 𝓤 H A W (λ ρ. Unit) (Declared'.row Counts.the-type) Path'.refl (TCopies.cStruct Counts.the-type Laws'.the-laws Laws'.the-copy .copy 𝓤 H A W) (Rows.whole (Declared'.row Counts.the-type)) (λ x. x) (λ x. x) (λ ρ told. RLocal.mem-whole 𝓤 H A W (Declared'.row Counts.the-type) ρ) λ ρ told. RLocal.whole-mem 𝓤 H A W (Declared'.row Counts.the-type) ρ, Path'.refl), ((Yields.yields-copy 𝓤 H A W (λ ρ. Unit) (Declared'.row Open.the-type) Path'.refl (TCopies.cStruct Open.the-type Laws'9.the-laws Laws'9.the-copy .copy 𝓤 H A W) (Rows.whole (Declared'.row Open.the-type)) (λ x. x) (λ x. x) (λ ρ told. RLocal.mem-whole 𝓤 H A W (Declared'.row Open.the-type) ρ) λ ρ told. RLocal.whole-mem 𝓤 H A W (Declared'.row Open.the-type) ρ, Path'.refl), tt)) (Reads'.room-gone 𝓤 H A τ0) tt Path'.refl) d80
 
           d82 : Typed.Typed 𝓤 H A 𝓣 E G9 b59 Δ0 at82
           d82 = Typed.t-seq 𝓤 H A W 𝓣 E G9 G10 b53 b58 Δ0 at73 at81 d73 d81
@@ -1978,19 +1978,19 @@ module _ (claims· : Claims) where
           d84 = Typed.s-seq 𝓤 H A W 𝓣 E G7 G8 b4 b60 Δ0 (Typed.pass T7 T8 s6) at83 (RScalar.t-use 𝓤 H A W E 𝓣 G7 (RScalar.oInt Syntax.w64 0) 6 (Rows.sc-here (Row.sInt Syntax.w64)) (Syntax.tyInt Syntax.w64) (Row.valS (Row.sInt Syntax.w64)) (Row.sInt Syntax.w64 .of) tt (Reads'.room-gone 𝓤 H A (Syntax.tyInt Syntax.w64)) (RScalar.holds-sc 𝓤 H A W (Row.sInt Syntax.w64)) Path'.refl (λ u. Path'.refl) λ u. tt) d83
 
           d85 : Typed.Typed 𝓤 H A 𝓣 E G6 b62 Δ0 at85
-          d85 = Typed.s-seq 𝓤 H A W 𝓣 E G6 G7 b3 b61 Δ0 (Typed.pass T6 T7 s5) at84 (Make.t-enum-make-wt 𝓤 H A W E 𝓣 Where.the-type Laws'9.the-laws Laws'9.the-plain tt G6 5 (List._∷_ (RScalar.oInt Syntax.w8 0) List.[]) (λ m. Where.enum .make (Logic.inl tt)) (Reads'.room-gone 𝓤 H A τ2) (tt, tt) Path'.refl (λ m wa. Make.made-val Where.the-type Laws'9.the-laws List.[] (Where.enum .make (Logic.inl tt)) tt (wa .1)) λ m wa. Make.made-is Where.the-type Laws'9.the-laws List.[] (Where.enum .make (Logic.inl tt)) tt (wa .1)) d84
+          d85 = Typed.s-seq 𝓤 H A W 𝓣 E G6 G7 b3 b61 Δ0 (Typed.pass T6 T7 s5) at84 (Make.t-enum-make-wt 𝓤 H A W E 𝓣 Where.the-type Laws'7.the-laws Laws'7.the-plain tt G6 5 (List._∷_ (RScalar.oInt Syntax.w8 0) List.[]) (λ m. Where.enum .make (Logic.inl tt)) (Reads'.room-gone 𝓤 H A τ2) (tt, tt) Path'.refl (λ m wa. Make.made-val Where.the-type Laws'7.the-laws List.[] (Where.enum .make (Logic.inl tt)) tt (wa .1)) λ m wa. Make.made-is Where.the-type Laws'7.the-laws List.[] (Where.enum .make (Logic.inl tt)) tt (wa .1)) d84
 
           d86 : Typed.Typed 𝓤 H A 𝓣 E G5 b62 Δ0 at86
           d86 = Typed.g-pre 𝓤 H A W 𝓣 E G5 G6 b62 Δ0 (Typed.pass T5 T6 s4) at85 (RScalar.g-room 𝓤 H A W E G5 15 τ8 (RLocal.room-whole 𝓤 H A W (Declared.row What.the-type) τ8 Path'.refl)) d85
 
           d87 : Typed.Typed 𝓤 H A 𝓣 E G4 b63 Δ0 at87
-          d87 = Typed.s-seq 𝓤 H A W 𝓣 E G4 G5 b2 b62 Δ0 (Typed.both s3) at86 (Plain.t-call-plain 𝓤 H A W 𝓣 0 ps·0 r·0 (claims· .0) (claims· .1) "parse::measure::begin" (known .0) E (λ pos β. β) G4 (record { pos = 15; st = List.[]; d = 0; at = λ x. x }, (Num.vLit 0, tt)) 4 List.[] (Call.sub-id 𝓤 H A W (G4 .slots)) ((Yields.yields-copy 𝓤 H A W (λ ρ. Unit) (Declared.row What.the-type) Path'.refl (TCopies.cEnum What.the-type Laws''.the-laws Laws''.the-copy .copy 𝓤 H A W) (Rows.whole (Declared.row What.the-type)) (λ x. x) (λ x. x) (λ ρ told. RLocal.mem-whole 𝓤 H A W (Declared.row What.the-type) ρ) λ ρ told. RLocal.whole-mem 𝓤 H A W (Declared.row What.the-type) ρ, Path'.refl), (tt, tt)) (Reads'.room-gone 𝓤 H A τ1) tt Path'.refl) d86
+          d87 = Typed.s-seq 𝓤 H A W 𝓣 E G4 G5 b2 b62 Δ0 (Typed.both s3) at86 (Plain.t-call-plain 𝓤 H A W 𝓣 0 ps·0 r·0 (claims· .0) (claims· .1) "totals::begin" (known .0) E (λ pos β. β) G4 (record { pos = 15; st = List.[]; d = 0; at = λ x. x }, (Num.vLit 0, tt)) 4 List.[] (Call.sub-id 𝓤 H A W (G4 .slots)) ((Yields.yields-copy 𝓤 H A W (λ ρ. Unit) (Declared.row What.the-type) Path'.refl (TCopies.cEnum What.the-type Laws'10.the-laws Laws'10.the-copy .copy 𝓤 H A W) (Rows.whole (Declared.row What.the-type)) (λ x. x) (λ x. x) (λ ρ told. RLocal.mem-whole 𝓤 H A W (Declared.row What.the-type) ρ) λ ρ told. RLocal.whole-mem 𝓤 H A W (Declared.row What.the-type) ρ, Path'.refl), (tt, tt)) (Reads'.room-gone 𝓤 H A τ1) tt Path'.refl) d86
 
           d88 : Typed.Typed 𝓤 H A 𝓣 E G3 b64 Δ0 at88
-          d88 = Typed.s-seq 𝓤 H A W 𝓣 E G3 G4 b1 b63 Δ0 (Typed.pass T3 T4 s2) at87 (Make.t-enum-make-wt 𝓤 H A W E 𝓣 What.the-type Laws''.the-laws Laws''.the-plain tt G3 15 (List._∷_ (RScalar.oInt Syntax.w8 0) List.[]) (λ m. What.enum .make (Logic.inl tt)) (Reads'.room-gone 𝓤 H A τ8) (tt, tt) Path'.refl (λ m wa. Make.made-val What.the-type Laws''.the-laws List.[] (What.enum .make (Logic.inl tt)) tt (wa .1)) λ m wa. Make.made-is What.the-type Laws''.the-laws List.[] (What.enum .make (Logic.inl tt)) tt (wa .1)) d87
+          d88 = Typed.s-seq 𝓤 H A W 𝓣 E G3 G4 b1 b63 Δ0 (Typed.pass T3 T4 s2) at87 (Make.t-enum-make-wt 𝓤 H A W E 𝓣 What.the-type Laws'10.the-laws Laws'10.the-plain tt G3 15 (List._∷_ (RScalar.oInt Syntax.w8 0) List.[]) (λ m. What.enum .make (Logic.inl tt)) (Reads'.room-gone 𝓤 H A τ8) (tt, tt) Path'.refl (λ m wa. Make.made-val What.the-type Laws'10.the-laws List.[] (What.enum .make (Logic.inl tt)) tt (wa .1)) λ m wa. Make.made-is What.the-type Laws'10.the-laws List.[] (What.enum .make (Logic.inl tt)) tt (wa .1)) d87
 
           d89 : Typed.Typed 𝓤 H A 𝓣 E G2 b65 Δ0 at89
-          d89 = Typed.s-seq 𝓤 H A W 𝓣 E G2 G3 b0 b64 Δ0 (Typed.pass T2 T3 s1) at88 (Make'.t-struct-make 𝓤 H A W E 𝓣 (Apart.apartT Counts.the-type) Laws'3.the-laws Laws'3.the-plain G2 3 (List._∷_ (RScalar.oInt Syntax.w64 0) (List._∷_ (RScalar.oInt Syntax.w64 0) (List._∷_ (RScalar.oInt Syntax.w64 0) (List._∷_ (RScalar.oInt Syntax.w64 0) List.[])))) (λ m. (0, (0, (0, (0, tt))))) (Reads'.room-gone 𝓤 H A τ0) (tt, (tt, (tt, (tt, tt)))) Path'.refl (λ u. Path'.refl) λ m. Make'.is-wt (Apart.apartT Counts.the-type) Laws'3.the-laws (Make'.u64-wt, (Make'.u64-wt, (Make'.u64-wt, (Make'.u64-wt, tt)))) (0, (0, (0, (0, tt))))) d88
+          d89 = Typed.s-seq 𝓤 H A W 𝓣 E G2 G3 b0 b64 Δ0 (Typed.pass T2 T3 s1) at88 (Make'.t-struct-make 𝓤 H A W E 𝓣 (Apart.apartT Counts.the-type) Laws'.the-laws Laws'.the-plain G2 3 (List._∷_ (RScalar.oInt Syntax.w64 0) (List._∷_ (RScalar.oInt Syntax.w64 0) (List._∷_ (RScalar.oInt Syntax.w64 0) (List._∷_ (RScalar.oInt Syntax.w64 0) List.[])))) (λ m. (0, (0, (0, (0, tt))))) (Reads'.room-gone 𝓤 H A τ0) (tt, (tt, (tt, (tt, tt)))) Path'.refl (λ u. Path'.refl) λ m. Make'.is-wt (Apart.apartT Counts.the-type) Laws'.the-laws (Make'.u64-wt, (Make'.u64-wt, (Make'.u64-wt, (Make'.u64-wt, tt)))) (0, (0, (0, (0, tt))))) d88
 
           d90 : Typed.Typed 𝓤 H A 𝓣 E G0 b65 Δ0 at90
           d90 = Typed.g-pre 𝓤 H A W 𝓣 E G0 G2 b65 Δ0 (Typed.give s0) at89 (Know.g-shs-known 𝓤 H A W (TReferent.fInt Syntax.w8) E G0 1 0 (Syntax.tyRef (Syntax.named 0) Syntax.imm (Syntax.tyInt Syntax.w8)) (Row.lease (κs .0) (qs .0)) 0 (λ x. x) record { fits = Dec'.lit< tt } (Reads'.as-is 𝓤 H A (Rows.sslice (TReferent.rtF (TReferent.fInt Syntax.w8)) (Syntax.tyRef (Syntax.named 0) Syntax.imm (Syntax.tyInt Syntax.w8)) 0)) Path'.refl tt) d89
@@ -2665,6 +2665,6 @@ module _ (claims· : Claims) where
           pub asked : (a : Kinds.Dens κs ps) → (good : Kinds.GoodsP κs ps a) → (pre : Pre· κs a) → (bs : List.List Nat.ℕ) → Φ (Any.wantQ 2 ps r xs m κs qs a (Post· κs a)) (Function.init 2 ps r xs m κs qs a)
           asked = λ a good pre bs. laid record { κs = κs; args = record { text = a .0; kept = a .1 .0 }; good = good; pre = pre }
 
-        module _ {M : Type 1} (𝓤 : URA.URA M) (H : Wp.Heap 𝓤) (A : Atoms.Atoms 𝓤) (W : Kit.Given 𝓤 H A) (𝓣 : Wp.Tables 𝓤 H) (known0 : Plain.Known 𝓤 H A W 𝓣 0 ps·0 r·0 (claims· .0) (claims· .1) "parse::measure::begin") (known1 : Plain.Known 𝓤 H A W 𝓣 1 ps·1 r·1 (claims· .2) (claims· .3) "text::lines::line_at") (known2 : Plain.Known 𝓤 H A W 𝓣 1 ps·2 r·2 (claims· .4) (claims· .5) "roles::steps::step") (known3 : Plain.Known 𝓤 H A W 𝓣 1 ps·3 r·3 (claims· .6) (claims· .7) "kept::keep") (known4 : Plain.Known 𝓤 H A W 𝓣 1 ps·4 r·4 (claims· .8) (claims· .9) "parse::measure::say_on") (known5 : Plain.Known 𝓤 H A W 𝓣 0 ps·5 r·5 (claims· .10) (claims· .11) "parse::measure::enter") (known6 : Plain.Known 𝓤 H A W 𝓣 1 ps·6 r·6 (claims· .12) (claims· .13) "parse::measure::open_entry") (known7 : Plain.Known 𝓤 H A W 𝓣 0 ps·7 r·7 (claims· .14) (claims· .15) "roles::steps::same_place") (known8 : Plain.Known 𝓤 H A W 𝓣 0 ps·8 r·8 (claims· .16) (claims· .17) "parse::measure::close_on") where
+        module _ {M : Type 1} (𝓤 : URA.URA M) (H : Wp.Heap 𝓤) (A : Atoms.Atoms 𝓤) (W : Kit.Given 𝓤 H A) (𝓣 : Wp.Tables 𝓤 H) (known0 : Plain.Known 𝓤 H A W 𝓣 0 ps·0 r·0 (claims· .0) (claims· .1) "totals::begin") (known1 : Plain.Known 𝓤 H A W 𝓣 1 ps·1 r·1 (claims· .2) (claims· .3) "text::lines::line_at") (known2 : Plain.Known 𝓤 H A W 𝓣 1 ps·2 r·2 (claims· .4) (claims· .5) "roles::steps::step") (known3 : Plain.Known 𝓤 H A W 𝓣 1 ps·3 r·3 (claims· .6) (claims· .7) "kept::keep") (known4 : Plain.Known 𝓤 H A W 𝓣 1 ps·4 r·4 (claims· .8) (claims· .9) "totals::say_on") (known5 : Plain.Known 𝓤 H A W 𝓣 0 ps·5 r·5 (claims· .10) (claims· .11) "totals::enter") (known6 : Plain.Known 𝓤 H A W 𝓣 1 ps·6 r·6 (claims· .12) (claims· .13) "totals::open_entry") (known7 : Plain.Known 𝓤 H A W 𝓣 0 ps·7 r·7 (claims· .14) (claims· .15) "roles::steps::same_place") (known8 : Plain.Known 𝓤 H A W 𝓣 0 ps·8 r·8 (claims· .16) (claims· .17) "totals::close_on") where
           pub spec : Statement.Triple 𝓤 (Wp.WpFn 𝓤 H (𝓣 .C) (𝓣 .Λ) (Function.fnOf 2 ps r xs m hs body)) (Function.plainOf 𝓤 H A 2 ps r Pre· Post·)
           spec = Plain.t-fn-plain 𝓤 H A W 𝓣 2 ps r xs m hs body (λ κs qs bs. Φ) (λ κs qs bs bd. typed κs qs 𝓤 H A W 𝓣 (known0, known1, known2, known3, known4, known5, known6, known7, known8) bs bd) Pre· Post· asked

@@ -304,7 +304,7 @@ abbrev b33 : Syntax.Body
 b33 = Syntax.assign (Syntax.place 42 List.[]) (Syntax.aggregate (List._∷_ (Syntax.copy (Syntax.place 41 List.[])) (List._∷_ (Syntax.copy (Syntax.place 7 (List._∷_ (Syntax.field 1) List.[]))) List.[])))
 
 abbrev b34 : Syntax.Body
-b34 = Syntax.call "read::entries::read_entries" (List._∷_ (Syntax.copy (Syntax.place 1 List.[])) (List._∷_ (Syntax.copy (Syntax.place 2 List.[])) (List._∷_ (Syntax.copy (Syntax.place 13 List.[])) (List._∷_ (Syntax.copy (Syntax.place 36 List.[])) (List._∷_ (Syntax.copy (Syntax.place 38 List.[])) (List._∷_ (Syntax.copy (Syntax.place 14 List.[])) (List._∷_ (Syntax.copy (Syntax.place 40 List.[])) (List._∷_ (Syntax.copy (Syntax.place 10 (List._∷_ (Syntax.field 1) List.[]))) (List._∷_ (Syntax.copy (Syntax.place 42 List.[])) List.[]))))))))) (Syntax.place 34 List.[])
+b34 = Syntax.call "entries::entries::read_entries" (List._∷_ (Syntax.copy (Syntax.place 1 List.[])) (List._∷_ (Syntax.copy (Syntax.place 2 List.[])) (List._∷_ (Syntax.copy (Syntax.place 13 List.[])) (List._∷_ (Syntax.copy (Syntax.place 36 List.[])) (List._∷_ (Syntax.copy (Syntax.place 38 List.[])) (List._∷_ (Syntax.copy (Syntax.place 14 List.[])) (List._∷_ (Syntax.copy (Syntax.place 40 List.[])) (List._∷_ (Syntax.copy (Syntax.place 10 (List._∷_ (Syntax.field 1) List.[]))) (List._∷_ (Syntax.copy (Syntax.place 42 List.[])) List.[]))))))))) (Syntax.place 34 List.[])
 
 abbrev b35 : Syntax.Body
 b35 = Syntax.call "read::reading::script_of" (List._∷_ (Syntax.copy (Syntax.place 12 List.[])) (List._∷_ (Syntax.copy (Syntax.place 3 List.[])) List.[])) (Syntax.place 0 List.[])
@@ -1114,7 +1114,7 @@ module _ (claims· : Claims) where
   module _ (Pre· : (κs : Lifetimes.Lfts 6) → Kinds.Dens κs ps → Type 0) (Post· : (κs : Lifetimes.Lfts 6) → (a : Kinds.Dens κs ps) → Kinds.Plain 6 ps r κs) where
     module _ (M : Type 1) where
       abbrev pub Closed : Type 2
-      Closed = (𝓤 : URA.URA M) (H : Wp.Heap 𝓤) (A : Atoms.Atoms 𝓤) (W : Kit.Given 𝓤 H A) (𝓣 : Wp.Tables 𝓤 H) (known0 : Plain.Known 𝓤 H A W 𝓣 6 ps·0 r·0 (claims· .0) (claims· .1) "below::lines::read_lines") (known1 : Plain.Known 𝓤 H A W 𝓣 4 ps·1 r·1 (claims· .2) (claims· .3) "closing::front::put_front") (known2 : Plain.Known 𝓤 H A W 𝓣 3 ps·2 r·2 (claims· .4) (claims· .5) "records::preamble::preamble_of") (known3 : Plain.Known 𝓤 H A W 𝓣 6 ps·3 r·3 (claims· .6) (claims· .7) "read::entries::read_entries") (known4 : Plain.Known 𝓤 H A W 𝓣 0 ps·4 r·4 (claims· .8) (claims· .9) "read::reading::script_of") → Statement.Triple 𝓤 (Wp.WpFn 𝓤 H (𝓣 .C) (𝓣 .Λ) (Function.fnOf 6 ps r xs m hs body)) (Function.plainOf 𝓤 H A 6 ps r Pre· Post·)
+      Closed = (𝓤 : URA.URA M) (H : Wp.Heap 𝓤) (A : Atoms.Atoms 𝓤) (W : Kit.Given 𝓤 H A) (𝓣 : Wp.Tables 𝓤 H) (known0 : Plain.Known 𝓤 H A W 𝓣 6 ps·0 r·0 (claims· .0) (claims· .1) "below::lines::read_lines") (known1 : Plain.Known 𝓤 H A W 𝓣 4 ps·1 r·1 (claims· .2) (claims· .3) "closing::front::put_front") (known2 : Plain.Known 𝓤 H A W 𝓣 3 ps·2 r·2 (claims· .4) (claims· .5) "records::preamble::preamble_of") (known3 : Plain.Known 𝓤 H A W 𝓣 6 ps·3 r·3 (claims· .6) (claims· .7) "entries::entries::read_entries") (known4 : Plain.Known 𝓤 H A W 𝓣 0 ps·4 r·4 (claims· .8) (claims· .9) "read::reading::script_of") → Statement.Triple 𝓤 (Wp.WpFn 𝓤 H (𝓣 .C) (𝓣 .Λ) (Function.fnOf 6 ps r xs m hs body)) (Function.plainOf 𝓤 H A 6 ps r Pre· Post·)
 
     module _ where
       abbrev at0 : (bs : List.List Nat.ℕ) → Typed.TF T109 O0
@@ -1449,7 +1449,7 @@ module _ (claims· : Claims) where
 
       module _ {M : Type 1} (𝓤 : URA.URA M) (H : Wp.Heap 𝓤) (A : Atoms.Atoms 𝓤) (W : Kit.Given 𝓤 H A) (𝓣 : Wp.Tables 𝓤 H) where
         abbrev Knowns : Type 1
-        Knowns = Plain.Known 𝓤 H A W 𝓣 6 ps·0 r·0 (claims· .0) (claims· .1) "below::lines::read_lines" × Plain.Known 𝓤 H A W 𝓣 4 ps·1 r·1 (claims· .2) (claims· .3) "closing::front::put_front" × Plain.Known 𝓤 H A W 𝓣 3 ps·2 r·2 (claims· .4) (claims· .5) "records::preamble::preamble_of" × Plain.Known 𝓤 H A W 𝓣 6 ps·3 r·3 (claims· .6) (claims· .7) "read::entries::read_entries" × Plain.Known 𝓤 H A W 𝓣 0 ps·4 r·4 (claims· .8) (claims· .9) "read::reading::script_of"
+        Knowns = Plain.Known 𝓤 H A W 𝓣 6 ps·0 r·0 (claims· .0) (claims· .1) "below::lines::read_lines" × Plain.Known 𝓤 H A W 𝓣 4 ps·1 r·1 (claims· .2) (claims· .3) "closing::front::put_front" × Plain.Known 𝓤 H A W 𝓣 3 ps·2 r·2 (claims· .4) (claims· .5) "records::preamble::preamble_of" × Plain.Known 𝓤 H A W 𝓣 6 ps·3 r·3 (claims· .6) (claims· .7) "entries::entries::read_entries" × Plain.Known 𝓤 H A W 𝓣 0 ps·4 r·4 (claims· .8) (claims· .9) "read::reading::script_of"
 
       module _ (κs : Lifetimes.Lfts 6) (qs : Lifetimes.Shares 6) where
         abbrev g15 : List.List Row.Entry
@@ -1913,7 +1913,7 @@ module _ (claims· : Claims) where
           d20 = Typed.g-pre 𝓤 H A W 𝓣 E G89 G90 b37 Δ0 (Typed.pass T89 T90 (s88 bs)) (at19 bs) (RScalar.g-room 𝓤 H A W E G89 10 τ0 (RLocal.room-whole 𝓤 H A W (Declared'.row Below.the-type) τ0 Path'.refl)) d19
 
           d21 : Typed.Typed 𝓤 H A 𝓣 E G88 b38 Δ0 (at21 bs)
-          d21 = Typed.s-seq 𝓤 H A W 𝓣 E G88 G89 b34 b37 Δ0 (Typed.both (s87 bs)) (at20 bs) (Plain.t-call-plain 𝓤 H A W 𝓣 6 ps·3 r·3 (claims· .6) (claims· .7) "read::entries::read_entries" (known .3) E (λ pos β. β) G88 (record { pos = 1; ty = Syntax.tyRef (Syntax.named 0) Syntax.imm (Syntax.tyInt Syntax.w8); ref = λ x. x }, (record { pos = 2; ty = Syntax.tyRef (Syntax.named 1) Syntax.imm KeptElem.behind; ref = λ x. x }, (record { pos = 13; st = List.[]; d = 0; at = λ x. x }, (record { pos = 36; ty = Syntax.tyRef Syntax.erased Syntax.mut EntryElem.behind; ref = λ x. x }, (record { pos = 38; ty = Syntax.tyRef Syntax.erased Syntax.mut (Syntax.tyArray (Syntax.tyInt Syntax.w64) 2); ref = λ x. x }, (Num.vAt 14 λ x. x, (record { pos = 40; ty = Syntax.tyRef Syntax.erased Syntax.mut ExpectationElem.behind; ref = λ x. x }, (Num.vFld 10 (List._∷_ (Syntax.field 1) List.[]) 8 λ x. Below.struct .as-values x .1 .0, (record { pos = 42; ty = Syntax.tyRef Syntax.erased Syntax.mut (Syntax.tyInt Syntax.w8); ref = λ x. x }, tt))))))))) 34 (List._∷_ 0 (List._∷_ 1 (List._∷_ 15 (List._∷_ 16 (List._∷_ 17 (List._∷_ 18 List.[])))))) (Call.sub-id 𝓤 H A W (G88 .slots)) (ShrSlice.spares-sslice 𝓤 H A W (TReferent.rtF (TReferent.fInt Syntax.w8)) (Syntax.tyRef (Syntax.named 0) Syntax.imm (Syntax.tyInt Syntax.w8)) 0, SShared.reads-sslice 𝓤 H A W (TReferent.rtF (TReferent.fInt Syntax.w8)) (Syntax.tyRef (Syntax.named 0) Syntax.imm (Syntax.tyInt Syntax.w8)) 0, Path'.refl, (ShrSlice.spares-sslice 𝓤 H A W KeptElem.R (Syntax.tyRef (Syntax.named 1) Syntax.imm KeptElem.behind) 1, SShared.reads-sslice 𝓤 H A W KeptElem.R (Syntax.tyRef (Syntax.named 1) Syntax.imm KeptElem.behind) 1, Path'.refl, ((Yields.yields-copy 𝓤 H A W (λ ρ. Unit) (Declared.row Next.the-type) Path'.refl (TCopies.cEnum Next.the-type Laws'.the-laws Laws'.the-copy .copy 𝓤 H A W) (Rows'.whole (Declared.row Next.the-type)) (λ x. x) (λ x. x) (λ ρ told. RLocal.mem-whole 𝓤 H A W (Declared.row Next.the-type) ρ) λ ρ told. RLocal.whole-mem 𝓤 H A W (Declared.row Next.the-type) ρ, Path'.refl), (Reads'.as-is 𝓤 H A (Mut.mslice EntryElem.R (Syntax.tyRef Syntax.erased Syntax.mut EntryElem.behind) 15), Mut.reads-mslice 𝓤 H A W EntryElem.R (Syntax.tyRef Syntax.erased Syntax.mut EntryElem.behind) 15, Path'.refl, (Reads'.as-is 𝓤 H A (Mut.mslice (DArray.Array (TReferent.rtF (TReferent.fInt Syntax.w64)) 2) (Syntax.tyRef Syntax.erased Syntax.mut (Syntax.tyArray (Syntax.tyInt Syntax.w64) 2)) 16), Mut.reads-mslice 𝓤 H A W (DArray.Array (TReferent.rtF (TReferent.fInt Syntax.w64)) 2) (Syntax.tyRef Syntax.erased Syntax.mut (Syntax.tyArray (Syntax.tyInt Syntax.w64) 2)) 16, Path'.refl, ((RScalar.reads-sc 𝓤 H A W (Row.sInt Syntax.w64), Path'.refl), (Reads'.as-is 𝓤 H A (Mut.mslice ExpectationElem.R (Syntax.tyRef Syntax.erased Syntax.mut ExpectationElem.behind) 17), Mut.reads-mslice 𝓤 H A W ExpectationElem.R (Syntax.tyRef Syntax.erased Syntax.mut ExpectationElem.behind) 17, Path'.refl, ((Reads.reads-field 𝓤 H A W Below.the-type Laws.the-laws 1 (Syntax.tyInt Syntax.w64) 8 Path'.refl, Path'.refl), (Reads'.as-is 𝓤 H A (Mut.mslice (TReferent.rtF (TReferent.fInt Syntax.w8)) (Syntax.tyRef Syntax.erased Syntax.mut (Syntax.tyInt Syntax.w8)) 18), Mut.reads-mslice 𝓤 H A W (TReferent.rtF (TReferent.fInt Syntax.w8)) (Syntax.tyRef Syntax.erased Syntax.mut (Syntax.tyInt Syntax.w8)) 18, Path'.refl, tt))))))))) (Reads'.room-gone 𝓤 H A Syntax.tyUnit) (tt, (tt, (tt, (tt, (tt, (tt, tt)))))) Path'.refl) d20
+          d21 = Typed.s-seq 𝓤 H A W 𝓣 E G88 G89 b34 b37 Δ0 (Typed.both (s87 bs)) (at20 bs) (Plain.t-call-plain 𝓤 H A W 𝓣 6 ps·3 r·3 (claims· .6) (claims· .7) "entries::entries::read_entries" (known .3) E (λ pos β. β) G88 (record { pos = 1; ty = Syntax.tyRef (Syntax.named 0) Syntax.imm (Syntax.tyInt Syntax.w8); ref = λ x. x }, (record { pos = 2; ty = Syntax.tyRef (Syntax.named 1) Syntax.imm KeptElem.behind; ref = λ x. x }, (record { pos = 13; st = List.[]; d = 0; at = λ x. x }, (record { pos = 36; ty = Syntax.tyRef Syntax.erased Syntax.mut EntryElem.behind; ref = λ x. x }, (record { pos = 38; ty = Syntax.tyRef Syntax.erased Syntax.mut (Syntax.tyArray (Syntax.tyInt Syntax.w64) 2); ref = λ x. x }, (Num.vAt 14 λ x. x, (record { pos = 40; ty = Syntax.tyRef Syntax.erased Syntax.mut ExpectationElem.behind; ref = λ x. x }, (Num.vFld 10 (List._∷_ (Syntax.field 1) List.[]) 8 λ x. Below.struct .as-values x .1 .0, (record { pos = 42; ty = Syntax.tyRef Syntax.erased Syntax.mut (Syntax.tyInt Syntax.w8); ref = λ x. x }, tt))))))))) 34 (List._∷_ 0 (List._∷_ 1 (List._∷_ 15 (List._∷_ 16 (List._∷_ 17 (List._∷_ 18 List.[])))))) (Call.sub-id 𝓤 H A W (G88 .slots)) (ShrSlice.spares-sslice 𝓤 H A W (TReferent.rtF (TReferent.fInt Syntax.w8)) (Syntax.tyRef (Syntax.named 0) Syntax.imm (Syntax.tyInt Syntax.w8)) 0, SShared.reads-sslice 𝓤 H A W (TReferent.rtF (TReferent.fInt Syntax.w8)) (Syntax.tyRef (Syntax.named 0) Syntax.imm (Syntax.tyInt Syntax.w8)) 0, Path'.refl, (ShrSlice.spares-sslice 𝓤 H A W KeptElem.R (Syntax.tyRef (Syntax.named 1) Syntax.imm KeptElem.behind) 1, SShared.reads-sslice 𝓤 H A W KeptElem.R (Syntax.tyRef (Syntax.named 1) Syntax.imm KeptElem.behind) 1, Path'.refl, ((Yields.yields-copy 𝓤 H A W (λ ρ. Unit) (Declared.row Next.the-type) Path'.refl (TCopies.cEnum Next.the-type Laws'.the-laws Laws'.the-copy .copy 𝓤 H A W) (Rows'.whole (Declared.row Next.the-type)) (λ x. x) (λ x. x) (λ ρ told. RLocal.mem-whole 𝓤 H A W (Declared.row Next.the-type) ρ) λ ρ told. RLocal.whole-mem 𝓤 H A W (Declared.row Next.the-type) ρ, Path'.refl), (Reads'.as-is 𝓤 H A (Mut.mslice EntryElem.R (Syntax.tyRef Syntax.erased Syntax.mut EntryElem.behind) 15), Mut.reads-mslice 𝓤 H A W EntryElem.R (Syntax.tyRef Syntax.erased Syntax.mut EntryElem.behind) 15, Path'.refl, (Reads'.as-is 𝓤 H A (Mut.mslice (DArray.Array (TReferent.rtF (TReferent.fInt Syntax.w64)) 2) (Syntax.tyRef Syntax.erased Syntax.mut (Syntax.tyArray (Syntax.tyInt Syntax.w64) 2)) 16), Mut.reads-mslice 𝓤 H A W (DArray.Array (TReferent.rtF (TReferent.fInt Syntax.w64)) 2) (Syntax.tyRef Syntax.erased Syntax.mut (Syntax.tyArray (Syntax.tyInt Syntax.w64) 2)) 16, Path'.refl, ((RScalar.reads-sc 𝓤 H A W (Row.sInt Syntax.w64), Path'.refl), (Reads'.as-is 𝓤 H A (Mut.mslice ExpectationElem.R (Syntax.tyRef Syntax.erased Syntax.mut ExpectationElem.behind) 17), Mut.reads-mslice 𝓤 H A W ExpectationElem.R (Syntax.tyRef Syntax.erased Syntax.mut ExpectationElem.behind) 17, Path'.refl, ((Reads.reads-field 𝓤 H A W Below.the-type Laws.the-laws 1 (Syntax.tyInt Syntax.w64) 8 Path'.refl, Path'.refl), (Reads'.as-is 𝓤 H A (Mut.mslice (TReferent.rtF (TReferent.fInt Syntax.w8)) (Syntax.tyRef Syntax.erased Syntax.mut (Syntax.tyInt Syntax.w8)) 18), Mut.reads-mslice 𝓤 H A W (TReferent.rtF (TReferent.fInt Syntax.w8)) (Syntax.tyRef Syntax.erased Syntax.mut (Syntax.tyInt Syntax.w8)) 18, Path'.refl, tt))))))))) (Reads'.room-gone 𝓤 H A Syntax.tyUnit) (tt, (tt, (tt, (tt, (tt, (tt, tt)))))) Path'.refl) d20
 
           d22 : Typed.Typed 𝓤 H A 𝓣 E G87 b39 Δ0 (at22 bs)
           d22 = Typed.s-seq 𝓤 H A W 𝓣 E G87 G88 b33 b38 Δ0 (Typed.ask (s86 bs)) (at21 bs) (Relend.t-sl-aggregate 𝓤 H A W E (TReferent.rtF (TReferent.fInt Syntax.w8)) 𝓣 (Relend.asMut (TReferent.rtF (TReferent.fInt Syntax.w8))) G87 41 42 18 (Syntax.tyRef Syntax.erased Syntax.mut (Syntax.tyInt Syntax.w8)) (Syntax.tyRef Syntax.erased Syntax.mut (Syntax.tyInt Syntax.w8)) (λ x. x) (RScalar.oFld 7 (List._∷_ (Syntax.field 1) List.[]) (Syntax.tyInt Syntax.w64) 8 λ v. SShared.lenV (v .0)) (Reads'.as-is 𝓤 H A (Relend.msptr (TReferent.rtF (TReferent.fInt Syntax.w8)) (Syntax.tyRef Syntax.erased Syntax.mut (Syntax.tyInt Syntax.w8)) 18)) (Reads'.room-gone 𝓤 H A τ8) (Relend.reads-owed-len 𝓤 H A W (TReferent.rtF (TReferent.fInt Syntax.w8)) (Syntax.tyRef (Syntax.named 5) Syntax.mut (Syntax.tyInt Syntax.w8)) 5 18 (Row.lease (κs .1 .1 .1 .1 .1 .0) (qs .1 .1 .1 .1 .1 .0)) 8 Path'.refl, Path'.refl) Path'.refl Path'.refl λ b o k. tt) d21
@@ -2749,6 +2749,6 @@ module _ (claims· : Claims) where
           pub asked : (a : Kinds.Dens κs ps) → (good : Kinds.GoodsP κs ps a) → (pre : Pre· κs a) → (bs : List.List Nat.ℕ) → Φ bs (Any.wantQ 6 ps r xs m κs qs a (Post· κs a)) (Function.init 6 ps r xs m κs qs a)
           asked = λ a good pre bs. laid record { κs = κs; args = record { text = a .0; kept = a .1 .0; counts = a .1 .1 .0; entries = a .1 .1 .1 .0; items = a .1 .1 .1 .1 .0; expectations = a .1 .1 .1 .1 .1 .0; store = a .1 .1 .1 .1 .1 .1 .0 }; blocks = bs; good = good; pre = pre }
 
-        module _ {M : Type 1} (𝓤 : URA.URA M) (H : Wp.Heap 𝓤) (A : Atoms.Atoms 𝓤) (W : Kit.Given 𝓤 H A) (𝓣 : Wp.Tables 𝓤 H) (known0 : Plain.Known 𝓤 H A W 𝓣 6 ps·0 r·0 (claims· .0) (claims· .1) "below::lines::read_lines") (known1 : Plain.Known 𝓤 H A W 𝓣 4 ps·1 r·1 (claims· .2) (claims· .3) "closing::front::put_front") (known2 : Plain.Known 𝓤 H A W 𝓣 3 ps·2 r·2 (claims· .4) (claims· .5) "records::preamble::preamble_of") (known3 : Plain.Known 𝓤 H A W 𝓣 6 ps·3 r·3 (claims· .6) (claims· .7) "read::entries::read_entries") (known4 : Plain.Known 𝓤 H A W 𝓣 0 ps·4 r·4 (claims· .8) (claims· .9) "read::reading::script_of") where
+        module _ {M : Type 1} (𝓤 : URA.URA M) (H : Wp.Heap 𝓤) (A : Atoms.Atoms 𝓤) (W : Kit.Given 𝓤 H A) (𝓣 : Wp.Tables 𝓤 H) (known0 : Plain.Known 𝓤 H A W 𝓣 6 ps·0 r·0 (claims· .0) (claims· .1) "below::lines::read_lines") (known1 : Plain.Known 𝓤 H A W 𝓣 4 ps·1 r·1 (claims· .2) (claims· .3) "closing::front::put_front") (known2 : Plain.Known 𝓤 H A W 𝓣 3 ps·2 r·2 (claims· .4) (claims· .5) "records::preamble::preamble_of") (known3 : Plain.Known 𝓤 H A W 𝓣 6 ps·3 r·3 (claims· .6) (claims· .7) "entries::entries::read_entries") (known4 : Plain.Known 𝓤 H A W 𝓣 0 ps·4 r·4 (claims· .8) (claims· .9) "read::reading::script_of") where
           pub spec : Statement.Triple 𝓤 (Wp.WpFn 𝓤 H (𝓣 .C) (𝓣 .Λ) (Function.fnOf 6 ps r xs m hs body)) (Function.plainOf 𝓤 H A 6 ps r Pre· Post·)
           spec = Plain.t-fn-plain 𝓤 H A W 𝓣 6 ps r xs m hs body (λ κs qs bs. Φ bs) (λ κs qs bs bd. typed κs qs 𝓤 H A W 𝓣 (known0, known1, known2, known3, known4) bs bd) Pre· Post· asked

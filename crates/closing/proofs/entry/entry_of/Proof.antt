@@ -1,5 +1,5 @@
 -- `closing::entry::entry_of` meets its contract. Assumes nothing.
-use Rattle.closing.proofs.WriteLaws.{entry-laid}
+use Rattle.stored.proofs.WriteLaws.{entry-laid}
 use borrow.Author.Needs.{needs}
 use Rattle.closing.proofs.entry.entry_of.Statement.{statement}
 use Rattle.closing.proofs.entry.entry_of.Tie as tie

@@ -1,7 +1,7 @@
 -- `closing::front::put_features_of` meets its contract. Assumes nothing.
 use Rattle.tables.proofs.WrittenLaws.{same-laws, none-laws}
-use Rattle.records.proofs.SaidLaws.{said-in}
-use Rattle.closing.proofs.WriteLaws.{said-laws, item-laws}
+use Rattle.said.proofs.SaidLaws.{said-in}
+use Rattle.stored.proofs.WriteLaws.{said-laws, item-laws}
 use borrow.Author.Needs.{needs}
 use Rattle.closing.proofs.front.put_features_of.Statement.{statement}
 use Rattle.closing.proofs.front.put_features_of.Tie as tie

@@ -1,5 +1,5 @@
 -- `closing::front::put_front` meets its contract. Assumes nothing.
-use Rattle.closing.proofs.WriteLaws.{front-room, front-written, items-kept}
+use Rattle.stored.proofs.WriteLaws.{front-room, front-written, items-kept}
 use native.Mathlib.Omega.{arith}
 use borrow.Author.Needs.{needs}
 use Rattle.closing.proofs.front.put_front.Statement.{statement}

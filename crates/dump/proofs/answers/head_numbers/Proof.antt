@@ -1,16 +1,16 @@
 -- `dump::answers::head_numbers` meets its contract. Assumes nothing.
-use Rattle.dump.specs.Dump.{headNumbers, padded}
-use Rattle.dump.proofs.NumberLaws.{head-by}
+use Prim.Native.Nat.{ℕ}
+use mathlib.Core.Path.{_≡_, sym, ap, _∙_}
+use mathlib.Core.List.{List}
 use Rattle.read.specs.Read.{answerOf}
+use Rattle.read.specs.declared.reading.Answer.{Answer}
+use Rattle.numbers.specs.Numbers.{headNumbers, padded}
 use borrow.Author.Needs.{needs}
-use Rattle.read.specs.Read.{answerOf}
-use Rattle.read.specs.Read.{answerOf}
-use Rattle.read.specs.Read.{answerOf}
-use Rattle.read.specs.Read.{answerOf}
-use Rattle.read.specs.Read.{answerOf}
-use Rattle.read.specs.Read.{answerOf}
 use Rattle.dump.proofs.answers.head_numbers.Statement.{statement}
 use Rattle.dump.proofs.answers.head_numbers.Tie as tie
+
+head-by : (a x : Answer) → a ≡ x → (r : List ℕ) → r ≡ headNumbers (answerOf x) → r ≡ headNumbers (answerOf a)
+head-by a x e r h = h ∙ ap (λ (y : Answer). headNumbers (answerOf y)) (sym e)
 
 enum-known-a : tie.Need-enum-known-a
 enum-known-a c = search needs

@@ -1,6 +1,6 @@
 -- `dump::answers::maybe_items_numbers` meets its contract. Assumes nothing.
-use Rattle.dump.specs.Dump.{maybeItemsNumbers, itemsNumbers}
-use Rattle.dump.proofs.NumberLaws.{maybe-items-by}
+use Rattle.numbers.specs.Numbers.{maybeItemsNumbers, itemsNumbers}
+use Rattle.numbers.proofs.NumberLaws.{maybe-items-by}
 use borrow.Author.Needs.{needs}
 use Rattle.dump.proofs.answers.maybe_items_numbers.Statement.{statement}
 use Rattle.dump.proofs.answers.maybe_items_numbers.Tie as tie

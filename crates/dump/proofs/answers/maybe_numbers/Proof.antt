@@ -1,6 +1,6 @@
 -- `dump::answers::maybe_numbers` meets its contract. Assumes nothing.
-use Rattle.dump.specs.Dump.{maybeNumbers, placeNumbers}
-use Rattle.dump.proofs.NumberLaws.{maybe-by}
+use Rattle.numbers.specs.Numbers.{maybeNumbers, placeNumbers}
+use Rattle.numbers.proofs.NumberLaws.{maybe-by}
 use borrow.Author.Needs.{needs}
 use Rattle.dump.proofs.answers.maybe_numbers.Statement.{statement}
 use Rattle.dump.proofs.answers.maybe_numbers.Tie as tie

@@ -1,6 +1,6 @@
 -- `dump::answers::script_numbers` meets its contract. Assumes nothing.
-use Rattle.dump.specs.Dump.{itemsNumbers, countsNumbers}
-use Rattle.dump.proofs.NumberLaws.{script-is}
+use Rattle.numbers.specs.Numbers.{itemsNumbers, countsNumbers}
+use Rattle.numbers.proofs.NumberLaws.{script-is}
 use borrow.Author.Needs.{needs}
 use Rattle.dump.proofs.answers.script_numbers.Statement.{statement}
 use Rattle.dump.proofs.answers.script_numbers.Tie as tie

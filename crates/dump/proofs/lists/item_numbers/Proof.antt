@@ -1,5 +1,5 @@
 -- `dump::lists::item_numbers` meets its contract. Assumes nothing.
-use Rattle.dump.specs.Dump.{itemNumbers}
+use Rattle.numbers.specs.Numbers.{itemNumbers}
 use borrow.Author.Needs.{needs}
 use Rattle.dump.proofs.lists.item_numbers.Statement.{statement}
 use Rattle.dump.proofs.lists.item_numbers.Tie as tie

@@ -5,7 +5,7 @@ use mathlib.Core.Path.{refl}
 use Rattle.slots.specs.Blank.{blankEntry}
 use lib.ListN.{length}
 use Rattle.dump.specs.Dump.{entryBytes}
-use Rattle.dump.proofs.PuttingLaws.{Putting, putting-begun, putting-room, putting-on, putting-laws}
+use Rattle.numbers.proofs.PuttingLaws.{Putting, putting-begun, putting-room, putting-on, putting-laws}
 use borrow.Author.Needs.{needs}
 use Rattle.dump.proofs.lists.put_entries.Statement.{statement}
 use Rattle.dump.proofs.lists.put_entries.Proof.Tie as tie

@@ -4,7 +4,7 @@ use mathlib.Core.Path.{refl}
 use mathlib.Core.List.{[]}
 use lib.ListN.{length}
 use Rattle.dump.specs.Dump.{itemBytes}
-use Rattle.dump.proofs.PuttingLaws.{Putting, putting-begun, putting-room, putting-on, putting-laws}
+use Rattle.numbers.proofs.PuttingLaws.{Putting, putting-begun, putting-room, putting-on, putting-laws}
 use borrow.Author.Needs.{needs}
 use Rattle.dump.proofs.lists.put_items.Statement.{statement}
 use Rattle.dump.proofs.lists.put_items.Tie as tie

@@ -5,7 +5,7 @@ use mathlib.Core.Path.{_≡_, refl}
 use lib.ListN.{length, drop}
 use borrow.Author.Needs.{needs}
 use Rattle.verdicts.specs.Decisions.{contains}
-use Rattle.decisions.proofs.SearchLaws.{empty-in}
+use Rattle.finding.proofs.SearchLaws.{empty-in}
 use Rattle.joined.specs.Pieces.{piecesOf, row}
 use Rattle.joined.proofs.PieceLaws.{count-is}
 use Rattle.joined.proofs.FindLaws.{list-search}

@@ -1,6 +1,6 @@
 -- `read::reading::read_script` meets its contract. Assumes nothing.
 mod Tie
-use Rattle.closing.proofs.WriteLaws.{kept}
+use Rattle.stored.proofs.WriteLaws.{kept}
 use Rattle.read.specs.ReadWalk.{readingOf}
 use Rattle.read.proofs.ScriptLaws.{pairs-room, early-room, said-in, front-room, front-fits, preamble-laid, entries-room, items-room, expectations-room, store-room, entries-written, store-written, expectations-written, items-written, script-laid, written-kept, places-kept}
 use borrow.Author.Needs.{needs}

@@ -1,5 +1,5 @@
 -- `records::calls::framed_of` meets its contract. Assumes nothing.
-use Rattle.records.proofs.SaidLaws.{said-in}
+use Rattle.said.proofs.SaidLaws.{said-in}
 use Rattle.records.proofs.CallLaws.{block-laws}
 use borrow.Author.Needs.{needs}
 use Rattle.records.proofs.calls.framed_of.Statement.{statement}

@@ -1,5 +1,5 @@
 -- `records::preamble::version_of` meets its contract. Assumes nothing.
-use Rattle.records.proofs.SaidLaws.{said-in}
+use Rattle.said.proofs.SaidLaws.{said-in}
 use Rattle.records.proofs.PreambleLaws.{preamble-laws}
 use borrow.Author.Needs.{needs}
 use Rattle.records.proofs.preamble.version_of.Statement.{statement}

@@ -4,9 +4,9 @@ use Rattle.listing.proofs.Made.WholeListEntriesReads as Reads'
 use Rattle.listing.proofs.Made.WholeListScriptKinds as Kinds
 use Rattle.listing.proofs.Made.WholeListScriptLts as Lts
 use Rattle.listing.proofs.Made.WholeListScriptReads as Reads''
-use Rattle.listing.proofs.lines.put_header.Met
-use Rattle.listing.proofs.lines.put_header.Reads
-use Rattle.listing.proofs.lines.put_header.Symbol
+use Rattle.printed.proofs.lines.put_header.Met
+use Rattle.printed.proofs.lines.put_header.Reads
+use Rattle.printed.proofs.lines.put_header.Symbol
 use Rattle.listing.proofs.whole.list_entries.Met as Met'
 use Rattle.listing.proofs.whole.list_entries.Symbol as Symbol'
 use Rattle.listing.proofs.whole.list_script.Code
@@ -64,4 +64,4 @@ module _ {M : Type 1} where
 
   pub close : Lts.Closed (Reads.Asked, Reads.Learnt, Reads'.Asked, Reads'.Learnt) Reads''.Pre Reads''.Post M → Statement.statement M
   unfolding Code.routine Running.tablesOf
-  close = λ closed 𝓤 H 𝓜 𝓖 𝓡. Written.close 2 Kinds.ps Kinds.r Reads''.Ghost Reads''.requires Reads''.ensures Reads''.pre-read Reads''.Pinned Reads''.Owned Reads''.post-read record { M = M; 𝓤 = 𝓤; H = H; 𝓜 = 𝓜; 𝓖 = 𝓖; 𝓡 = 𝓡 } Code.env Key.name Code.function (Code.unfolded 𝓤 H 𝓜 𝓡) (λ κs a g. tt) (λ κs. Reads''.owns κs record { M = M; 𝓤 = 𝓤; H = H; 𝓜 = 𝓜; 𝓖 = 𝓖; 𝓡 = 𝓡 }) (Reads''.passes record { M = M; 𝓤 = 𝓤; H = H; 𝓜 = 𝓜; 𝓖 = 𝓖; 𝓡 = 𝓡 }) λ g. closed 𝓤 H (𝓖 .A) (Running.givenOf 𝓤 H 𝓜 𝓖) (Run.Over 𝓤 H 𝓜 𝓖 𝓡 Code.env) (Reads.known record { M = M; 𝓤 = 𝓤; H = H; 𝓜 = 𝓜; 𝓖 = 𝓖; 𝓡 = 𝓡 } Code.env Symbol.name Symbol.routine Code.calls-listing·lines·put-header (Met.met 𝓤 H 𝓜 𝓖 𝓡)) (Reads'.known record { M = M; 𝓤 = 𝓤; H = H; 𝓜 = 𝓜; 𝓖 = 𝓖; 𝓡 = 𝓡 } Code.env Symbol'.name Symbol'.routine Code.calls-listing·whole·list-entries (Met'.met 𝓤 H 𝓜 𝓖 𝓡))
+  close = λ closed 𝓤 H 𝓜 𝓖 𝓡. Written.close 2 Kinds.ps Kinds.r Reads''.Ghost Reads''.requires Reads''.ensures Reads''.pre-read Reads''.Pinned Reads''.Owned Reads''.post-read record { M = M; 𝓤 = 𝓤; H = H; 𝓜 = 𝓜; 𝓖 = 𝓖; 𝓡 = 𝓡 } Code.env Key.name Code.function (Code.unfolded 𝓤 H 𝓜 𝓡) (λ κs a g. tt) (λ κs. Reads''.owns κs record { M = M; 𝓤 = 𝓤; H = H; 𝓜 = 𝓜; 𝓖 = 𝓖; 𝓡 = 𝓡 }) (Reads''.passes record { M = M; 𝓤 = 𝓤; H = H; 𝓜 = 𝓜; 𝓖 = 𝓖; 𝓡 = 𝓡 }) λ g. closed 𝓤 H (𝓖 .A) (Running.givenOf 𝓤 H 𝓜 𝓖) (Run.Over 𝓤 H 𝓜 𝓖 𝓡 Code.env) (Reads.known record { M = M; 𝓤 = 𝓤; H = H; 𝓜 = 𝓜; 𝓖 = 𝓖; 𝓡 = 𝓡 } Code.env Symbol.name Symbol.routine Code.calls-printed·lines·put-header (Met.met 𝓤 H 𝓜 𝓖 𝓡)) (Reads'.known record { M = M; 𝓤 = 𝓤; H = H; 𝓜 = 𝓜; 𝓖 = 𝓖; 𝓡 = 𝓡 } Code.env Symbol'.name Symbol'.routine Code.calls-listing·whole·list-entries (Met'.met 𝓤 H 𝓜 𝓖 𝓡))

@@ -1,2 +1,0 @@
-pub mod ClosingLaws
-pub mod WriteLaws

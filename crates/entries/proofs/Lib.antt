@@ -1,0 +1,4 @@
+pub mod EntriesLaws
+pub mod EntryLaws
+pub mod InsideLaws
+pub mod Made

@@ -1,0 +1,2 @@
+// The entries of a script, read one after another into lent tables.
+pub mod entries;

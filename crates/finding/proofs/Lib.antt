@@ -1,0 +1,3 @@
+pub mod EqualLaws
+pub mod SearchLaws
+pub mod PlaceLaws

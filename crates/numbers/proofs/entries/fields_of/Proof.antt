@@ -1,0 +1,149 @@
+-- `numbers::entries::fields_of` meets its contract. Assumes nothing.
+use Rattle.numbers.specs.Numbers.{padded, placeNumbers, itemsNumbers, optionsNumbers, fieldsOf}
+use Rattle.numbers.proofs.NumberLaws.{fields-by, flag-fields, verify-fields, is-late}
+use borrow.Author.Needs.{needs}
+use Rattle.numbers.proofs.entries.fields_of.Statement.{statement}
+use Rattle.numbers.proofs.entries.fields_of.Tie as tie
+
+enum-known-c : tie.Need-enum-known-c
+enum-known-c c = search needs
+
+place-fields-requires : tie.Need-place-fields-requires
+place-fields-requires c κs = search needs
+
+enum-known-c-2 : tie.Need-enum-known-c-2
+enum-known-c-2 c = search needs
+
+place-fields-requires-2 : tie.Need-place-fields-requires-2
+place-fields-requires-2 c κs = search needs
+
+enum-known-c-3 : tie.Need-enum-known-c-3
+enum-known-c-3 c = search needs
+
+items-fields-requires : tie.Need-items-fields-requires
+items-fields-requires c κs = search needs
+
+enum-known-c-4 : tie.Need-enum-known-c-4
+enum-known-c-4 c = search needs
+
+flag-requires : tie.Need-flag-requires
+flag-requires c κs = search needs
+
+range-fields-requires : tie.Need-range-fields-requires
+range-fields-requires c κs = search needs
+
+enum-known-c-5 : tie.Need-enum-known-c-5
+enum-known-c-5 c = search needs
+
+range-fields-requires-2 : tie.Need-range-fields-requires-2
+range-fields-requires-2 c κs = search needs
+
+enum-told : tie.Need-enum-told
+enum-told c = search needs
+
+few-requires : tie.Need-few-requires
+few-requires c κs = search needs
+
+enum-known-c-6 : tie.Need-enum-known-c-6
+enum-known-c-6 c = search needs
+
+options-fields-requires : tie.Need-options-fields-requires
+options-fields-requires c κs = search needs
+
+enum-known-c-7 : tie.Need-enum-known-c-7
+enum-known-c-7 c = search needs
+
+few-requires-2 : tie.Need-few-requires-2
+few-requires-2 c κs = search needs
+
+enum-known-c-8 : tie.Need-enum-known-c-8
+enum-known-c-8 c = search needs
+
+flag-requires-2 : tie.Need-flag-requires-2
+flag-requires-2 c κs = search needs
+
+flag-requires-3 : tie.Need-flag-requires-3
+flag-requires-3 c κs = search needs
+
+few-requires-3 : tie.Need-few-requires-3
+few-requires-3 c κs = search needs
+
+later-fields-requires : tie.Need-later-fields-requires
+later-fields-requires c κs = search (needs, is-late)
+
+returns : tie.Need-returns
+unfolding padded placeNumbers itemsNumbers optionsNumbers fieldsOf
+returns c = search (needs, fields-by)
+
+returns-2 : tie.Need-returns-2
+unfolding padded placeNumbers itemsNumbers optionsNumbers fieldsOf
+returns-2 c = search (needs, fields-by)
+
+returns-3 : tie.Need-returns-3
+unfolding padded placeNumbers itemsNumbers optionsNumbers fieldsOf
+returns-3 c = search (needs, fields-by)
+
+returns-4 : tie.Need-returns-4
+unfolding padded placeNumbers itemsNumbers optionsNumbers fieldsOf
+returns-4 c = search (needs, flag-fields)
+
+returns-5 : tie.Need-returns-5
+unfolding padded placeNumbers itemsNumbers optionsNumbers fieldsOf
+returns-5 c = search (needs, fields-by)
+
+returns-6 : tie.Need-returns-6
+unfolding padded placeNumbers itemsNumbers optionsNumbers fieldsOf
+returns-6 c = search (needs, fields-by)
+
+returns-7 : tie.Need-returns-7
+unfolding padded placeNumbers itemsNumbers optionsNumbers fieldsOf
+returns-7 c = search (needs, fields-by)
+
+returns-8 : tie.Need-returns-8
+unfolding padded placeNumbers itemsNumbers optionsNumbers fieldsOf
+returns-8 c = search (needs, fields-by)
+
+returns-9 : tie.Need-returns-9
+unfolding padded placeNumbers itemsNumbers optionsNumbers fieldsOf
+returns-9 c = search (needs, verify-fields)
+
+returns-10 : tie.Need-returns-10
+unfolding padded placeNumbers itemsNumbers optionsNumbers fieldsOf
+returns-10 c = search (needs, fields-by)
+
+pub fields-of-spec : {M : Type 1} → statement M
+fields-of-spec =
+    tie.close
+    (tie.spec
+    enum-known-c
+    place-fields-requires
+    enum-known-c-2
+    place-fields-requires-2
+    enum-known-c-3
+    items-fields-requires
+    enum-known-c-4
+    flag-requires
+    range-fields-requires
+    enum-known-c-5
+    range-fields-requires-2
+    enum-told
+    few-requires
+    enum-known-c-6
+    options-fields-requires
+    enum-known-c-7
+    few-requires-2
+    enum-known-c-8
+    flag-requires-2
+    flag-requires-3
+    few-requires-3
+    later-fields-requires
+    returns
+    returns-2
+    returns-3
+    returns-4
+    returns-5
+    returns-6
+    returns-7
+    returns-8
+    returns-9
+    returns-10)

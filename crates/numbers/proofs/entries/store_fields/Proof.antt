@@ -1,0 +1,36 @@
+-- `numbers::entries::store_fields` meets its contract. Assumes nothing.
+use Rattle.numbers.specs.Numbers.{placeNumbers, itemsNumbers}
+use Rattle.numbers.proofs.NumberLaws.{data-store}
+use borrow.Author.Needs.{needs}
+use Rattle.numbers.proofs.entries.store_fields.Statement.{statement}
+use Rattle.numbers.proofs.entries.store_fields.Tie as tie
+
+data-numbers-requires : tie.Need-data-numbers-requires
+data-numbers-requires c κs = search needs
+
+flag-requires : tie.Need-flag-requires
+flag-requires c κs = search needs
+
+array-read-t17 : tie.Need-array-read-t17
+array-read-t17 c = search needs
+
+array-read-t20 : tie.Need-array-read-t20
+array-read-t20 c = search needs
+
+array-read-t23 : tie.Need-array-read-t23
+array-read-t23 c = search needs
+
+returns : tie.Need-returns
+unfolding placeNumbers itemsNumbers
+returns c = data-store _ _ (c .before .data-numbers .ensures) _ _ _ _ _ (c .flag .ensures)
+
+pub store-fields-spec : {M : Type 1} → statement M
+store-fields-spec =
+    tie.close
+    (tie.spec
+    data-numbers-requires
+    flag-requires
+    array-read-t17
+    array-read-t20
+    array-read-t23
+    returns)

@@ -1,0 +1,4 @@
+// The records of a script as numbers, and numbers as bytes.
+pub mod bytes;
+pub mod entries;
+pub mod expectations;

@@ -1,0 +1,3 @@
+pub mod BoundLaws
+pub mod MeasureLaws
+pub mod OpenLaws
