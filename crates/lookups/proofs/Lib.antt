@@ -1,2 +1,1 @@
-pub mod JoinedLaws
 pub mod ValueLaws

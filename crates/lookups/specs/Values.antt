@@ -1,12 +1,12 @@
 -- What the code's values mean. Assumes nothing.
 use Prim.Native.Nat.{ℕ}
 use mathlib.Core.Path.{_≡_}
-use mathlib.Core.List.{List, [], _∷_, _++_, map}
+use mathlib.Core.List.{List, []}
 use mathlib.Core.Option.{Option, none, some, Option·getD}
 use Rattle.text.specs.Literal.{utf8}
 use Rattle.values.specs.Decimal.{decimal}
 use Rattle.verdicts.specs.Lookup.{bracketed, braced}
-use Rattle.verdicts.specs.Held.{textAt, itemText, textsIn}
+use Rattle.verdicts.specs.Held.{textAt, textsIn}
 use Rattle.lookups.specs.declared.value.Value.{Value}
 use Rattle.lookups.specs.declared.value.Value.the-variants as Value
 
@@ -29,12 +29,3 @@ module _ (bytes : List ℕ) (lists : List (List ℕ)) where
 -- A value means what is looked up, whatever the bytes and the table of places.
 abbrev pub Means : Value → ((bytes : List ℕ) → (lists : List (List ℕ)) → Option (List ℕ)) → Type 0
 Means v looked = (bytes : List ℕ) (lists : List (List ℕ)) → valueBytes bytes lists v ≡ looked bytes lists
-
--- the texts of some items
-abbrev pub itemTexts : (bytes : List ℕ) → (items : List (List ℕ)) → List (List ℕ)
-itemTexts bytes items = map (itemText bytes) items
-
--- texts with `, ` in front of each
-unfoldable pub behind : List (List ℕ) → List ℕ
-behind [] = []
-behind (x ∷ xs) = utf8 ", " ++ x ++ behind xs

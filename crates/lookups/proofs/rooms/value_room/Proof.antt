@@ -9,9 +9,10 @@ use Rattle.verdicts.specs.Held.{textsIn}
 use Rattle.verdicts.specs.Lookup.{joined}
 use Rattle.writing.specs.Room.{left, lessBy}
 use Rattle.writing.proofs.RoomLaws.{left-none}
-use Rattle.lookups.specs.Values.{itemTexts, valueBytes, valueText}
+use Rattle.lists.specs.Lists.{itemTexts}
+use Rattle.lookups.specs.Values.{valueBytes, valueText}
 use Rattle.lookups.specs.declared.value.Value.{Value}
-use Rattle.lookups.proofs.JoinedLaws.{bracketed-room, braced-room}
+use Rattle.lists.proofs.JoinedLaws.{bracketed-room, braced-room}
 use borrow.Author.Needs.{needs}
 use Rattle.lookups.proofs.rooms.value_room.Statement.{statement}
 use Rattle.lookups.proofs.rooms.value_room.Tie as tie

@@ -9,7 +9,8 @@ use Rattle.tables.proofs.WrittenLaws.{same-room}
 use Rattle.verdicts.specs.Held.{textsIn}
 use Rattle.verdicts.specs.Lookup.{bracketed, braced}
 use Rattle.writing.proofs.PutLaws.{wrote-same, wrote-none}
-use Rattle.lookups.specs.Values.{itemTexts, valueBytes, valueText}
+use Rattle.lists.specs.Lists.{itemTexts}
+use Rattle.lookups.specs.Values.{valueBytes, valueText}
 use borrow.Author.Needs.{needs}
 use Rattle.lookups.proofs.written.write_value_at.Statement.{statement}
 use Rattle.lookups.proofs.written.write_value_at.Tie as tie

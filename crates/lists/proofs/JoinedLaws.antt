@@ -15,7 +15,7 @@ use Rattle.writing.specs.declared.room.Room.{Room}
 use Rattle.writing.specs.declared.room.Room.the-variants.{Left}
 use Rattle.writing.proofs.RoomLaws.{less-none, less-more}
 use Rattle.writing.proofs.PutLaws.{Wrote, wrote-then, wrote-same, wrote-length, wrote-one, wrote-two, wrapped, Owing, owing-room, owing-on}
-use Rattle.lookups.specs.Values.{itemTexts, behind}
+use Rattle.lists.specs.Lists.{itemTexts, behind}
 
 -- the first, then the others, `, ` in front of each
 joined-behind : (x : List ℕ) (xs : List (List ℕ)) → joined (x ∷ xs) ≡ x ++ behind xs

@@ -1,12 +1,12 @@
--- `lookups::joined::put_bracketed` meets its contract. Assumes nothing.
+-- `lists::joined::put_bracketed` meets its contract. Assumes nothing.
 use native.Mathlib.Omega.{arith}
 use Rattle.verdicts.specs.Lookup.{bracketed}
 use Rattle.writing.proofs.PutLaws.{wrote-length}
-use Rattle.lookups.specs.Values.{itemTexts}
-use Rattle.lookups.proofs.JoinedLaws.{bracket-place, bracket-room, bracket-end, bracket-next, bracket-wrote}
+use Rattle.lists.specs.Lists.{itemTexts}
+use Rattle.lists.proofs.JoinedLaws.{bracket-place, bracket-room, bracket-end, bracket-next, bracket-wrote}
 use borrow.Author.Needs.{needs}
-use Rattle.lookups.proofs.joined.put_bracketed.Statement.{statement}
-use Rattle.lookups.proofs.joined.put_bracketed.Tie as tie
+use Rattle.lists.proofs.joined.put_bracketed.Statement.{statement}
+use Rattle.lists.proofs.joined.put_bracketed.Tie as tie
 
 slice-write-out : tie.Need-slice-write-out
 slice-write-out c =

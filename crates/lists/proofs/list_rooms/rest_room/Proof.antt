@@ -1,4 +1,4 @@
--- `lookups::rooms::rest_room` meets its contract. The loop's invariant: what is left, less the texts still to come, is what is left in the end. The
+-- `lists::list_rooms::rest_room` meets its contract. The loop's invariant: what is left, less the texts still to come, is what is left in the end. The
 -- measure is what is left of the items. Assumes nothing.
 use Prim.Native.Nat.{_-_}
 use mathlib.Core.Path.{_≡_, refl}
@@ -6,9 +6,9 @@ use lib.ListN.{length}
 use borrow.Author.Needs.{needs}
 use Rattle.verdicts.specs.Held.{itemText}
 use Rattle.writing.specs.Room.{lessBy}
-use Rattle.lookups.proofs.JoinedLaws.{rest, room-none, room-more}
-use Rattle.lookups.proofs.rooms.rest_room.Statement.{statement}
-use Rattle.lookups.proofs.rooms.rest_room.Tie as tie
+use Rattle.lists.proofs.JoinedLaws.{rest, room-none, room-more}
+use Rattle.lists.proofs.list_rooms.rest_room.Statement.{statement}
+use Rattle.lists.proofs.list_rooms.rest_room.Tie as tie
 
 abbrev Inv-loop : tie.InvT-loop
 Inv-loop bytes items left₀ i₀ left i = lessBy left (length (rest bytes items i)) ≡ lessBy left₀ (length (rest bytes items 1))

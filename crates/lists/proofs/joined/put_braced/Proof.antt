@@ -1,13 +1,13 @@
--- `lookups::joined::put_braced` meets its contract. Assumes nothing.
+-- `lists::joined::put_braced` meets its contract. Assumes nothing.
 use native.Mathlib.Omega.{arith}
 use lib.ListN.{length-set}
 use Rattle.verdicts.specs.Lookup.{braced}
 use Rattle.writing.proofs.PutLaws.{wrote-length}
-use Rattle.lookups.specs.Values.{itemTexts}
-use Rattle.lookups.proofs.JoinedLaws.{brace-place, brace-room, brace-end, brace-next, brace-wrote}
+use Rattle.lists.specs.Lists.{itemTexts}
+use Rattle.lists.proofs.JoinedLaws.{brace-place, brace-room, brace-end, brace-next, brace-wrote}
 use borrow.Author.Needs.{needs}
-use Rattle.lookups.proofs.joined.put_braced.Statement.{statement}
-use Rattle.lookups.proofs.joined.put_braced.Tie as tie
+use Rattle.lists.proofs.joined.put_braced.Statement.{statement}
+use Rattle.lists.proofs.joined.put_braced.Tie as tie
 
 slice-write-out : tie.Need-slice-write-out
 slice-write-out c =

@@ -4,7 +4,7 @@ ghost use Prim.Native.Nat.{_+_, _≤_};
 ghost use lib.ListN.{length, drop};
 ghost use Rattle.tables.specs.Written.{writtenAt};
 ghost use Rattle.verdicts.specs.Lookup.{joined, bracketed, braced};
-ghost use Rattle.lookups.specs.Values.{itemTexts, behind};
+ghost use Rattle.lists.specs.Lists.{itemTexts, behind};
 use places::texts::part_of;
 use writing::words::put_word;
 

@@ -1,8 +1,8 @@
--- `lookups::items::items_at` meets its contract: each return is a law of parts. Assumes nothing.
+-- `lists::items::items_at` meets its contract: each return is a law of parts. Assumes nothing.
 use Rattle.places.proofs.PartLaws.{part-none, part-rest, part-whole}
 use borrow.Author.Needs.{needs}
-use Rattle.lookups.proofs.items.items_at.Statement.{statement}
-use Rattle.lookups.proofs.items.items_at.Tie as tie
+use Rattle.lists.proofs.items.items_at.Statement.{statement}
+use Rattle.lists.proofs.items.items_at.Tie as tie
 
 mul-result : tie.Need-mul-result
 mul-result c = search needs

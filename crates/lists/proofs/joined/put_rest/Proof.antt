@@ -1,4 +1,4 @@
--- `lookups::joined::put_rest` meets its contract. The loop's invariant: the texts still to come, written from `next` on, make all of them. The measure
+-- `lists::joined::put_rest` meets its contract. The loop's invariant: the texts still to come, written from `next` on, make all of them. The measure
 -- is what is left of the items. Assumes nothing.
 use Prim.Native.Nat.{_-_}
 use mathlib.Core.Path.{_≡_, ap}
@@ -7,9 +7,9 @@ use lib.ListN.{length, length-set}
 use borrow.Author.Needs.{needs}
 use Rattle.verdicts.specs.Held.{itemText}
 use Rattle.writing.proofs.PutLaws.{Owing, owing-all, owing-none}
-use Rattle.lookups.proofs.JoinedLaws.{textOf, rest, rest-none, comma-room, comma-wrote}
-use Rattle.lookups.proofs.joined.put_rest.Statement.{statement}
-use Rattle.lookups.proofs.joined.put_rest.Tie as tie
+use Rattle.lists.proofs.JoinedLaws.{textOf, rest, rest-none, comma-room, comma-wrote}
+use Rattle.lists.proofs.joined.put_rest.Statement.{statement}
+use Rattle.lists.proofs.joined.put_rest.Tie as tie
 
 abbrev Inv-loop : tie.InvT-loop
 Inv-loop bytes items out₀ at next₀ i₀ out next i = Owing at (rest bytes items 1) out₀ out next (rest bytes items i)

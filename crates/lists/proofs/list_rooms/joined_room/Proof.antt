@@ -1,10 +1,10 @@
--- `lookups::rooms::joined_room` meets its contract. Assumes nothing.
+-- `lists::list_rooms::joined_room` meets its contract. Assumes nothing.
 use native.Mathlib.Omega.{arith}
 use Rattle.verdicts.specs.Held.{itemText}
-use Rattle.lookups.proofs.JoinedLaws.{joined-room-none, joined-room-more}
+use Rattle.lists.proofs.JoinedLaws.{joined-room-none, joined-room-more}
 use borrow.Author.Needs.{needs}
-use Rattle.lookups.proofs.rooms.joined_room.Statement.{statement}
-use Rattle.lookups.proofs.rooms.joined_room.Tie as tie
+use Rattle.lists.proofs.list_rooms.joined_room.Statement.{statement}
+use Rattle.lists.proofs.list_rooms.joined_room.Tie as tie
 
 returns : tie.Need-returns
 returns c = let A = c .before .before .args in joined-room-none (A .bytes .now) (A .items .now) (A .room) (omega arith)

@@ -1,11 +1,11 @@
--- `lookups::joined::put_joined` meets its contract. Assumes nothing.
+-- `lists::joined::put_joined` meets its contract. Assumes nothing.
 use native.Mathlib.Omega.{arith}
 use Rattle.verdicts.specs.Held.{itemText}
 use Rattle.writing.proofs.PutLaws.{wrote-none}
-use Rattle.lookups.proofs.JoinedLaws.{joined-none, first-length, joined-wrote}
+use Rattle.lists.proofs.JoinedLaws.{joined-none, first-length, joined-wrote}
 use borrow.Author.Needs.{needs}
-use Rattle.lookups.proofs.joined.put_joined.Statement.{statement}
-use Rattle.lookups.proofs.joined.put_joined.Tie as tie
+use Rattle.lists.proofs.joined.put_joined.Statement.{statement}
+use Rattle.lists.proofs.joined.put_joined.Tie as tie
 
 returns : tie.Need-returns
 returns c =
