@@ -2,7 +2,7 @@
 use Prim.Native.Nat.{ℕ}
 use Prim.Native.String.{String}
 use mathlib.Core.Path.{_≡_, refl}
-use mathlib.Core.Bool.{false}
+use mathlib.Core.Bool.{true, false}
 use mathlib.Core.List.{List, [], _∷_, map}
 use mathlib.Core.Option.{Option, none, some}
 use lib.IntN.{pos}
@@ -35,23 +35,20 @@ use Rattle.script.specs.Values as script-Values
 use Rattle.verdicts.specs.Decisions as verdicts-Decisions
 use Rattle.verdicts.specs.Held as verdicts-Held
 use Rattle.verdicts.specs.Lookup as verdicts-Lookup
-use Rattle.subjects.specs.Subjects as subjects-Subjects
 use Rattle.judge.specs.Calls as judge-Calls
 use Rattle.judge.specs.Tally as judge-Tally
 use Rattle.plain.specs.PlainJudge as plain-PlainJudge
 use Rattle.values.specs.Hex.{hexDecoded}
 use Rattle.values.specs.Unquote.{unquoted}
 use Rattle.values.proofs.ValueExamples as values
-use Rattle.wire.specs.Version.{defaultVersion}
 use Rattle.wire.specs.declared.handshake.ProtocolVersion.{ProtocolVersion}
 use Rattle.wire.specs.declared.ops.Op.the-variants as Op
 use Rattle.script.specs.Layout.{Reading}
 use Rattle.script.specs.Reading.{Parsed, refusedAt, read, refusal, parsed}
 use Rattle.script.specs.declared.records.Counts.{Counts}
-use Rattle.script.specs.declared.records.Maybe.the-variants as Maybe
 use Rattle.script.specs.declared.records.OpCall.{OpCall}
 use Rattle.script.specs.declared.records.OpCall.the-variants as OpCall
-use Rattle.script.specs.declared.response.MaybeNumber.the-variants as MaybeNumber
+use Rattle.script.specs.declared.response.HandshakeInfo.{HandshakeInfo}
 use Rattle.verdicts.specs.Expected.{Expected, exact, regex, greaterOrEqual, result, trust, serverFeatures}
 use Rattle.verdicts.specs.Told.{Subject, greeting}
 use Rattle.verdicts.specs.Lookup.{looked}
@@ -59,6 +56,7 @@ use Rattle.verdicts.specs.Decisions.{decides}
 use Rattle.verdicts.specs.Verdicts.{verdict}
 use Rattle.verdicts.specs.declared.Verdict.the-variants.{Passed, Failed}
 use Rattle.verdicts.proofs.VerdictExamples as verdicts
+use Rattle.subjects.specs.Subjects.{partsIn}
 use Rattle.subjects.specs.declared.handed.Handed.the-variants.{Info}
 use Rattle.judge.specs.Calls.{Call, judge, close, said}
 use Rattle.judge.specs.declared.calls.Answer.{Answer}
@@ -128,30 +126,13 @@ abbrev pub value : Subject → Expected → Option (List ℕ)
 unfolding verdicts-Lookup.joined verdicts-Lookup.braced verdicts-Lookup.trustOf verdicts-Lookup.trustText verdicts-Lookup.featuresText verdicts-Lookup.toldIn verdicts-Lookup.looked text-Literal.utf8 text-Unicode.encoded
 value s e = looked s e
 
--- the handshake is judged, with no features, no version and no trust, and then the script is closed
-abbrev pub inFull : List Call
-inFull =
-    judge (record {
-      number = 0;
-      handed = Info (record {
-        «client_version» = defaultVersion;
-        «server_version» = defaultVersion;
-        «negotiated_version» = defaultVersion;
-        «client_features» = record { first = 0; count = 0 };
-        «server_features» = record { first = 0; count = 0 };
-        «daemon_nix_version» = Maybe.Absent;
-        «trust_status» = MaybeNumber.Absent;
-      });
-      bytes = [];
-      lists = [];
-      scratch = 0;
-    })
-    ∷ close
-    ∷ []
+-- the handshake is judged, whatever it told, and then the script is closed
+abbrev pub inFull : HandshakeInfo → (bytes : List ℕ) → (lists : List (List ℕ)) → (scratch : ℕ) → List Call
+inFull i bytes lists scratch = judge (record { number = 0; handed = Info i; bytes = bytes; lists = lists; scratch = scratch }) ∷ close ∷ []
 
 -- what the plain judge answers, every definition open
 abbrev pub answers : (text : String) → List Call → List Answer
-unfolding text-Literal.utf8 text-Lines.linesFrom text-Lines.lines script-Reading.room script-Plain.plainFrom script-Plain.plainLines script-Plain.opened script-Plain.expectationLines script-Plain.owners verdicts-Held.inside verdicts-Held.placeIn verdicts-Held.maybeIn verdicts-Held.itemsIn verdicts-Held.listIn verdicts-Held.infoIn subjects-Subjects.partsIn judge-Tally.addedAll judge-Tally.outcomeOf judge-Calls.wrongNumber judge-Calls.partOutside judge-Calls.tooLong judge-Calls.refusedIf judge-Calls.firstRefusal judge-Calls.judgedOr judge-Calls.closedOr judge-Calls.run plain-PlainJudge.owned plain-PlainJudge.belonging plain-PlainJudge.entryCount plain-PlainJudge.ownedLines plain-PlainJudge.filled plain-PlainJudge.plainStart plain-PlainJudge.plainRefusal plain-PlainJudge.plainJudged plain-PlainJudge.plainClosing plain-PlainJudge.plainCall plain-PlainJudge.plainRun
+unfolding text-Literal.utf8 text-Lines.linesFrom text-Lines.lines script-Plain.plainFrom script-Plain.plainLines script-Plain.opened script-Plain.expectationLines script-Plain.owners judge-Tally.addedAll judge-Tally.outcomeOf judge-Calls.wrongNumber judge-Calls.partOutside judge-Calls.tooLong judge-Calls.refusedIf judge-Calls.firstRefusal judge-Calls.judgedOr judge-Calls.closedOr judge-Calls.run plain-PlainJudge.owned plain-PlainJudge.belonging plain-PlainJudge.entryCount plain-PlainJudge.ownedLines plain-PlainJudge.filled plain-PlainJudge.plainStart plain-PlainJudge.plainRefusal plain-PlainJudge.plainJudged plain-PlainJudge.plainClosing plain-PlainJudge.plainCall plain-PlainJudge.plainRun
 answers text calls = plainRun (utf8 text) 0 calls .0
 
 -- an empty pattern stands in any value
@@ -181,10 +162,11 @@ Rows =
     × ((says "expect result: >= 9223372036854775807" ≡ read (result (greaterOrEqual (pos 9223372036854775807)) ∷ []))
     × (decides (greaterOrEqual (pos 9223372036854775807)) (utf8 "9223372036854775808") ≡ Failed))
     -- P8 `{}` against no features fails, the value being `{  }`.
-    × ((verdict (told none) (serverFeatures (exact (utf8 "{}"))) ≡ Failed)
-    × (value (told none) (serverFeatures (exact (utf8 "{}"))) ≡ some (utf8 "{  }")))
-    -- P9 empty text: 1.38, nothing checked.
-    × ((version "" ≡ read (record { major = 1; minor = 38 })) × (answers "" inFull ≡ Judged ∷ Closed NothingChecked ∷ []))
+    × ((says "expect server_features: {}" ≡ read (serverFeatures (exact (utf8 "{}")) ∷ []))
+    × (verdict (told none) (serverFeatures (exact (utf8 "{}"))) ≡ Failed) × (value (told none) (serverFeatures (exact (utf8 "{}"))) ≡ some (utf8 "{  }")))
+    -- P9 empty text: 1.38, nothing checked. (By the plain judge, whatever the handshake told, if its parts lie inside its bytes: else 32.)
+    × ((version "" ≡ read (record { major = 1; minor = 38 })) × ((i : HandshakeInfo) (bytes : List ℕ) (lists : List (List ℕ)) (scratch : ℕ)
+    → partsIn bytes lists (Info i) ≡ true → answers "" (inFull i bytes lists scratch) ≡ Judged ∷ Closed NothingChecked ∷ []))
     -- P10 `protocol: 1.256` leaves 1.38.
     × (version "protocol: 1.256" ≡ read (record { major = 1; minor = 38 }))
     -- P11 `# nwscript v1` below `---`: 9.
@@ -210,8 +192,8 @@ table = (
   refl,
   (refl, empty-passes, refl),
   (refl, verdicts.examples .4),
-  (verdicts.examples .9, refl),
-  (refl, refl),
+  (refl, verdicts.examples .9, refl),
+  (refl, λ i bytes lists scratch h. rw h refl),
   refl,
   refl,
   refl,
