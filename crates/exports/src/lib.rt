@@ -20,6 +20,7 @@ ghost use Rattle.dump.specs.Dump.{readDump};
 ghost use Rattle.dump.specs.Times.{lastNumber};
 
 pub mod messages;
+pub mod running;
 
 use parse::measure::Measured;
 
