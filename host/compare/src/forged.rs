@@ -75,6 +75,11 @@ fn lies_inside(part: Part, row: &[u64], bytes: &[u8], lists: &[[usize; 2]]) -> b
     }
 }
 
+/// Whether a part of a response or a handshake lies outside its bytes or its table.
+pub fn is_outside(against: Against, row: &[u64], bytes: &[u8], lists: &[[usize; 2]]) -> bool {
+    !subject_parts(against, row).into_iter().all(|part| lies_inside(part, row, bytes, lists))
+}
+
 /// The first refusal that applies, or 0.
 pub fn refusal(laid: &Laid, value: usize, message: usize, scratch: usize, buffer: usize) -> u64 {
     let Laid {
@@ -89,7 +94,7 @@ pub fn refusal(laid: &Laid, value: usize, message: usize, scratch: usize, buffer
         |parts: Vec<Part>, row, bytes, lists| parts.into_iter().all(|part| lies_inside(part, row, bytes, lists));
     if !all_inside(expect_parts(expect), expect, text, &[]) {
         31
-    } else if !all_inside(subject_parts(laid.against, subject), subject, bytes, lists) {
+    } else if is_outside(laid.against, subject, bytes, lists) {
         32
     } else if value > scratch {
         34
@@ -115,35 +120,40 @@ pub fn forge_expect(rng: &mut Rng, laid: &mut Laid) -> bool {
 
 /// Puts a part of what it is judged against outside the bytes or the table.
 pub fn forge_subject(rng: &mut Rng, laid: &mut Laid) {
-    let parts = subject_parts(laid.against, &laid.subject);
+    forge_row(rng, laid.against, &mut laid.subject, &laid.bytes, &mut laid.lists);
+}
+
+/// Puts a part of a row outside the bytes or the table.
+pub fn forge_row(rng: &mut Rng, against: Against, row: &mut Vec<u64>, bytes: &[u8], lists: &mut Vec<[usize; 2]>) {
+    let parts = subject_parts(against, row);
     match rng.pick(&parts) {
         Part::Place(k) => {
-            let forged = outside(rng, laid.bytes.len());
-            put(&mut laid.subject, k, forged);
+            let forged = outside(rng, bytes.len());
+            put(row, k, forged);
         }
-        Part::List(k) => forge_list(rng, laid, k),
+        Part::List(k) => forge_list(rng, row, bytes, lists, k),
     }
 }
 
 /// A range outside the table, one that ends beyond what counts of it, or a text of the list outside the bytes.
-fn forge_list(rng: &mut Rng, laid: &mut Laid, k: usize) {
-    let (first, count) = (at(&laid.subject, k), at(&laid.subject, k + 1));
+fn forge_list(rng: &mut Rng, row: &mut Vec<u64>, bytes: &[u8], lists: &mut Vec<[usize; 2]>, k: usize) {
+    let (first, count) = (at(row, k), at(row, k + 1));
     // It may be forged already.
-    let has_texts = count > 0 && inside(laid.lists.len(), first, count);
+    let has_texts = count > 0 && inside(lists.len(), first, count);
     match rng.below(20) {
         0 => {
-            laid.lists.resize(RECORDS + 2, [0, 0]);
+            lists.resize(RECORDS + 2, [0, 0]);
             let len = 1 + rng.below(2);
-            put(&mut laid.subject, k, [(RECORDS + 1 - len) as u64, len as u64]);
+            put(row, k, [(RECORDS + 1 - len) as u64, len as u64]);
         }
         1..=9 if has_texts => {
-            let forged = outside(rng, laid.bytes.len());
+            let forged = outside(rng, bytes.len());
             let text = first as usize + rng.below(count as usize);
-            laid.lists[text] = forged.map(|number| number as usize);
+            lists[text] = forged.map(|number| number as usize);
         }
         _ => {
-            let forged = outside(rng, laid.lists.len().min(RECORDS));
-            put(&mut laid.subject, k, forged);
+            let forged = outside(rng, lists.len().min(RECORDS));
+            put(row, k, forged);
         }
     }
 }

@@ -23,16 +23,15 @@ pub struct Laid {
 /// Only so many records of a table count.
 pub const RECORDS: usize = 32_768;
 
+const FAR: usize = 300;
+
 impl Laid {
     pub fn new(rng: &mut Rng, expect: &Expect, subject: &Subject) -> Laid {
         let mut text = filling(rng);
         let n = matcher_number(expect).unwrap_or_else(|| rng.any() as i64);
         let expect = expect_row(rng, &mut text, expect);
-        let mut held = Held::new(rng);
-        let (against, row) = match subject {
-            Subject::Response(response) => (Against::Response, held.response_row(response)),
-            Subject::Handshake(info) => (Against::Handshake, held.info_row(info)),
-        };
+        let mut held = Held::new(rng, FAR);
+        let (against, row) = held.row(subject);
         let Held { bytes, lists, .. } = held;
         Laid {
             text,
@@ -180,20 +179,31 @@ fn expect_row(rng: &mut Rng, text: &mut Vec<u8>, expect: &Expect) -> Vec<u64> {
     cut(rng, row)
 }
 
-/// The bytes and the table of places of a response or a handshake.
-struct Held<'a> {
+/// The bytes and the table of places of responses and handshakes.
+pub struct Held<'a> {
     rng: &'a mut Rng,
-    bytes: Vec<u8>,
-    lists: Vec<[usize; 2]>,
+    pub bytes: Vec<u8>,
+    pub lists: Vec<[usize; 2]>,
+    /// Of so many lists one stands at the end of what counts of the table.
+    far: usize,
 }
 
 impl Held<'_> {
-    fn new(rng: &mut Rng) -> Held<'_> {
+    pub fn new(rng: &mut Rng, far: usize) -> Held<'_> {
         let bytes = filling(rng);
         Held {
             rng,
             bytes,
             lists: Vec::new(),
+            far,
+        }
+    }
+
+    /// What it is, and its row.
+    pub fn row(&mut self, subject: &Subject) -> (Against, Vec<u64>) {
+        match subject {
+            Subject::Response(response) => (Against::Response, self.response_row(response)),
+            Subject::Handshake(info) => (Against::Handshake, self.info_row(info)),
         }
     }
 
@@ -204,7 +214,7 @@ impl Held<'_> {
     /// A range of the table, at times right at the end of what counts of it. Records that belong to no list are any.
     fn list(&mut self, texts: &[String]) -> [usize; 2] {
         let places: Vec<[usize; 2]> = texts.iter().map(|text| self.place(text)).collect();
-        let between = match self.rng.below(300) {
+        let between = match self.rng.below(self.far) {
             0 => RECORDS.saturating_sub(self.lists.len() + places.len()),
             _ => self.rng.below(3),
         };

@@ -2,6 +2,7 @@
 //!
 //!     compare [SEED]
 //!     compare folder PATH
+//!     compare runs [SEED]
 //!     compare sample [SEED]
 //!
 //! A line for each function, then `N passed, M failed`. Exit status 1 if any case failed. Of a folder's files the whole
@@ -16,6 +17,7 @@ mod dump;
 mod folder;
 mod forged;
 mod gen;
+mod guarded;
 mod hex;
 mod judged;
 mod laid;
@@ -25,10 +27,12 @@ mod limits;
 mod measure;
 mod numbers;
 mod places;
+mod plain;
 mod read;
 mod reference;
 mod report;
 mod row;
+mod runs;
 mod sample;
 mod sample_read;
 mod sample_verdicts;
@@ -48,7 +52,7 @@ use std::process::ExitCode;
 use report::Report;
 
 /// Each area makes its own random inputs from the seed, so that a change in one leaves the others as they were.
-const AREAS: [fn(u64, &mut Report); 8] = [
+const AREAS: [fn(u64, &mut Report); 9] = [
     text::compare,
     numbers::compare,
     hex::compare,
@@ -57,6 +61,7 @@ const AREAS: [fn(u64, &mut Report); 8] = [
     read::compare,
     decisions::compare,
     verdicts::compare,
+    runs::compare,
 ];
 
 const SEED: u64 = 20_240_229;
@@ -67,6 +72,8 @@ fn main() -> ExitCode {
     let shown: Vec<&str> = words.iter().map(|word| word.to_str().unwrap_or_default()).collect();
     match shown[..] {
         ["folder", _] => folder::compare(Path::new(&words[1])),
+        ["runs"] => compare_runs(SEED),
+        ["runs", word] => seed(word).map_or(ExitCode::from(2), compare_runs),
         ["sample"] => print_sample(SEED),
         ["sample", word] => seed(word).map_or(ExitCode::from(2), print_sample),
         [] => compare(SEED),
@@ -76,7 +83,7 @@ fn main() -> ExitCode {
 }
 
 fn usage() -> ExitCode {
-    eprintln!("compare: usage: compare [SEED], compare folder PATH or compare sample [SEED]");
+    eprintln!("compare: usage: compare [SEED], compare runs [SEED], compare folder PATH or compare sample [SEED]");
     ExitCode::from(2)
 }
 
@@ -93,6 +100,14 @@ fn print_sample(seed: u64) -> ExitCode {
     sample_read::print(seed);
     sample_verdicts::print(seed);
     ExitCode::SUCCESS
+}
+
+/// Only the lists of calls.
+fn compare_runs(seed: u64) -> ExitCode {
+    println!("seed {seed}");
+    let mut report = Report::default();
+    runs::compare(seed, &mut report);
+    report.finish()
 }
 
 fn compare(seed: u64) -> ExitCode {

@@ -8,6 +8,7 @@ use nix_wire::script::{DaemonResponse, Expect};
 
 use crate::decisions::{class, UNDECIDED};
 use crate::gen::Rng;
+use crate::guarded::Guarded;
 use crate::judged::{self, Answer, Subject};
 use crate::laid::Laid;
 use crate::report::{Finding, Report, Tally};
@@ -213,7 +214,7 @@ fn kinds_of(number: u64) -> (bool, [usize; 4]) {
 }
 
 /// Whether it is an entry's, and the places of the expectation, the result and the field in their lists.
-const VALUED: &[(bool, usize, usize, usize)] = &[
+pub const VALUED: &[(bool, usize, usize, usize)] = &[
     (true, 0, 1, 0),
     (true, 1, 1, 0),
     (true, 1, 2, 0),
@@ -249,7 +250,7 @@ impl std::fmt::Debug for Case {
     }
 }
 
-fn shorter(rng: &mut Rng, size: usize) -> usize {
+pub fn shorter(rng: &mut Rng, size: usize) -> usize {
     match rng.below(3) {
         0 => rng.below(size + 1),
         _ => size.saturating_sub(1),
@@ -263,46 +264,6 @@ fn refused(number: u64) -> &'static str {
         34 => "refused 34",
         _ => "refused 38",
     }
-}
-
-/// A lent slice between bytes that are not lent.
-struct Guarded {
-    bytes: Vec<u8>,
-}
-
-const GUARD: usize = 16;
-
-impl Guarded {
-    fn new(len: usize) -> Guarded {
-        Guarded {
-            bytes: (0..len + 2 * GUARD).map(before).collect(),
-        }
-    }
-
-    fn lent(&mut self) -> &mut [u8] {
-        let end = self.bytes.len() - GUARD;
-        &mut self.bytes[GUARD..end]
-    }
-
-    /// The bytes stand at the front of what was lent, and all others are as they were.
-    fn holds(&self, written: &[u8]) -> Result<(), String> {
-        for (at, byte) in self.bytes.iter().enumerate() {
-            let expected = match at.checked_sub(GUARD) {
-                Some(at) if at < written.len() => written[at],
-                _ => before(at),
-            };
-            if *byte != expected {
-                let at = at as isize - GUARD as isize;
-                return Err(format!("has {byte:#x} at {at} in place of {expected:#x}"));
-            }
-        }
-        Ok(())
-    }
-}
-
-/// What stands at a place before the call; no ASCII, so that a word of a message differs.
-fn before(at: usize) -> u8 {
-    0x80 | (at as u8).wrapping_mul(37)
 }
 
 /// Every kind of case that is to be met.

@@ -102,6 +102,27 @@ mod exports {
             lists: *const [usize; 2],
             lists_len: usize,
         ) -> u64;
+        pub fn nwscript_run(
+            text: *const u8,
+            text_len: usize,
+            calls: *const [u64; 22],
+            calls_len: usize,
+            bytes: *const u8,
+            bytes_len: usize,
+            lists: *const [usize; 2],
+            lists_len: usize,
+            verdicts: *mut u8,
+            verdicts_len: usize,
+            scratch: *mut u8,
+            scratch_len: usize,
+            answers: *mut u64,
+            answers_len: usize,
+            line: *mut usize,
+            next: *mut usize,
+            passed: *mut usize,
+            failed: *mut usize,
+            undecided: *mut usize,
+        ) -> u64;
     }
 }
 
@@ -362,4 +383,61 @@ pub fn verdict(asked: &Asked) -> u64 {
             asked.lists.len(),
         )
     }
+}
+
+/// A list of calls on a text, as numbers: each call is a row (`crates/calls/specs/CallRows.antt` says which number is
+/// what), whose places are places in the bytes and whose lists are ranges of the table of places.
+#[derive(Debug, Clone, Copy)]
+pub struct Run<'a> {
+    pub text: &'a [u8],
+    pub calls: &'a [[u64; 22]],
+    pub bytes: &'a [u8],
+    pub lists: &'a [[usize; 2]],
+}
+
+/// What a run answers: 0, or the number of Read's refusal and its line, or one of the two below; the tally's next
+/// number and its counts of passed, failed and undecided, all 0 unless the run is done.
+#[derive(Debug, Clone, Copy, Default, PartialEq, Eq)]
+pub struct Ran {
+    pub status: u64,
+    pub line: usize,
+    pub tally: [usize; 4],
+}
+
+/// There are fewer places for answers than calls.
+pub const FEW_ANSWERS: u64 = 201;
+
+/// A call asks for more bytes of the scratch than are lent.
+pub const MUCH_SCRATCH: u64 = 202;
+
+/// Reads a text into tables of the library's own and makes every call in turn, from a fresh tally. The answers are
+/// numbers: a refusal's, 0 for judged, 101 and above for what closing says.
+pub fn run(run: &Run, verdicts: &mut [u8], scratch: &mut [u8], answers: &mut [u64]) -> Ran {
+    // Values that no answer has: one that is not written is seen.
+    let (mut line, mut tally) = (usize::MAX, [usize::MAX; 4]);
+    let [next, passed, failed, undecided] = &mut tally;
+    let status = unsafe {
+        exports::nwscript_run(
+            run.text.as_ptr(),
+            run.text.len(),
+            run.calls.as_ptr(),
+            run.calls.len(),
+            run.bytes.as_ptr(),
+            run.bytes.len(),
+            run.lists.as_ptr(),
+            run.lists.len(),
+            verdicts.as_mut_ptr(),
+            verdicts.len(),
+            scratch.as_mut_ptr(),
+            scratch.len(),
+            answers.as_mut_ptr(),
+            answers.len(),
+            &mut line,
+            next,
+            passed,
+            failed,
+            undecided,
+        )
+    };
+    Ran { status, line, tally }
 }
