@@ -1,10 +1,18 @@
 // Stored runs of a judge that is told nothing. Of each file that an argument names the text is read as a script, its handshake is judged against an
-// information that holds nothing, and the script is closed: what closing says is printed. The texts stand in data/, and what is to be printed in stdout.
+// information that holds nothing, and the script is closed: the count of its `expect` lines and what closing says are printed. The texts stand in data/, and what is to be printed in stdout.
 use libc::STDOUT_FILENO;
 use script_run::running::Ran;
 
 fn print(words: &[u8]) {
     io::write_all(STDOUT_FILENO, words);
+}
+
+fn print_number(n: u64) {
+    let mut digits = [0u8; 20];
+    let len = writing::decimal::put_decimal(n, &mut digits, 0);
+    if len <= 20 {
+        print(&digits[..len]);
+    }
 }
 
 // An answer by its number (calls/specs/CallRows.antt).
@@ -19,7 +27,10 @@ fn print_answer(code: u64) {
     }
 }
 
+// How many lines begin with `expect`, counted by the walker and not by the reading; then what closing says.
 fn run_text(text: &[u8]) {
+    print_number(walker::expect_lines(text) as u64);
+    print(b" expect lines, ");
     let mut handshake = [0u64; 22];
     handshake[0] = 1;
     handshake[2] = 64;
