@@ -18,6 +18,7 @@ use Rattle.judge.specs.Calls.{Judging, Call, judge, close}
 
 -- ---- a call
 
+-- what is handed over: the handshake's information, or a response
 unfoldable pub handedOf : (kind : ℕ) → (row : List ℕ) → Handed
 handedOf kind row = if eqb kind 1 then Info (infoRow row) else Response (responseRow row)
 
@@ -26,20 +27,24 @@ module _ (bytes : List ℕ) (lists : List (List ℕ)) where
   unfoldable pub judgingOf : (number scratch : ℕ) → Handed → Judging
   judgingOf number scratch handed = record { number = number; handed = handed; bytes = bytes; lists = counted lists; scratch = scratch }
 
+  -- the call that a row stands for
   unfoldable pub callOf : (row : List ℕ) → Call
   callOf row = if eqb (at row 0) 0 then close else judge (judgingOf (at row 1) (at row 2) (handedOf (at row 0) (drop 3 row)))
 
+  -- and the list of calls
   unfoldable pub callsOf : (rows : List (List ℕ)) → List Call
   callsOf rows = map callOf rows
 
 -- ---- an answer: a refusal's number (31 to 37), 0 for judged, above 100 what closing says
 
+-- what closing says
 unfoldable pub outcomeCode : Outcome → ℕ
 outcomeCode Passed = 101
 outcomeCode Failed = 102
 outcomeCode Undecided = 103
 outcomeCode NothingChecked = 104
 
+-- an answer
 unfoldable pub answerCode : Answer → ℕ
 answerCode (Refused r) = r .number
 answerCode Judged = 0

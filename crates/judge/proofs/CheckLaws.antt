@@ -1,15 +1,15 @@
 -- Laws of the tests that come before anything is touched. Assumes nothing.
 use mathlib.Core.Path.{_≡_, refl, sym, ap, _∙_}
 use mathlib.Core.Bool.{Bool, true, false, not}
-use mathlib.Core.Option.{none, some}
-use mathlib.Core.List.{List, [], _∷_}
+use mathlib.Core.Option.{some}
+use mathlib.Core.List.{[], _∷_}
 use Prim.Native.Nat.{ℕ, _≤_, _<_, min}
 use native.Mathlib.Omega.{arith}
 use native.Mathlib.Decide.{decLe}
 use lib.Dec.{ltb, eqb}
 use borrow.Author.Tests.{lt-ltb, le-ltb, eq-eqb, ne-eqb}
-use Rattle.text.specs.Base.{_&_, _or_}
-use Rattle.script.specs.Reading.{refusal, room}
+use Rattle.text.specs.Base.{_&_}
+use Rattle.script.specs.Reading.{room}
 use Rattle.script.specs.declared.records.Items.{Items}
 use Rattle.verdicts.specs.Held.{inside}
 use Rattle.subjects.specs.declared.handed.Handed.{Handed}

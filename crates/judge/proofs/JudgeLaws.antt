@@ -2,33 +2,27 @@
 -- look at the entries. Assumes nothing.
 use mathlib.Core.Path.{_≡_, refl, sym, ap, _∙_}
 use mathlib.Core.Logic.{_≢_}
-use mathlib.Core.Bool.{Bool, true, false, not}
+use mathlib.Core.Bool.{Bool, true, false}
 use mathlib.Core.Option.{Option, none, some}
 use mathlib.Core.List.{List, [], map}
-use Prim.Native.Nat.{ℕ, _+_, _-_, _≤_, _<_, min}
-use native.Mathlib.Omega.{arith}
-use lib.ListN.{length}
-use lib.Dec.{ltb, leb, eqb}
-use borrow.Author.Tests.{eq-eqb, ne-eqb, ltb-false, leb-true, eqb-true, eqb-false, not-false}
-use Rattle.text.specs.Base.{_&_, _or_}
-use Rattle.text.proofs.Scan.{both}
-use Rattle.script.specs.Reading.{refusal, room}
+use Prim.Native.Nat.{ℕ, _+_, _-_, _≤_}
+use lib.Dec.{ltb}
+use borrow.Author.Tests.{eq-eqb, ne-eqb, ltb-false}
+use Rattle.script.specs.Reading.{refusal}
 use Rattle.script.specs.declared.records.Items.{Items}
 use Rattle.script.specs.declared.records.Entry.{Entry}
 use Rattle.script.specs.declared.records.Expectation.{Expectation}
 use Rattle.script.specs.declared.records.Refusal.{Refusal}
 use Rattle.script.specs.declared.records.Script.{Script}
 use Rattle.script.specs.declared.response.HandshakeInfo.{HandshakeInfo}
-use Rattle.script.specs.declared.response.DaemonResponse.{DaemonResponse}
 use Rattle.verdicts.specs.Lookup.{looked}
-use Rattle.verdicts.specs.Held.{inside}
 use Rattle.judge.specs.declared.tally.Counts.{Counts}
 use Rattle.judge.specs.declared.tally.Tally.{Tally}
-use Rattle.subjects.specs.declared.handed.Handed.the-variants.{Info, Response}
+use Rattle.subjects.specs.declared.handed.Handed.the-variants.{Info}
 use Rattle.judge.specs.declared.calls.Answer.the-variants.{Refused, Closed}
 use Rattle.judge.specs.Tally.{outcomeOf, overLimit}
 use Rattle.judge.specs.Calls.{Judging, judge, subjectOf, wrongNumber, partOutside, tooLong, firstRefusal, closedOr}
-use Rattle.judge.specs.Judge.{Lent, JudgeState, allIn, rangeFor, recordsIn, saidBy, pastEntries, rangeOutside, outOfReach, fewSlots, rangeRefusals, judgeRefusal, judgedBy, judged, scratchAfter, closeRefusal, closeAnswer, judgeStep, refusalOn, judgedOn, scratchOn}
+use Rattle.judge.specs.Judge.{Lent, JudgeState, rangeFor, recordsIn, saidBy, rangeOutside, outOfReach, fewSlots, rangeRefusals, judgeRefusal, judgedBy, judged, scratchAfter, closeRefusal, closeAnswer, judgeStep, refusalOn, judgedOn, scratchOn}
 use Rattle.judge.proofs.Orders.{neither}
 use Rattle.judge.proofs.Refusals.{no-test, hit, pass, passed-by}
 
@@ -119,48 +113,6 @@ few-counts c e =
     let a = neither (ltb 0x8000 (c .passed)) _ e in
     let b = neither (ltb 0x8000 (c .failed)) _ (a .1) in
     (ltb-false 0x8000 (c .passed) (a .0), ltb-false 0x8000 (c .failed) (b .0), ltb-false 0x8000 (c .undecided) (b .1))
-
--- the handshake is number 0, and next
-pub handshake-next : (next n : ℕ) (past : Bool) (i : HandshakeInfo) → wrongNumber next n past (Info i) ≡ false → (n ≡ next) × (n ≡ 0)
-unfolding wrongNumber
-handshake-next next n past i e =
-    let a = neither (not (eqb n next)) _ e in
-    (eqb-true n next (not-false (eqb n next) (a .0)), eqb-true n 0 (not-false (eqb n 0) (a .1)))
-
--- an entry is next, and stands in the table
-pub entry-next : (k : Lent) (next n : ℕ) (r : DaemonResponse) → wrongNumber next n (pastEntries k n) (Response r) ≡ false
-    → (n ≡ next) × (0 < n) × (n ≤ k .script .counts .entries) × (n ≤ length (k .entries)) × (n ≤ 0x8000)
-unfolding wrongNumber pastEntries room
-entry-next k next n r e =
-    let a = neither (not (eqb n next)) (eqb n 0 or ltb (k .script .counts .entries) n or ltb (min 0x8000 (length (k .entries))) n) e in
-    let b = neither (eqb n 0) (ltb (k .script .counts .entries) n or ltb (min 0x8000 (length (k .entries))) n) (a .1) in
-    let c = neither (ltb (k .script .counts .entries) n) (ltb (min 0x8000 (length (k .entries))) n) (b .1) in
-    let z : n ≡ 0 → ⊥ = eqb-false n 0 (b .0) in
-    let l : n ≤ min 0x8000 (length (k .entries)) = ltb-false (min 0x8000 (length (k .entries))) n (c .1) in
-    (eqb-true n next (not-false (eqb n next) (a .0)), omega arith, ltb-false (k .script .counts .entries) n (c .0), omega arith, omega arith)
-
--- a range that is not empty lies in the table and in the verdict list, and all of it in the text
-module _ (k : Lent) (r : Items) (places : ℕ) (reach : outOfReach k r ≡ false) where
-  pub all-in-text : allIn (k .text) (recordsIn k r) ≡ true
-  unfolding outOfReach
-  all-in-text = not-false (allIn (k .text) (recordsIn k r)) (neither (rangeOutside k r) _ reach .1)
-
-  pub range-fits : fewSlots k places ≡ false → 0 < r .count
-      → (r .first + r .count ≤ length (k .expectations)) × (r .first + r .count ≤ places) × (r .first + r .count ≤ 0x8000)
-  unfolding outOfReach rangeOutside fewSlots room inside
-  range-fits slots nonempty =
-      let n : ℕ = min (k .script .counts .expectations) (min 0x8000 (length (k .expectations))) in
-      let a = neither (not (eqb (r .count) 0) & not (leb (r .first) n & leb (r .count) (n - r .first))) _ reach in
-      let b : leb (r .first) n & leb (r .count) (n - r .first) ≡ true = go (eqb (r .count) 0) (leb (r .first) n & leb (r .count) (n - r .first)) refl (a .0) in
-      let c = both (leb (r .first) n) (leb (r .count) (n - r .first)) b in
-      let d : r .first ≤ n = leb-true (r .first) n (c .0) in
-      let e : r .count ≤ n - r .first = leb-true (r .count) (n - r .first) (c .1) in
-      let f : k .script .counts .expectations ≤ min 0x8000 places = ltb-false (min 0x8000 places) (k .script .counts .expectations) slots in
-      (omega arith, omega arith, omega arith)
-    where
-      go : (z b : Bool) → eqb (r .count) 0 ≡ z → (not z & not b) ≡ false → b ≡ true
-      go true b h e = let q : r .count ≡ 0 = eqb-true (r .count) 0 h in let w : ⊥ = omega arith in absurd w
-      go false b h e = not-false b e
 
 -- ---- the handshake needs no table of entries
 

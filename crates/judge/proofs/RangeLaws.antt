@@ -72,13 +72,6 @@ written-nothing at t = rw (add-zero at, append-nil (take at t)) (take-append-dro
 
 -- ---- the scratch
 
--- a value that fits is written at the front
-pub overwritten-front : (value scratch : List ℕ) → length value ≤ length scratch → overwrittenBy (some value) scratch ≡ writtenAt 0 value scratch
-unfolding overwrittenBy overlaid writtenAt
-overwritten-front value scratch h =
-    let e : 0 + length value ≡ length value = omega arith in
-    rw (le-leb (length value) (length scratch) h, e) refl
-
 -- where none of some values is too long, the first is not
 pub first-fits : (scratch : ℕ) (value : List ℕ) (values : List (Option (List ℕ))) → tooLong scratch (some value ∷ values) ≡ false → length value ≤ scratch
 unfolding tooLong

@@ -3,7 +3,7 @@ use mathlib.Core.Path.{_≡_, refl, sym, ap, _∙_}
 use mathlib.Core.Bool.{Bool, true, false, not}
 use mathlib.Core.Option.{Option, none, some}
 use mathlib.Core.List.{List, [], _∷_, map}
-use Prim.Native.Nat.{ℕ, zero, suc, _+_, _-_, _≤_, _<_, min}
+use Prim.Native.Nat.{ℕ, zero, suc, _+_, _-_, _≤_, min}
 use native.Mathlib.Omega.{arith}
 use native.Mathlib.Decide.{decLe}
 use lib.ListN.{length, getD}
@@ -32,7 +32,6 @@ use Rattle.subjects.specs.declared.handed.Handed.{Handed}
 use Rattle.subjects.specs.declared.handed.Handed.the-variants.{Info, Response}
 use Rattle.judge.specs.declared.tally.Counts.{Counts}
 use Rattle.judge.specs.declared.tally.Tally.{Tally}
-use Rattle.judge.specs.declared.calls.Answer.{Answer}
 use Rattle.judge.specs.declared.calls.Answer.the-variants.{Refused, Judged}
 use Rattle.judge.specs.declared.calls.Turn.{Turn}
 use Rattle.judge.specs.Tally.{overLimit, addedAll}
@@ -42,7 +41,7 @@ use Rattle.judge.specs.Judging.{refusalBy, settledAs, turned, lentOf, as
 use Rattle.judge.proofs.Orders.{neither}
 use Rattle.judge.proofs.Refusals.{no-test, hit, pass, passed-by}
 use Rattle.judge.proofs.RangeLaws.{written-nothing}
-use Rattle.judge.proofs.JudgeLaws.{refuse-36, refuse-33, refuse-range, refuse-31, refuse-32, refuse-35, refuse-34, refuse-none, Clear, clear, few-counts}
+use Rattle.judge.proofs.JudgeLaws.{refuse-36, refuse-33, refuse-range, refuse-31, refuse-32, refuse-35, refuse-34, refuse-none, Clear, clear}
 
 -- ---- a range that is settled
 

@@ -4,7 +4,7 @@ ghost use mathlib.Core.Bool.{not};
 ghost use mathlib.Core.List.{[], _∷_};
 ghost use Prim.Native.Nat.{_-_, _≤_, min};
 ghost use lib.Dec.{ltb, eqb};
-ghost use Rattle.text.specs.Base.{_&_, _or_};
+ghost use Rattle.text.specs.Base.{_&_};
 ghost use Rattle.script.specs.Reading.{room};
 ghost use Rattle.verdicts.specs.Held as Held;
 ghost use Rattle.judge.specs.Tally.{overLimit};

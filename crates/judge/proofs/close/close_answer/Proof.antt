@@ -1,6 +1,6 @@
 -- `close_answer` meets its contract. Assumes nothing.
 use borrow.Author.Needs.{needs}
-use mathlib.Core.Path.{_≡_, ap, _∙_}
+use mathlib.Core.Path.{_≡_, sym, ap, _∙_}
 use mathlib.Core.Bool.{false}
 use Rattle.judge.specs.Tally.{overLimit}
 use Rattle.judge.specs.declared.tally.Outcome.{Outcome}
@@ -17,7 +17,7 @@ refused-requires : tie.Need-refused-requires
 refused-requires c κs = search needs
 
 returns : tie.Need-returns
-returns c = let t = c .before .before .before .before .args .t in c .refused .ensures ∙ close-36 t _ (cc)
+returns c = let t = c .before .before .before .before .args .t in c .refused .ensures ∙ close-36 t _ (sym (c .before .before .over-limit .ensures) ∙ c .before .if1 .taken)
 
 refused-requires-2 : tie.Need-refused-requires-2
 refused-requires-2 c κs = search needs
@@ -25,7 +25,7 @@ refused-requires-2 c κs = search needs
 returns-2 : tie.Need-returns-2
 returns-2 c =
     let t = c .before .before .before .before .before .args .t in
-    let few : overLimit (t .counts) ≡ false = cc in
+    let few : overLimit (t .counts) ≡ false = sym (c .before .before .before .over-limit .ensures) ∙ c .before .before .if1 .left in
     c .refused2 .ensures ∙ close-37 t _ few (λ h. omega arith)
 
 sub-if3 : tie.Need-sub-if3
@@ -37,7 +37,7 @@ refused-requires-3 c κs = search needs
 returns-3 : tie.Need-returns-3
 returns-3 c =
     let t = c .before .before .before .before .before .before .args .t in
-    let few : overLimit (t .counts) ≡ false = cc in
+    let few : overLimit (t .counts) ≡ false = sym (c .before .before .before .before .over-limit .ensures) ∙ c .before .before .before .if1 .left in
     c .refused3 .ensures ∙ close-37 t _ few (λ h. omega arith)
 
 outcome-requires : tie.Need-outcome-requires
@@ -46,7 +46,7 @@ outcome-requires c κs = search needs
 returns-4 : tie.Need-returns-4
 returns-4 c =
     let t = c .before .before .before .before .before .before .args .t in
-    let few : overLimit (t .counts) ≡ false = cc in
+    let few : overLimit (t .counts) ≡ false = sym (c .before .before .before .before .over-limit .ensures) ∙ c .before .before .before .if1 .left in
     ap (λ (o : Outcome). Closed o) (c .outcome .ensures) ∙ close-says t _ few (omega arith)
 
 pub close-answer-spec : {M : Type 1} → statement M

@@ -1,6 +1,6 @@
 -- `judge::ranges::judge_range` meets its contract. Assumes nothing.
 mod Tie
-use Prim.Native.Nat.{_-_, _≤_}
+use Prim.Native.Nat.{_-_}
 use mathlib.Core.Path.{_≡_, refl, ap, _∙_}
 use mathlib.Core.Bool.{false}
 use mathlib.Core.List.{List, map}
