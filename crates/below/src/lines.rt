@@ -123,9 +123,7 @@ pub fn read_lines(
                 slots::put_expectation(expectations, x + expects, e);
                 expects += 1;
             }
-            Role::Opens(p) => {
-                return at_opening(pairs, expects, number, p, turn.next, next);
-            }
+            Role::Opens(p) => return at_opening(pairs, expects, number, p, turn.next, next),
             Role::Bad(_) => {}
         }
         w = roles::steps::same_place(next);

@@ -8,13 +8,13 @@ use lib.Dec.{eqb}
 use Rattle.text.specs.Base.{if_then_else_}
 use Rattle.expect.specs.Told.{counted}
 use Rattle.rows.specs.Rows.{at, infoRow, responseRow}
-use Rattle.judge.specs.declared.tally.Outcome.{Outcome}
-use Rattle.judge.specs.declared.tally.Outcome.the-variants.{Failed, Undecided, NothingChecked, Passed}
+use Rattle.judging.specs.declared.tally.Outcome.{Outcome}
+use Rattle.judging.specs.declared.tally.Outcome.the-variants.{Failed, Undecided, NothingChecked, Passed}
 use Rattle.subjects.specs.declared.handed.Handed.{Handed}
 use Rattle.subjects.specs.declared.handed.Handed.the-variants.{Info, Response}
-use Rattle.judge.specs.declared.calls.Answer.{Answer}
-use Rattle.judge.specs.declared.calls.Answer.the-variants.{Refused, Judged, Closed}
-use Rattle.judge.specs.Calls.{Judging, Call, judge, close}
+use Rattle.judging.specs.declared.calls.Answer.{Answer}
+use Rattle.judging.specs.declared.calls.Answer.the-variants.{Refused, Judged, Closed}
+use Rattle.judging.specs.Calls.{Judging, Call, judge, close}
 
 -- ---- a call
 

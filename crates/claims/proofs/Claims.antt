@@ -17,10 +17,10 @@ use Rattle.script.specs.declared.records.Script.{Script}
 use Rattle.tables.specs.Written.{writtenAt}
 use Rattle.read.specs.Read.{lentOf, answerOf, scriptOr, tablesOr}
 use Rattle.read.specs.declared.reading.Answer.the-variants as Answer
-use Rattle.judge.specs.Calls.{Call}
-use Rattle.judge.specs.Judge.{Lent}
-use Rattle.plain.specs.PlainJudge.{plainRun}
-use Rattle.plain.specs.Claim.{stateOver, ourRun, InWords}
+use Rattle.judging.specs.Calls.{Call}
+use Rattle.judging.specs.Judge.{Lent}
+use Rattle.judging.specs.PlainJudge.{plainRun}
+use Rattle.judging.specs.Claim.{stateOver, ourRun, InWords}
 use Rattle.parse.proofs.measure.measure as measure
 use Rattle.parse.proofs.measure.measure.Symbol as measure-code
 use Rattle.parse.proofs.measure.measure.Met as measure-theorem
@@ -48,10 +48,13 @@ use Rattle.tell.proofs.message.handshake_message_at.Met as handshake-message-th
 use Rattle.listing.proofs.whole.list as list
 use Rattle.listing.proofs.whole.list.Symbol as list-code
 use Rattle.listing.proofs.whole.list.Met as list-theorem
+use Rattle.script_run.proofs.running.run_script as run
+use Rattle.script_run.proofs.running.run_script.Symbol as run-code
+use Rattle.script_run.proofs.running.run_script.Met as run-theorem
+use Rattle.script_run.proofs.DemandThree as three
 use Rattle.claims.specs.Total.{Total}
 use Rattle.claims.specs.WhiteSpace.{Trimmed}
 use Rattle.claims.proofs.DemandOne.{total}
-use Rattle.claims.proofs.DemandThree as three
 use Rattle.claims.proofs.Table.{Rows, table}
 use Rattle.claims.proofs.WhiteSpace.{trimmed-is}
 
@@ -59,7 +62,8 @@ use Rattle.claims.proofs.WhiteSpace.{trimmed-is}
 
 -- Whatever text, table or response a public entry is handed, it ends, does not trap, and reads and writes nothing outside what it was lent (`Total`,
 -- specs/Total.antt, says it of the machine's run). Shown by each function's theorem, that it meets its contract; no contract here has a `requires`.
--- In this order: Measure; Read; a fresh tally; Judge, of the handshake and of an entry; Close; Message, of an entry and of the handshake; the listing.
+-- In this order: Measure; Read; a fresh tally; Judge, of the handshake and of an entry; Close; Message, of an entry and of the handshake; a text
+-- read and judged by a list of calls; the listing.
 pub demand-one :
     Total measure.signature measure-code.routine
     × Total read.signature read-code.routine
@@ -69,6 +73,7 @@ pub demand-one :
     × Total close.signature close-code.routine
     × Total entry-message.signature entry-message-code.routine
     × Total handshake-message.signature handshake-message-code.routine
+    × Total run.signature run-code.routine
     × Total list.signature list-code.routine
 demand-one = (
   total measure.signature measure-code.routine (λ M 𝓤 H. measure.spec 𝓤 H) (λ M. measure-theorem.met) (λ M 𝓤 H A mem run κs a. (tt, refl)),
@@ -79,12 +84,13 @@ demand-one = (
   total close.signature close-code.routine (λ M 𝓤 H. close.spec 𝓤 H) (λ M. close-theorem.met) (λ M 𝓤 H A mem run κs a. (tt, refl)),
   total entry-message.signature entry-message-code.routine (λ M 𝓤 H. entry-message.spec 𝓤 H) (λ M. entry-message-theorem.met) (λ M 𝓤 H A mem run κs a. (tt, refl)),
   total handshake-message.signature handshake-message-code.routine (λ M 𝓤 H. handshake-message.spec 𝓤 H) (λ M. handshake-message-theorem.met) (λ M 𝓤 H A mem run κs a. (tt, refl)),
+  total run.signature run-code.routine (λ M 𝓤 H. run.spec 𝓤 H) (λ M. run-theorem.met) (λ M 𝓤 H A mem run κs a. (tt, refl)),
   total list.signature list-code.routine (λ M 𝓤 H. list.spec 𝓤 H) (λ M. list-theorem.met) (λ M 𝓤 H A mem run κs a. (tt, refl)),
 )
 
 -- ---- DEMAND 2, as far as it is proved: Unicode's own data. (That the answers are those of the Rust is shown by runs, docs/DIFFERENCES.md.)
 
--- Our test for UTF-8 (contract of `text::utf8::well_formed`) accepts exactly the encodings of lists of scalar values of Unicode,
+-- Our test for UTF-8 (contract of `utf8::well_formed`) accepts exactly the encodings of lists of scalar values of Unicode,
 pub utf-8 : (s : List ℕ) → (wellFormed s ≡ true) ↔ ((cs : List ℕ) × (allScalars cs ≡ true) × (s ≡ encodedAll cs))
 utf-8 s = (λ w. let d = well-formed-are-encodings s w in (scalars s, d .valid, d .is), λ e. ap wellFormed (e .2) ∙ encodings-are-well-formed (e .0) (e .1))
 
@@ -92,7 +98,7 @@ utf-8 s = (λ w. let d = well-formed-are-encodings s w in (scalars s, d .valid, 
 pub decoding : (cs : List ℕ) → allScalars cs ≡ true → scalars (encodedAll cs) ≡ cs
 decoding = encodings-are-decoded
 
--- Trimming (contract of `text::trim::trim`) takes off exactly the White_Space characters at both ends (`Trimmed`, specs/WhiteSpace.antt): what is left of
+-- Trimming (contract of `lines::trim::trim`) takes off exactly the White_Space characters at both ends (`Trimmed`, specs/WhiteSpace.antt): what is left of
 -- the bytes encodes what is left of the characters.
 pub white-space : (s : List ℕ) → wellFormed s ≡ true → (kept : List ℕ) × Trimmed (scalars s) kept × (trimmed s ≡ encodedAll kept)
 white-space s w = (scalarsTrimmed (scalars s), trimmed-is (scalars s), trimmed-text s w)
@@ -118,7 +124,7 @@ module _
   pub demand-three : ourRun lent before calls ≡ (plainRun text (length before) calls .0, stateOver before (plainRun text (length before) calls .1))
   demand-three = three.demand-three text entries items expectations store script entries-left expectations-left answers leaves-entries leaves-expectations before calls
 
-  -- The same in the user's words (`InWords`, plain/specs/Claim.antt, clause by clause): each line that, trimmed, begins with `expect` has exactly one verdict
+  -- The same in the user's words (`InWords`, judging/specs/Claim.antt, clause by clause): each line that, trimmed, begins with `expect` has exactly one verdict
   -- if its entry, or the handshake, was judged unrefused, and none otherwise; closing says passed exactly when there is a verdict and every one passed.
   pub in-words : InWords lent before calls (ourRun lent before calls .0) (ourRun lent before calls .1)
   in-words = three.in-words text entries items expectations store script entries-left expectations-left answers leaves-entries leaves-expectations before calls

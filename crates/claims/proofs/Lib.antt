@@ -1,5 +1,4 @@
 pub mod Claims
 pub mod DemandOne
-pub mod DemandThree
 pub mod Table
 pub mod WhiteSpace

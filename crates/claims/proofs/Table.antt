@@ -19,7 +19,7 @@ use Rattle.values.specs.Hex as values-Hex
 use Rattle.values.specs.Numbers as values-Numbers
 use Rattle.values.specs.Unquote as values-Unquote
 use Rattle.wire.specs.Operations as wire-Operations
-use Rattle.wire.specs.Version as wire-Version
+use Rattle.version.specs.Version as wire-Version
 use Rattle.script.specs.Answers as script-Answers
 use Rattle.script.specs.Contents as script-Contents
 use Rattle.script.specs.Expectations as script-Expectations
@@ -35,13 +35,13 @@ use Rattle.script.specs.Values as script-Values
 use Rattle.verdicts.specs.Decisions as verdicts-Decisions
 use Rattle.verdicts.specs.Held as verdicts-Held
 use Rattle.verdicts.specs.Lookup as verdicts-Lookup
-use Rattle.judge.specs.Calls as judge-Calls
-use Rattle.judge.specs.Tally as judge-Tally
-use Rattle.plain.specs.PlainJudge as plain-PlainJudge
+use Rattle.judging.specs.Calls as judge-Calls
+use Rattle.judging.specs.Tally as judge-Tally
+use Rattle.judging.specs.PlainJudge as plain-PlainJudge
 use Rattle.values.specs.Hex.{hexDecoded}
 use Rattle.values.specs.Unquote.{unquoted}
 use Rattle.values.proofs.ValueExamples as values
-use Rattle.wire.specs.declared.handshake.ProtocolVersion.{ProtocolVersion}
+use Rattle.version.specs.declared.ProtocolVersion.{ProtocolVersion}
 use Rattle.wire.specs.declared.ops.Op.the-variants as Op
 use Rattle.script.specs.Layout.{Reading}
 use Rattle.script.specs.Reading.{Parsed, refusedAt, read, refusal, parsed}
@@ -58,11 +58,11 @@ use Rattle.verdicts.specs.declared.Verdict.the-variants.{Passed, Failed}
 use Rattle.verdicts.proofs.VerdictExamples as verdicts
 use Rattle.subjects.specs.Subjects.{partsIn}
 use Rattle.subjects.specs.declared.handed.Handed.the-variants.{Info}
-use Rattle.judge.specs.Calls.{Call, judge, close, said}
-use Rattle.judge.specs.declared.calls.Answer.{Answer}
-use Rattle.judge.specs.declared.calls.Answer.the-variants.{Judged, Closed}
-use Rattle.judge.specs.declared.tally.Outcome.the-variants.{NothingChecked}
-use Rattle.plain.specs.PlainJudge.{plainRun}
+use Rattle.judging.specs.Calls.{Call, judge, close, said}
+use Rattle.judging.specs.declared.calls.Answer.{Answer}
+use Rattle.judging.specs.declared.calls.Answer.the-variants.{Judged, Closed}
+use Rattle.judging.specs.declared.tally.Outcome.the-variants.{NothingChecked}
+use Rattle.judging.specs.PlainJudge.{plainRun}
 
 -- ---- what a text is read as
 

@@ -24,8 +24,8 @@ use Rattle.text.proofs.Scan.{rest-more, rest-none, by-cases, by-test, both}
 use Rattle.text.proofs.PartLaws.{partsAt}
 use Rattle.text.proofs.PartLaws as Parts
 use Rattle.text.proofs.WordLaws.{wordsAt, known}
-use Rattle.values.proofs.HexLaws.{hex-half}
-use Rattle.values.proofs.UnquoteLaws.{unquoted-shorter}
+use Rattle.hex.proofs.HexLaws.{hex-half}
+use Rattle.unquote.proofs.UnquoteLaws.{unquoted-shorter}
 use Rattle.wire.specs.declared.ops.Op.{Op}
 use Rattle.wire.specs.declared.ops.Op.the-variants.{IsValidPath, QueryReferrers, AddToStore, AddTextToStore, BuildPaths, EnsurePath, AddTempRoot, AddIndirectRoot, SyncWithGC, FindRoots, QueryDeriver, SetOptions, CollectGarbage, QuerySubstitutablePathInfo, QueryDerivationOutputs, QueryAllValidPaths, QueryPathInfo, QueryDerivationOutputNames, QueryPathFromHashPart, QuerySubstitutablePathInfos, QueryValidPaths, QuerySubstitutablePaths, QueryValidDerivers, OptimiseStore, VerifyStore, BuildDerivation, AddSignatures, NarFromPath, AddToStoreNar, QueryMissing, QueryDerivationOutputMap, RegisterDrvOutput, QueryRealisation, AddMultipleToStore, AddBuildLog, BuildPathsWithResults, AddPermRoot}
 use Rattle.script.specs.Answers.{firstOf}
@@ -40,10 +40,10 @@ use Rattle.script.specs.Inside.{In}
 use Rattle.tables.proofs.ItemLaws.{items-by, end-fits}
 use Rattle.tables.proofs.ValueLaws.{no-quotes}
 use Rattle.tables.specs.SetRead.{itemsOr, bracedItems, itemsBy}
-use Rattle.roles.specs.OpeningRead.{halves, setPlace}
-use Rattle.roles.specs.declared.openings.Halves.{Halves}
-use Rattle.roles.specs.declared.openings.SetPlace.{SetPlace}
-use Rattle.roles.specs.declared.openings.SetPlace.the-variants.{NoSet, AllOf, BehindBlank}
+use Rattle.openings.specs.OpeningRead.{halves, setPlace}
+use Rattle.openings.specs.declared.Halves.{Halves}
+use Rattle.openings.specs.declared.SetPlace.{SetPlace}
+use Rattle.openings.specs.declared.SetPlace.the-variants.{NoSet, AllOf, BehindBlank}
 use Rattle.counts.specs.Counts.{setCount, quotedCount, dataCount, rawCount, featureCount, inlineItems}
 use Rattle.script.proofs.Inside.{length-bytes, trim-in, position-in}
 use Rattle.pieces.proofs.PieceLaws.{trim-end}

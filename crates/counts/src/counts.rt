@@ -10,7 +10,7 @@ ghost use Rattle.script.specs.Sets.{COMMA, nonEmpty, trimmedItems, pathItems};
 ghost use Rattle.script.specs.Inside.{In};
 ghost use Rattle.tables.specs.SetRead.{bracedItems};
 ghost use Rattle.counts.specs.Counts.{setCount, quotedCount, dataCount, rawCount, featureCount, inlineItems};
-use roles::openings::SetPlace;
+use openings::SetPlace;
 use text::parts::Found;
 use text::parts::Span;
 use wire::ops::Op;
@@ -115,7 +115,7 @@ fn word_count(s: &[u8]) -> usize
     let mut at: usize = 0;
     let mut n: usize = 0;
     while at < s.len() {
-        let w = text::words::word_at(s, at);
+        let w = lines::words::word_at(s, at);
         if w.start == w.end {
             return n;
         }
@@ -154,7 +154,7 @@ pub fn quoted_count(text: &[u8], v: Span) -> usize
 {
     let start = v.start;
     let end = v.end;
-    values::unquote::unquoted_len(&text[start..end])
+    unquote::unquoted_len(&text[start..end])
 }
 
 // The bytes of what follows `x"`. Quotes at its end are no hex digits, so they count for nothing.
@@ -165,7 +165,7 @@ pub fn raw_count(text: &[u8], v: Span) -> usize
 {
     let start = v.start;
     let end = v.end;
-    values::hex::hex_len(&text[start..end])
+    hex::hex_len(&text[start..end])
 }
 
 // The bytes of data that stands in the store; a file's name does not.
@@ -177,7 +177,7 @@ pub fn data_count(text: &[u8], v: Span) -> usize
     if pieces::pieces::begins(text, v, b"x\"") {
         let start = v.start + 2;
         let end = v.end;
-        return values::hex::hex_len(&text[start..end]);
+        return hex::hex_len(&text[start..end]);
     }
     0
 }
@@ -188,11 +188,11 @@ pub fn inline_items(text: &[u8], op: Op, args: Span) -> usize
     ensures { λ r. ⌜ r ≡ inlineItems (now (text .entry)) (formOf op .shape) args ⌝ }
     ensures { λ r. ⌜ args .start + r ≤ args .end ⌝ }
 {
-    match roles::openings::set_place(op) {
+    match openings::set_place(op) {
         SetPlace::NoSet => 0,
         SetPlace::AllOf => set_count(text, args),
         SetPlace::BehindBlank => {
-            let c = roles::openings::cut_or(text, args, 0x20);
+            let c = openings::cut_or(text, args, 0x20);
             set_count(text, c.after)
         }
     }

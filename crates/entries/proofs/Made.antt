@@ -5,3 +5,6 @@ pub mod EntriesReadEntriesReads
 pub mod EntriesReadEntryKinds
 pub mod EntriesReadEntryLts
 pub mod EntriesReadEntryReads
+pub mod ScriptsReadScriptKinds
+pub mod ScriptsReadScriptLts
+pub mod ScriptsReadScriptReads

@@ -12,10 +12,13 @@ ghost use Rattle.below.specs.Below.{ahead, aheadOf, NextIn, rolesAt};
 ghost use Rattle.entries.specs.Entries.{takesPairs, entryAt, laidEntry, entriesAhead};
 use below::lines::Ahead;
 use below::lines::Next;
+use below::lines::read_lines;
+use closing::entry::entry_of;
 use kept::Kept;
 use records::calls::Sizes;
 use script::records::Entry;
 use script::records::Expectation;
+use stored::values::put_values;
 use wire::ops::Op;
 
 // How many items, expectations and bytes of the store an entry took, and what comes next.
@@ -88,14 +91,13 @@ pub fn read_entry(
     let op = p.op;
     let args = p.args;
     let stands = a.stands;
-    let line = a.line;
     let mut starts = [1usize; 33];
     let mut ends = [0usize; 33];
-    let led = below::lines::read_lines(
+    let ls = read_lines(
         text,
         kept,
         a.at,
-        line + 1,
+        a.line + 1,
         stands,
         &mut starts,
         &mut ends,
@@ -105,22 +107,11 @@ pub fn read_entry(
         expectations,
         x,
     );
-    let z = stored::values::put_values(
-        text,
-        op,
-        args,
-        &starts,
-        &ends,
-        led.pairs,
-        items,
-        i,
-        store,
-        b,
-    );
-    let e = closing::entry::entry_of(text, line, p, &starts, &ends, i, b, z, x, led.expects);
+    let z = put_values(text, op, args, &starts, &ends, ls.pairs, items, i, store, b);
+    let e = entry_of(text, a.line, p, &starts, &ends, i, b, z, x, ls.expects);
     slots::put_entry(entries, n, e);
-    let next = led.next;
-    advanced(z, led.expects, next)
+    let next = ls.next;
+    advanced(z, ls.expects, next)
 }
 
 // Reads the entries from the one that comes next on.

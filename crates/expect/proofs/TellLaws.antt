@@ -1,17 +1,16 @@
 -- Rooms that were found, and what Message answers by them. Assumes nothing.
-use Prim.Native.Nat.{ℕ, _+_, _-_, _≤_, _<_}
+use Prim.Native.Nat.{ℕ, _-_, _≤_, _<_}
 use mathlib.Core.Path.{_≡_, refl, sym, ap, subst, _∙_}
 use mathlib.Core.Bool.{Bool, true, false}
-use mathlib.Core.List.{List, [], map}
+use mathlib.Core.List.{List, []}
 use mathlib.Core.Option.{Option, none, some, Option·getD}
 use native.Mathlib.Omega.{arith}
 use lib.Dec.{leb, ltb}
-use borrow.Author.Tests.{le-leb, lt-leb, leb-true, leb-false, lt-ltb, le-ltb}
-use lib.ListN.{length, take, drop, drop-of-length-le, length-drop, length-take}
-use lib.Seq.{take-all, take-nil, length-take-le}
-use Rattle.text.specs.Base.{if_then_else_, overlaid}
+use borrow.Author.Tests.{leb-true, leb-false, lt-ltb, le-ltb}
+use lib.ListN.{length, take, length-take}
+use lib.Seq.{take-all, length-take-le}
+use Rattle.text.specs.Base.{overlaid}
 use Rattle.script.specs.Reading.{refusal}
-use Rattle.script.specs.declared.records.Items.{Items}
 use Rattle.writing.specs.Room.{left}
 use Rattle.writing.specs.declared.room.Room.{Room}
 use Rattle.writing.specs.declared.room.Room.the-variants.{Left, Short}
@@ -20,7 +19,7 @@ use Rattle.writing.proofs.PutLaws.{front-taken}
 use Rattle.script.specs.declared.records.Expect.{Expect}
 use Rattle.script.specs.declared.response.DaemonResponse.{DaemonResponse}
 use Rattle.script.specs.declared.response.HandshakeInfo.{HandshakeInfo}
-use Rattle.verdicts.specs.Held.{ranged, expectedOf, responseOf, infoOf, expectIn, responseIn, infoIn}
+use Rattle.verdicts.specs.Held.{expectedOf, responseOf, infoOf, expectIn, responseIn, infoIn}
 use Rattle.verdicts.specs.Expected.{Expected}
 use Rattle.verdicts.specs.Told.{Subject, greeting, reply}
 use Rattle.verdicts.specs.Lookup.{looked, lookedIn, toldIn}
@@ -47,14 +46,6 @@ all-counted lists h = sym (take-all 0x8000 lists h)
 
 pub counted-few : (lists : List (List ℕ)) → 0x8000 ≤ length lists → 0x8000 ≡ length (counted lists)
 counted-few lists h = sym (length-take-le 0x8000 lists h)
-
-pub none-there : (n : ℕ) (r : Items) → n ≤ r .first → (lists : List (List ℕ)) → length lists ≡ n → [] ≡ ranged lists r
-none-there n r h lists e = let k : length lists ≤ r .first = omega arith in rw (drop-of-length-le lists k, take-nil (r .count))
-
-pub rest-there : (n : ℕ) (r : Items) → n - r .first ≤ r .count → (lists : List (List ℕ)) → length lists ≡ n → take (n - r .first) (drop (r .first) lists) ≡ ranged lists r
-rest-there n r h lists e =
-    take-all (n - r .first) (drop (r .first) lists) (omega (arith, length-drop (r .first) lists))
-    ∙ sym (take-all (r .count) (drop (r .first) lists) (omega (arith, length-drop (r .first) lists)))
 
 -- ---- rooms
 

@@ -1,3 +1,2 @@
-// The verdict of one expectation, and its message (script/expect.rs).
+// Message: the verdict of one expectation, judged afresh, and its message (script/expect.rs).
 pub mod message;
-pub mod verdicts_of;

@@ -20,7 +20,6 @@ ghost use Rattle.dump.specs.Dump.{readDump};
 ghost use Rattle.dump.specs.Times.{lastNumber};
 
 pub mod messages;
-pub mod running;
 
 use parse::measure::Measured;
 
@@ -29,7 +28,7 @@ use parse::measure::Measured;
 pub extern "C" fn nwscript_utf8(s: &[u8]) -> bool
     ensures { λ r. ⌜ r ≡ wellFormed (now (s .entry)) ⌝ }
 {
-    text::utf8::well_formed(s)
+    utf8::well_formed(s)
 }
 
 // Where the text stands once its White_Space is off both ends.
@@ -38,7 +37,7 @@ pub extern "C" fn nwscript_trim(s: &[u8], start: &mut usize, len: &mut usize)
     ensures { λ _. ⌜ now (start .exit) ≡ trimPlace (now (s .entry)) .start ⌝ }
     ensures { λ _. ⌜ now (len .exit) ≡ trimPlace (now (s .entry)) .len ⌝ }
 {
-    given::give_place(text::trim::trim_place(s), start, len)
+    given::give_place(lines::trim::trim_place(s), start, len)
 }
 
 // How many lines the text has.
@@ -46,7 +45,7 @@ pub extern "C" fn nwscript_trim(s: &[u8], start: &mut usize, len: &mut usize)
 pub extern "C" fn nwscript_count_lines(text: &[u8]) -> usize
     ensures { λ r. ⌜ r ≡ length (lines (now (text .entry))) ⌝ }
 {
-    text::lines::count_lines(text)
+    lines::lines::count_lines(text)
 }
 
 // How many bytes the lines have once each is trimmed.
@@ -54,7 +53,7 @@ pub extern "C" fn nwscript_count_lines(text: &[u8]) -> usize
 pub extern "C" fn nwscript_trimmed_bytes(text: &[u8]) -> usize
     ensures { λ r. ⌜ r ≡ trimmedLength (now (text .entry)) (lines (now (text .entry))) ⌝ }
 {
-    text::lines::trimmed_bytes(text)
+    lines::lines::trimmed_bytes(text)
 }
 
 // How many bytes s spells in hex.
@@ -62,7 +61,7 @@ pub extern "C" fn nwscript_trimmed_bytes(text: &[u8]) -> usize
 pub extern "C" fn nwscript_hex_len(s: &[u8]) -> usize
     ensures { λ r. ⌜ r ≡ length (hexDecoded (now (s .entry))) ⌝ }
 {
-    values::hex::hex_len(s)
+    hex::hex_len(s)
 }
 
 // The bytes that s spells in hex, at the front of out if there is room; how many they are.
@@ -71,7 +70,7 @@ pub extern "C" fn nwscript_hex(s: &[u8], out: &mut [u8]) -> usize
     ensures { λ r. ⌜ r ≡ length (hexDecoded (now (s .entry))) ⌝ }
     ensures { λ _. ⌜ now (out .exit) ≡ overlaid (hexDecoded (now (s .entry))) (now (out .entry)) ⌝ }
 {
-    values::hex::hex_decode(s, out)
+    hex::hex_decode(s, out)
 }
 
 // How many bytes s has unquoted.
@@ -79,7 +78,7 @@ pub extern "C" fn nwscript_hex(s: &[u8], out: &mut [u8]) -> usize
 pub extern "C" fn nwscript_unquoted_len(s: &[u8]) -> usize
     ensures { λ r. ⌜ r ≡ length (unquoted (now (s .entry))) ⌝ }
 {
-    values::unquote::unquoted_len(s)
+    unquote::unquoted_len(s)
 }
 
 // s unquoted, at the front of out if there is room; how many bytes that are.
@@ -88,7 +87,7 @@ pub extern "C" fn nwscript_unquote(s: &[u8], out: &mut [u8]) -> usize
     ensures { λ r. ⌜ r ≡ length (unquoted (now (s .entry))) ⌝ }
     ensures { λ _. ⌜ now (out .exit) ≡ overlaid (unquoted (now (s .entry))) (now (out .entry)) ⌝ }
 {
-    values::unquote::unquote(s, out)
+    unquote::unquote(s, out)
 }
 
 // A u64, a u16, a u8 as Rust's `parse` reads them: whether it could be read; value is left alone if not.

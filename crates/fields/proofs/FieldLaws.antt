@@ -21,7 +21,7 @@ use Rattle.values.specs.declared.number.Number.{Number}
 use Rattle.values.specs.declared.number.Number.the-variants as Number
 use Rattle.values.specs.declared.number.Integer.{Integer}
 use Rattle.values.specs.declared.number.Integer.the-variants as Integer
-use Rattle.values.proofs.HexLaws.{hex-half}
+use Rattle.hex.proofs.HexLaws.{hex-half}
 use Rattle.fields.specs.declared.numbers.NumberAt.{NumberAt}
 use Rattle.fields.specs.declared.numbers.NumberAt.the-variants as NumberAt
 use Rattle.fields.specs.declared.numbers.IntegerAt.{IntegerAt}

@@ -21,7 +21,7 @@ pub fn decode(hex: &[u8], room: &mut [u8]) -> Bytes
     ensures { λ r. ⌜ bytesIn (now (room .exit)) r ≡ hexFor (length (now (room .entry))) (now (hex .entry)) ⌝ }
     ensures { λ r. ⌜ byteCount r ≤ length (now (room .exit)) ⌝ }
 {
-    let n = values::hex::hex_decode(hex, room);
+    let n = hex::hex_decode(hex, room);
     if room.len() < n {
         return Bytes::Bad;
     }
@@ -37,7 +37,7 @@ pub fn bytes_at(line: &[u8], from: usize, room: &mut [u8]) -> BytesAt
     ensures { λ r. ⌜ bytesField (now (room .exit)) r ≡ bytesAt (length (now (room .entry))) (now (line .entry)) from ⌝ }
     ensures { λ r. ⌜ fieldCount r ≤ length (now (room .exit)) ⌝ }
 {
-    let w = text::words::word_at(line, from);
+    let w = lines::words::word_at(line, from);
     let start = w.start;
     let end = w.end;
     if start == end {

@@ -30,14 +30,14 @@ use Rattle.verdicts.specs.Verdicts.{namedBy, valued, verdict}
 use Rattle.verdicts.specs.Held.{textAt, matchingOf, expectedOf, terminalBytes, responseOf, infoOf}
 use Rattle.verdicts.specs.Messages as Messages
 use Rattle.verdicts.specs.Messages.{integer, shown, saysOf, valueSays, heading, errorHeading, resultSays, terminalSays, misplacedInEntry, misplacedInPreamble, entryMessage, handshakeMessage}
-use Rattle.frames.specs.Words.{wordBytes}
-use Rattle.frames.specs.declared.words.Word.{Word}
-use Rattle.frames.specs.declared.words.Word.the-variants as words
+use Rattle.frames.specs.Words.{headBytes, middleBytes}
+use Rattle.frames.specs.declared.words.Head.the-variants as heads
+use Rattle.frames.specs.declared.words.Middle.the-variants as middles
 use Rattle.frames.specs.declared.frames.Piece.{Piece}
 use Rattle.frames.specs.declared.frames.Piece.the-variants as pieces
 use Rattle.frames.specs.declared.frames.Frame.{Frame}
 use Rattle.frames.specs.declared.frames.Heading.{Heading}
-use Rattle.frames.specs.Frames.{pieceBytes, frameBytes, shownAs, wordFrame, noFrame, undecidedFrame, failedFrame, valuedFrame, terminalFrame, isMissing, presentBytes, missingOr, headed, alone, errorHeaded, entryFrame, handshakeFrame}
+use Rattle.frames.specs.Frames.{nowhere, pieceBytes, endingBytes, frameBytes, shownAs, wordFrame, noFrame, undecidedFrame, failedFrame, valuedFrame, terminalFrame, isMissing, presentBytes, missingOr, headed, alone, errorHeaded, entryFrame, handshakeFrame}
 
 -- ---- words and pieces in a row
 
@@ -63,26 +63,26 @@ module _ (text bytes value : List ℕ) where
   -- what a heading of words and a field comes to
   abbrev headingOf : Heading → Messages.Heading
   headingOf h = record {
-    passed = wordBytes (h .passed) ++ pieceBytes text bytes value (h .field) ++ wordBytes (h .between);
-    failed = wordBytes (h .failed) ++ pieceBytes text bytes value (h .field);
+    passed = headBytes (h .passed) ++ textAt text (h .field) ++ middleBytes (h .between);
+    failed = headBytes (h .failed) ++ textAt text (h .field);
   }
 
   passed-says : (h : Heading) (m : Matcher) → frameBytes text bytes value (valuedFrame h m Passed) ≡ saysOf (headingOf h) (matchingOf text m) value Passed
-  unfolding frameBytes valuedFrame wordFrame wordBytes pieceBytes saysOf
-  passed-says h m = nothing-behind (wordBytes (h .passed) ++ pieceBytes text bytes value (h .field) ++ wordBytes (h .between) ++ value)
+  unfolding frameBytes valuedFrame wordFrame headBytes middleBytes pieceBytes endingBytes saysOf
+  passed-says h m = append-nil (headBytes (h .passed) ++ textAt text (h .field) ++ middleBytes (h .between) ++ value)
 
   -- in front of `expected`
   abbrev front : Heading → List ℕ
-  front h = wordBytes (h .failed) ++ pieceBytes text bytes value (h .field)
+  front h = headBytes (h .failed) ++ textAt text (h .field)
 
   failed-says : (h : Heading) (m : Matcher) → frameBytes text bytes value (valuedFrame h m Failed) ≡ saysOf (headingOf h) (matchingOf text m) value Failed
-  unfolding frameBytes valuedFrame failedFrame shownAs wordBytes pieceBytes saysOf matchingOf shown utf8 encoded
-  failed-says h (Exact p) = refl
-  failed-says h (Regex p) = ap (λ (l : List ℕ). l ++ value) (split-both (front h) (utf8 ": expected ") (utf8 "/") (textAt text p) (utf8 "/") (utf8 ", got "))
-  failed-says h (GreaterThan n) = ap (λ (l : List ℕ). l ++ value) (split-front (front h) (utf8 ": expected ") (utf8 "> ") (integer n) (utf8 ", got "))
-  failed-says h (LessThan n) = ap (λ (l : List ℕ). l ++ value) (split-front (front h) (utf8 ": expected ") (utf8 "< ") (integer n) (utf8 ", got "))
-  failed-says h (GreaterOrEqual n) = ap (λ (l : List ℕ). l ++ value) (split-front (front h) (utf8 ": expected ") (utf8 ">= ") (integer n) (utf8 ", got "))
-  failed-says h (LessOrEqual n) = ap (λ (l : List ℕ). l ++ value) (split-front (front h) (utf8 ": expected ") (utf8 "<= ") (integer n) (utf8 ", got "))
+  unfolding frameBytes valuedFrame failedFrame shownAs headBytes middleBytes pieceBytes endingBytes saysOf matchingOf shown utf8 encoded
+  failed-says h (Exact p) = sym (append-assoc (front h ++ utf8 ": expected " ++ textAt text p) (utf8 ", got ") value)
+  failed-says h (Regex p) = sym (append-assoc (front h ++ utf8 ": expected /" ++ textAt text p) (utf8 "/, got ") value) ∙ ap (λ (l : List ℕ). l ++ value) (split-both (front h) (utf8 ": expected ") (utf8 "/") (textAt text p) (utf8 "/") (utf8 ", got "))
+  failed-says h (GreaterThan n) = sym (append-assoc (front h ++ utf8 ": expected > " ++ integer n) (utf8 ", got ") value) ∙ ap (λ (l : List ℕ). l ++ value) (split-front (front h) (utf8 ": expected ") (utf8 "> ") (integer n) (utf8 ", got "))
+  failed-says h (LessThan n) = sym (append-assoc (front h ++ utf8 ": expected < " ++ integer n) (utf8 ", got ") value) ∙ ap (λ (l : List ℕ). l ++ value) (split-front (front h) (utf8 ": expected ") (utf8 "< ") (integer n) (utf8 ", got "))
+  failed-says h (GreaterOrEqual n) = sym (append-assoc (front h ++ utf8 ": expected >= " ++ integer n) (utf8 ", got ") value) ∙ ap (λ (l : List ℕ). l ++ value) (split-front (front h) (utf8 ": expected ") (utf8 ">= ") (integer n) (utf8 ", got "))
+  failed-says h (LessOrEqual n) = sym (append-assoc (front h ++ utf8 ": expected <= " ++ integer n) (utf8 ", got ") value) ∙ ap (λ (l : List ℕ). l ++ value) (split-front (front h) (utf8 ": expected ") (utf8 "<= ") (integer n) (utf8 ", got "))
 
   ordered-decided : (o : Option ℤ) (f : ℤ → Bool) → ordered f o ≡ Undecided → ⊥
   unfolding ordered
@@ -90,9 +90,9 @@ module _ (text bytes value : List ℕ) where
   ordered-decided (some v) f e = never-undecided (f v) e
 
   undecided-says : (h : Heading) (m : Matcher) → decides (matchingOf text m) value ≡ Undecided → frameBytes text bytes value (valuedFrame h m Undecided) ≡ saysOf (headingOf h) (matchingOf text m) value Undecided
-  unfolding frameBytes valuedFrame undecidedFrame wordFrame wordBytes pieceBytes saysOf matchingOf shown utf8 encoded decides
+  unfolding frameBytes valuedFrame undecidedFrame wordFrame headBytes middleBytes pieceBytes endingBytes saysOf matchingOf shown utf8 encoded decides
   undecided-says h (Exact p) e = absurd (never-undecided _ e)
-  undecided-says h (Regex p) e = nothing-behind _ ∙ append-nil _ ∙ split-front [] (utf8 "undecided: ") (utf8 "/") (textAt text p) (utf8 "/")
+  undecided-says h (Regex p) e = nothing-behind _ ∙ split-front [] (utf8 "undecided: ") (utf8 "/") (textAt text p) (utf8 "/")
   undecided-says h (GreaterThan n) e = absurd (ordered-decided _ _ e)
   undecided-says h (LessThan n) e = absurd (ordered-decided _ _ e)
   undecided-says h (GreaterOrEqual n) e = absurd (ordered-decided _ _ e)
@@ -108,9 +108,9 @@ module _ (text bytes value : List ℕ) where
 
 module _ (text bytes : List ℕ) where
   terminal-says : (value : List ℕ) (name got : Place) (v : Verdict) → frameBytes text bytes value (terminalFrame name got v) ≡ terminalSays (textAt text name) (textAt bytes got) v
-  unfolding frameBytes terminalFrame wordFrame noFrame wordBytes pieceBytes terminalSays utf8 encoded
-  terminal-says value name got Passed = nothing-behind _ ∙ nothing-behind _
-  terminal-says value name got Failed = nothing-behind _
+  unfolding frameBytes terminalFrame wordFrame noFrame headBytes middleBytes pieceBytes endingBytes terminalSays utf8 encoded
+  terminal-says value name got Passed = nothing-behind _ ∙ append-nil _
+  terminal-says value name got Failed = append-nil _
   terminal-says value name got Undecided = refl
 
   -- a value that may be missing: gone is what is said then
@@ -138,23 +138,23 @@ module _ (text bytes : List ℕ) where
 
     pub entry-says : (e : Expect) (missing : Bool) (v : Verdict) → missing ≡ isMissing (lookedIn R (expectedOf text e)) → v ≡ verdict (reply R) (expectedOf text e)
         → frameBytes text bytes (presentBytes (lookedIn R (expectedOf text e))) (entryFrame e missing v (r .terminal)) ≡ entryMessage R (expectedOf text e)
-    unfolding expectedOf entryFrame entryMessage verdict looked lookedIn headed errorHeaded wordBytes pieceBytes heading errorHeading resultSays misplacedInEntry frameBytes wordFrame utf8 presentBytes encoded
+    unfolding expectedOf entryFrame entryMessage verdict looked lookedIn headed errorHeaded headBytes middleBytes pieceBytes endingBytes heading errorHeading resultSays misplacedInEntry frameBytes wordFrame utf8 presentBytes encoded
     entry-says (Terminal p) missing v k e = terminal-is p v e
-    entry-says (Result m) missing v k e = missing-says (lookedIn R (expected.result (matchingOf text m))) (alone words.NoResult) _ (headed words.ResultWord pieces.Nothing) m missing v refl k e
+    entry-says (Result m) missing v k e = missing-says (lookedIn R (expected.result (matchingOf text m))) (alone heads.NoResult) _ (headed heads.ResultWord nowhere) m missing v refl k e
     entry-says (ResultField p m) missing v k e =
         missing-says
         (lookedIn R (expected.resultField (textAt text p) (matchingOf text m)))
-        (wordFrame words.NoField (pieces.Text p) words.NotFound pieces.Nothing)
+        (wordFrame heads.NoField p middles.NotFound pieces.Nothing)
         _
-        (headed words.ResultDot (pieces.Text p))
+        (headed heads.ResultDot p)
         m
         missing
         v
-        (nothing-behind _ ∙ append-nil _)
+        (nothing-behind _)
         k
         e
-    entry-says (Error m) missing v k e = missing-says (lookedIn R (expected.error (matchingOf text m))) (alone words.NoError) _ errorHeaded m missing v refl k e
-    entry-says (StderrCount m) missing v k e = present-says (decimal (R .stderrCount)) (headed words.CountWord pieces.Nothing) m v e
+    entry-says (Error m) missing v k e = missing-says (lookedIn R (expected.error (matchingOf text m))) (alone heads.NoError) _ errorHeaded m missing v refl k e
+    entry-says (StderrCount m) missing v k e = present-says (decimal (R .stderrCount)) (headed heads.CountWord nowhere) m v e
     entry-says (Daemon m) missing v k e = refl
     entry-says (Trust m) missing v k e = refl
     entry-says (ServerFeatures m) missing v k e = refl
@@ -165,12 +165,12 @@ module _ (text bytes : List ℕ) where
 
     pub handshake-says : (e : Expect) (v : Verdict) → v ≡ verdict (greeting I) (expectedOf text e)
         → frameBytes text bytes (presentBytes (toldIn I (expectedOf text e))) (handshakeFrame e v) ≡ handshakeMessage I (expectedOf text e)
-    unfolding expectedOf handshakeFrame handshakeMessage verdict looked toldIn headed wordBytes pieceBytes heading misplacedInPreamble frameBytes wordFrame utf8 presentBytes encoded
+    unfolding expectedOf handshakeFrame handshakeMessage verdict looked toldIn headed headBytes middleBytes pieceBytes endingBytes heading misplacedInPreamble frameBytes wordFrame utf8 presentBytes encoded
     handshake-says (Terminal p) v e = refl
     handshake-says (Result m) v e = refl
     handshake-says (ResultField p m) v e = refl
     handshake-says (Error m) v e = refl
     handshake-says (StderrCount m) v e = refl
-    handshake-says (Daemon m) v e = present-says (daemonText I) (headed words.DaemonWord pieces.Nothing) m v e
-    handshake-says (Trust m) v e = present-says (trustText I) (headed words.TrustWord pieces.Nothing) m v e
-    handshake-says (ServerFeatures m) v e = present-says (featuresText I) (headed words.FeaturesWord pieces.Nothing) m v e
+    handshake-says (Daemon m) v e = present-says (daemonText I) (headed heads.DaemonWord nowhere) m v e
+    handshake-says (Trust m) v e = present-says (trustText I) (headed heads.TrustWord nowhere) m v e
+    handshake-says (ServerFeatures m) v e = present-says (featuresText I) (headed heads.FeaturesWord nowhere) m v e

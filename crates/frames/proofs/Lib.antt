@@ -1,3 +1,2 @@
 pub mod FrameLaws
 pub mod SameLaws
-pub mod WordLaws

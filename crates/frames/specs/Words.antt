@@ -1,75 +1,42 @@
 -- The fixed words of messages (script/expect.rs). Assumes nothing.
-use Prim.Native.Nat.{ℕ, _+_, _≤_}
-use mathlib.Core.Path.{_≡_}
-use mathlib.Core.List.{List, [], _++_}
-use Rattle.text.specs.Base.{part}
+use Prim.Native.Nat.{ℕ}
+use mathlib.Core.List.{List, []}
 use Rattle.text.specs.Literal.{utf8}
-use Rattle.script.specs.declared.records.Place.{Place}
-use Rattle.frames.specs.declared.words.Word.{Word}
-use Rattle.frames.specs.declared.words.Word.the-variants.{Nothing, TerminalIs, ExpectedTerminal, Got, PatternGot, ResultWord, ResultDot, Is, ExpectedWord, ExpectedPattern, ExpectedAbove, ExpectedBelow, ExpectedAtLeast, ExpectedAtMost, NoResult, NoField, NotFound, ErrorMatched, ErrorWord, NoError, CountWord, DaemonWord, TrustWord, FeaturesWord, InEntry, InPreamble, UndecidedWord, Slash}
+use Rattle.frames.specs.declared.words.Head.{Head}
+use Rattle.frames.specs.declared.words.Head.the-variants as heads
+use Rattle.frames.specs.declared.words.Middle.{Middle}
+use Rattle.frames.specs.declared.words.Middle.the-variants as middles
 
-unfoldable pub wordBytes : Word → List ℕ
-wordBytes Nothing = []
-wordBytes TerminalIs = utf8 "terminal = "
-wordBytes ExpectedTerminal = utf8 "expected terminal "
-wordBytes Got = utf8 ", got "
-wordBytes PatternGot = utf8 "/, got "
-wordBytes ResultWord = utf8 "result"
-wordBytes ResultDot = utf8 "result."
-wordBytes Is = utf8 " = "
-wordBytes ExpectedWord = utf8 ": expected "
-wordBytes ExpectedPattern = utf8 ": expected /"
-wordBytes ExpectedAbove = utf8 ": expected > "
-wordBytes ExpectedBelow = utf8 ": expected < "
-wordBytes ExpectedAtLeast = utf8 ": expected >= "
-wordBytes ExpectedAtMost = utf8 ": expected <= "
-wordBytes NoResult = utf8 "result field result not found"
-wordBytes NoField = utf8 "result field result."
-wordBytes NotFound = utf8 " not found"
-wordBytes ErrorMatched = utf8 "error matched: "
-wordBytes ErrorWord = utf8 "error"
-wordBytes NoError = utf8 "expected error but none received"
-wordBytes CountWord = utf8 "stderr.count"
-wordBytes DaemonWord = utf8 "daemon"
-wordBytes TrustWord = utf8 "trust"
-wordBytes FeaturesWord = utf8 "server_features"
-wordBytes InEntry = utf8 "handshake expect used in op context"
-wordBytes InPreamble = utf8 "non-handshake expect in preamble: "
-wordBytes UndecidedWord = utf8 "undecided: /"
-wordBytes Slash = utf8 "/"
+-- what a message begins with
+unfoldable pub headBytes : Head → List ℕ
+headBytes heads.Nothing = []
+headBytes heads.TerminalIs = utf8 "terminal = "
+headBytes heads.ExpectedTerminal = utf8 "expected terminal "
+headBytes heads.ResultWord = utf8 "result"
+headBytes heads.ResultDot = utf8 "result."
+headBytes heads.NoResult = utf8 "result field result not found"
+headBytes heads.NoField = utf8 "result field result."
+headBytes heads.ErrorMatched = utf8 "error matched: "
+headBytes heads.ErrorWord = utf8 "error"
+headBytes heads.NoError = utf8 "expected error but none received"
+headBytes heads.CountWord = utf8 "stderr.count"
+headBytes heads.DaemonWord = utf8 "daemon"
+headBytes heads.TrustWord = utf8 "trust"
+headBytes heads.FeaturesWord = utf8 "server_features"
+headBytes heads.InEntry = utf8 "handshake expect used in op context"
+headBytes heads.InPreamble = utf8 "non-handshake expect in preamble: "
+headBytes heads.UndecidedWord = utf8 "undecided: /"
 
--- all of them, one behind the other
-unfoldable pub allWords : List ℕ
-allWords =
-    wordBytes TerminalIs
-    ++ wordBytes ExpectedTerminal
-    ++ wordBytes Got
-    ++ wordBytes PatternGot
-    ++ wordBytes ResultWord
-    ++ wordBytes ResultDot
-    ++ wordBytes Is
-    ++ wordBytes ExpectedWord
-    ++ wordBytes ExpectedPattern
-    ++ wordBytes ExpectedAbove
-    ++ wordBytes ExpectedBelow
-    ++ wordBytes ExpectedAtLeast
-    ++ wordBytes ExpectedAtMost
-    ++ wordBytes NoResult
-    ++ wordBytes NoField
-    ++ wordBytes NotFound
-    ++ wordBytes ErrorMatched
-    ++ wordBytes ErrorWord
-    ++ wordBytes NoError
-    ++ wordBytes CountWord
-    ++ wordBytes DaemonWord
-    ++ wordBytes TrustWord
-    ++ wordBytes FeaturesWord
-    ++ wordBytes InEntry
-    ++ wordBytes InPreamble
-    ++ wordBytes UndecidedWord
-    ++ wordBytes Slash
-
--- a place of the table where the word stands
-pub record Spelt (w : Word) (p : Place) : Type 0 where
-  pub inside : p .start + p .len ≤ 366
-  pub bytes : part allWords (p .start) (p .len) ≡ wordBytes w
+-- what stands in its middle
+unfoldable pub middleBytes : Middle → List ℕ
+middleBytes middles.Nothing = []
+middleBytes middles.Got = utf8 ", got "
+middleBytes middles.Is = utf8 " = "
+middleBytes middles.ExpectedWord = utf8 ": expected "
+middleBytes middles.ExpectedPattern = utf8 ": expected /"
+middleBytes middles.ExpectedAbove = utf8 ": expected > "
+middleBytes middles.ExpectedBelow = utf8 ": expected < "
+middleBytes middles.ExpectedAtLeast = utf8 ": expected >= "
+middleBytes middles.ExpectedAtMost = utf8 ": expected <= "
+middleBytes middles.NotFound = utf8 " not found"
+middleBytes middles.Slash = utf8 "/"

@@ -1,7 +1,8 @@
 // Which words and pieces a message is made of. Nothing is written yet, so that the message's length is known first.
 ghost use mathlib.Core.Path.{_≡_};
 ghost use Rattle.frames.specs.Frames.{shownAs, wordFrame, undecidedFrame, valuedFrame, terminalFrame, missingOr, errorHeaded, entryFrame, handshakeFrame};
-use crate::words::Word;
+use crate::words::Head;
+use crate::words::Middle;
 use script::records::Expect;
 use script::records::Matcher;
 use script::records::Place;
@@ -16,29 +17,39 @@ pub enum Piece {
     Number(i64),
 }
 
-// A message: words and pieces, one behind the other.
-pub struct Frame {
-    pub first: Word,
-    pub a: Piece,
-    pub second: Word,
-    pub b: Piece,
-    pub third: Word,
-    pub c: Piece,
+// How a message ends: with nothing more, or with a word and the value.
+pub enum Ending {
+    Nothing,
+    Got, // , got
+    PatternGot, // /, got
 }
+
+// A message: words and pieces, one behind the other. The first piece is a part of the text, which may have no bytes. A frame is handed on by value,
+// so it is kept small.
+pub struct Frame {
+    pub first: Head,
+    pub a: Place,
+    pub second: Middle,
+    pub b: Piece,
+    pub ending: Ending,
+}
+
+// A part of the text that has no bytes.
+const NOWHERE: Place = Place { start: 0, len: 0 };
 
 // How a matcher stands between `expected` and `got`.
 pub struct Shown {
-    pub before: Word,
+    pub before: Middle,
     pub piece: Piece,
-    pub behind: Word,
+    pub behind: Ending,
 }
 
 // What a value is shown behind: a word if it passed, and one between a field and the value; another word if it failed.
 pub struct Heading {
-    pub passed: Word,
-    pub between: Word,
-    pub failed: Word,
-    pub field: Piece,
+    pub passed: Head,
+    pub between: Middle,
+    pub failed: Head,
+    pub field: Place,
 }
 
 pub fn shown_as(m: Matcher) -> Shown
@@ -46,39 +57,39 @@ pub fn shown_as(m: Matcher) -> Shown
 {
     match m {
         Matcher::Exact(p) => Shown {
-            before: Word::ExpectedWord,
+            before: Middle::ExpectedWord,
             piece: Piece::Text(p),
-            behind: Word::Got,
+            behind: Ending::Got,
         },
         Matcher::Regex(p) => Shown {
-            before: Word::ExpectedPattern,
+            before: Middle::ExpectedPattern,
             piece: Piece::Text(p),
-            behind: Word::PatternGot,
+            behind: Ending::PatternGot,
         },
         Matcher::GreaterThan(n) => Shown {
-            before: Word::ExpectedAbove,
+            before: Middle::ExpectedAbove,
             piece: Piece::Number(n),
-            behind: Word::Got,
+            behind: Ending::Got,
         },
         Matcher::LessThan(n) => Shown {
-            before: Word::ExpectedBelow,
+            before: Middle::ExpectedBelow,
             piece: Piece::Number(n),
-            behind: Word::Got,
+            behind: Ending::Got,
         },
         Matcher::GreaterOrEqual(n) => Shown {
-            before: Word::ExpectedAtLeast,
+            before: Middle::ExpectedAtLeast,
             piece: Piece::Number(n),
-            behind: Word::Got,
+            behind: Ending::Got,
         },
         Matcher::LessOrEqual(n) => Shown {
-            before: Word::ExpectedAtMost,
+            before: Middle::ExpectedAtMost,
             piece: Piece::Number(n),
-            behind: Word::Got,
+            behind: Ending::Got,
         },
     }
 }
 
-pub fn word_frame(first: Word, a: Piece, second: Word, b: Piece) -> Frame
+pub fn word_frame(first: Head, a: Place, second: Middle, b: Piece) -> Frame
     ensures { λ r. ⌜ r ≡ wordFrame first a second b ⌝ }
 {
     Frame {
@@ -86,8 +97,7 @@ pub fn word_frame(first: Word, a: Piece, second: Word, b: Piece) -> Frame
         a,
         second,
         b,
-        third: Word::Nothing,
-        c: Piece::Nothing,
+        ending: Ending::Nothing,
     }
 }
 
@@ -96,40 +106,25 @@ pub fn undecided_frame(m: Matcher) -> Frame
     ensures { λ r. ⌜ r ≡ undecidedFrame m ⌝ }
 {
     match m {
-        Matcher::Exact(_) => word_frame(
-            Word::Nothing,
-            Piece::Nothing,
-            Word::Nothing,
-            Piece::Nothing,
-        ),
-        Matcher::Regex(p) => word_frame(
-            Word::UndecidedWord,
-            Piece::Text(p),
-            Word::Slash,
-            Piece::Nothing,
-        ),
+        Matcher::Exact(_) => word_frame(Head::Nothing, NOWHERE, Middle::Nothing, Piece::Nothing),
+        Matcher::Regex(p) => word_frame(Head::UndecidedWord, p, Middle::Slash, Piece::Nothing),
         Matcher::GreaterThan(_) => word_frame(
-            Word::Nothing,
-            Piece::Nothing,
-            Word::Nothing,
-            Piece::Nothing,
-        ),
-        Matcher::LessThan(_) => word_frame(
-            Word::Nothing,
-            Piece::Nothing,
-            Word::Nothing,
+            Head::Nothing,
+            NOWHERE,
+            Middle::Nothing,
             Piece::Nothing,
         ),
+        Matcher::LessThan(_) => word_frame(Head::Nothing, NOWHERE, Middle::Nothing, Piece::Nothing),
         Matcher::GreaterOrEqual(_) => word_frame(
-            Word::Nothing,
-            Piece::Nothing,
-            Word::Nothing,
+            Head::Nothing,
+            NOWHERE,
+            Middle::Nothing,
             Piece::Nothing,
         ),
         Matcher::LessOrEqual(_) => word_frame(
-            Word::Nothing,
-            Piece::Nothing,
-            Word::Nothing,
+            Head::Nothing,
+            NOWHERE,
+            Middle::Nothing,
             Piece::Nothing,
         ),
     }
@@ -157,8 +152,7 @@ pub fn valued_frame(h: Heading, m: Matcher, v: Verdict) -> Frame
                 a: field,
                 second: before,
                 b: piece,
-                third: behind,
-                c: Piece::Value,
+                ending: behind,
             }
         }
         Verdict::Undecided => undecided_frame(m),
@@ -170,24 +164,9 @@ pub fn terminal_frame(name: Place, got: Place, v: Verdict) -> Frame
     ensures { λ r. ⌜ r ≡ terminalFrame name got v ⌝ }
 {
     match v {
-        Verdict::Passed => word_frame(
-            Word::TerminalIs,
-            Piece::Text(name),
-            Word::Nothing,
-            Piece::Nothing,
-        ),
-        Verdict::Failed => word_frame(
-            Word::ExpectedTerminal,
-            Piece::Text(name),
-            Word::Got,
-            Piece::Held(got),
-        ),
-        Verdict::Undecided => word_frame(
-            Word::Nothing,
-            Piece::Nothing,
-            Word::Nothing,
-            Piece::Nothing,
-        ),
+        Verdict::Passed => word_frame(Head::TerminalIs, name, Middle::Nothing, Piece::Nothing),
+        Verdict::Failed => word_frame(Head::ExpectedTerminal, name, Middle::Got, Piece::Held(got)),
+        Verdict::Undecided => word_frame(Head::Nothing, NOWHERE, Middle::Nothing, Piece::Nothing),
     }
 }
 
@@ -202,12 +181,12 @@ pub fn missing_or(missing: bool, absent: Frame, h: Heading, m: Matcher, v: Verdi
 }
 
 // `WORD = value`, `WORD: expected ..`
-pub fn headed(w: Word, field: Piece) -> Heading
+pub fn headed(w: Head, field: Place) -> Heading
     ensures { λ r. ⌜ r ≡ Rattle.frames.specs.Frames.headed w field ⌝ }
 {
     Heading {
         passed: w,
-        between: Word::Is,
+        between: Middle::Is,
         failed: w,
         field,
     }
@@ -217,18 +196,18 @@ pub fn error_headed() -> Heading
     ensures { λ r. ⌜ r ≡ errorHeaded ⌝ }
 {
     Heading {
-        passed: Word::ErrorMatched,
-        between: Word::Nothing,
-        failed: Word::ErrorWord,
-        field: Piece::Nothing,
+        passed: Head::ErrorMatched,
+        between: Middle::Nothing,
+        failed: Head::ErrorWord,
+        field: NOWHERE,
     }
 }
 
 // One word alone.
-pub fn alone(w: Word) -> Frame
+pub fn alone(w: Head) -> Frame
     ensures { λ r. ⌜ r ≡ Rattle.frames.specs.Frames.alone w ⌝ }
 {
-    word_frame(w, Piece::Nothing, Word::Nothing, Piece::Nothing)
+    word_frame(w, NOWHERE, Middle::Nothing, Piece::Nothing)
 }
 
 // The message of an expectation that is judged against a response.
@@ -239,28 +218,23 @@ pub fn entry_frame(e: Expect, missing: bool, v: Verdict, terminal: Place) -> Fra
         Expect::Terminal(p) => terminal_frame(p, terminal, v),
         Expect::Result(m) => missing_or(
             missing,
-            alone(Word::NoResult),
-            headed(Word::ResultWord, Piece::Nothing),
+            alone(Head::NoResult),
+            headed(Head::ResultWord, NOWHERE),
             m,
             v,
         ),
         Expect::ResultField(p, m) => missing_or(
             missing,
-            word_frame(
-                Word::NoField,
-                Piece::Text(p),
-                Word::NotFound,
-                Piece::Nothing,
-            ),
-            headed(Word::ResultDot, Piece::Text(p)),
+            word_frame(Head::NoField, p, Middle::NotFound, Piece::Nothing),
+            headed(Head::ResultDot, p),
             m,
             v,
         ),
-        Expect::Error(m) => missing_or(missing, alone(Word::NoError), error_headed(), m, v),
-        Expect::StderrCount(m) => valued_frame(headed(Word::CountWord, Piece::Nothing), m, v),
-        Expect::Daemon(_) => alone(Word::InEntry),
-        Expect::Trust(_) => alone(Word::InEntry),
-        Expect::ServerFeatures(_) => alone(Word::InEntry),
+        Expect::Error(m) => missing_or(missing, alone(Head::NoError), error_headed(), m, v),
+        Expect::StderrCount(m) => valued_frame(headed(Head::CountWord, NOWHERE), m, v),
+        Expect::Daemon(_) => alone(Head::InEntry),
+        Expect::Trust(_) => alone(Head::InEntry),
+        Expect::ServerFeatures(_) => alone(Head::InEntry),
     }
 }
 
@@ -269,13 +243,13 @@ pub fn handshake_frame(e: Expect, v: Verdict) -> Frame
     ensures { λ r. ⌜ r ≡ handshakeFrame e v ⌝ }
 {
     match e {
-        Expect::Terminal(_) => alone(Word::InPreamble),
-        Expect::Result(_) => alone(Word::InPreamble),
-        Expect::ResultField(_, _) => alone(Word::InPreamble),
-        Expect::Error(_) => alone(Word::InPreamble),
-        Expect::StderrCount(_) => alone(Word::InPreamble),
-        Expect::Daemon(m) => valued_frame(headed(Word::DaemonWord, Piece::Nothing), m, v),
-        Expect::Trust(m) => valued_frame(headed(Word::TrustWord, Piece::Nothing), m, v),
-        Expect::ServerFeatures(m) => valued_frame(headed(Word::FeaturesWord, Piece::Nothing), m, v),
+        Expect::Terminal(_) => alone(Head::InPreamble),
+        Expect::Result(_) => alone(Head::InPreamble),
+        Expect::ResultField(_, _) => alone(Head::InPreamble),
+        Expect::Error(_) => alone(Head::InPreamble),
+        Expect::StderrCount(_) => alone(Head::InPreamble),
+        Expect::Daemon(m) => valued_frame(headed(Head::DaemonWord, NOWHERE), m, v),
+        Expect::Trust(m) => valued_frame(headed(Head::TrustWord, NOWHERE), m, v),
+        Expect::ServerFeatures(m) => valued_frame(headed(Head::FeaturesWord, NOWHERE), m, v),
     }
 }

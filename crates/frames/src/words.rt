@@ -1,26 +1,17 @@
-// The fixed words of messages (script/expect.rs), one behind the other in one table.
+// The fixed words of messages (script/expect.rs), and how long each is.
 ghost use mathlib.Core.Path.{_≡_};
-ghost use Rattle.frames.specs.Words.{allWords, Spelt};
-use script::records::Place;
+ghost use lib.ListN.{length};
+ghost use Rattle.frames.specs.Words.{headBytes, middleBytes};
 
-pub enum Word {
+// What a message begins with.
+pub enum Head {
     Nothing,
     TerminalIs, // terminal =
     ExpectedTerminal, // expected terminal
-    Got, // , got
-    PatternGot, // /, got
     ResultWord, // result
     ResultDot, // result.
-    Is, //  =
-    ExpectedWord, // : expected
-    ExpectedPattern, // : expected /
-    ExpectedAbove, // : expected >
-    ExpectedBelow, // : expected <
-    ExpectedAtLeast, // : expected >=
-    ExpectedAtMost, // : expected <=
     NoResult, // result field result not found
     NoField, // result field result.
-    NotFound, //  not found
     ErrorMatched, // error matched:
     ErrorWord, // error
     NoError, // expected error but none received
@@ -31,85 +22,61 @@ pub enum Word {
     InEntry, // handshake expect used in op context
     InPreamble, // non-handshake expect in preamble:
     UndecidedWord, // undecided: /
+}
+
+// What stands in its middle.
+pub enum Middle {
+    Nothing,
+    Got, // , got
+    Is, //  =
+    ExpectedWord, // : expected
+    ExpectedPattern, // : expected /
+    ExpectedAbove, // : expected >
+    ExpectedBelow, // : expected <
+    ExpectedAtLeast, // : expected >=
+    ExpectedAtMost, // : expected <=
+    NotFound, //  not found
     Slash, // /
 }
 
-// The words, in the order above.
-const WORDS: [u8; 366] = *b"\
-    terminal = \
-    expected terminal \
-    , got \
-    /, got \
-    result\
-    result.\
-    \x20= \
-    : expected \
-    : expected /\
-    : expected > \
-    : expected < \
-    : expected >= \
-    : expected <= \
-    result field result not found\
-    result field result.\
-    \x20not found\
-    error matched: \
-    error\
-    expected error but none received\
-    stderr.count\
-    daemon\
-    trust\
-    server_features\
-    handshake expect used in op context\
-    non-handshake expect in preamble: \
-    undecided: /\
-    /";
-
-// The table, tested here, once for all who use it.
-pub fn words() -> [u8; 366]
-    ensures { λ r. ⌜ r ≡ allWords ⌝ }
-{
-    WORDS
-}
-
-// A part of the table: where it starts, and how many bytes it has.
-fn part(start: usize, len: usize) -> Place
-    ensures { λ r. ⌜ r ≡ record { start = start; len = len } ⌝ }
-{
-    Place { start, len }
-}
-
-// Where a word stands in the table.
-pub fn word_place(w: Word) -> Place
-    ensures { λ r. ⌜ Spelt w r ⌝ }
+pub fn head_len(w: Head) -> usize
+    ensures { λ r. ⌜ r ≡ length (headBytes w) ⌝ }
 {
     match w {
-        Word::Nothing => part(0, 0),
-        Word::TerminalIs => part(0, 11),
-        Word::ExpectedTerminal => part(11, 18),
-        Word::Got => part(29, 6),
-        Word::PatternGot => part(35, 7),
-        Word::ResultWord => part(42, 6),
-        Word::ResultDot => part(48, 7),
-        Word::Is => part(55, 3),
-        Word::ExpectedWord => part(58, 11),
-        Word::ExpectedPattern => part(69, 12),
-        Word::ExpectedAbove => part(81, 13),
-        Word::ExpectedBelow => part(94, 13),
-        Word::ExpectedAtLeast => part(107, 14),
-        Word::ExpectedAtMost => part(121, 14),
-        Word::NoResult => part(135, 29),
-        Word::NoField => part(164, 20),
-        Word::NotFound => part(184, 10),
-        Word::ErrorMatched => part(194, 15),
-        Word::ErrorWord => part(209, 5),
-        Word::NoError => part(214, 32),
-        Word::CountWord => part(246, 12),
-        Word::DaemonWord => part(258, 6),
-        Word::TrustWord => part(264, 5),
-        Word::FeaturesWord => part(269, 15),
-        Word::InEntry => part(284, 35),
-        Word::InPreamble => part(319, 34),
-        Word::UndecidedWord => part(353, 12),
-        Word::Slash => part(365, 1),
+        Head::Nothing => 0,
+        Head::TerminalIs => 11,
+        Head::ExpectedTerminal => 18,
+        Head::ResultWord => 6,
+        Head::ResultDot => 7,
+        Head::NoResult => 29,
+        Head::NoField => 20,
+        Head::ErrorMatched => 15,
+        Head::ErrorWord => 5,
+        Head::NoError => 32,
+        Head::CountWord => 12,
+        Head::DaemonWord => 6,
+        Head::TrustWord => 5,
+        Head::FeaturesWord => 15,
+        Head::InEntry => 35,
+        Head::InPreamble => 34,
+        Head::UndecidedWord => 12,
+    }
+}
+
+pub fn middle_len(w: Middle) -> usize
+    ensures { λ r. ⌜ r ≡ length (middleBytes w) ⌝ }
+{
+    match w {
+        Middle::Nothing => 0,
+        Middle::Got => 6,
+        Middle::Is => 3,
+        Middle::ExpectedWord => 11,
+        Middle::ExpectedPattern => 12,
+        Middle::ExpectedAbove => 13,
+        Middle::ExpectedBelow => 13,
+        Middle::ExpectedAtLeast => 14,
+        Middle::ExpectedAtMost => 14,
+        Middle::NotFound => 10,
+        Middle::Slash => 1,
     }
 }

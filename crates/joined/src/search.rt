@@ -9,7 +9,20 @@ ghost use Rattle.joined.specs.Lists.{listText};
 ghost use Rattle.joined.specs.Pieces.{piecesOf, pieceCount, row};
 use script::records::Items;
 
-// Whether the pattern stands at some byte of the piece at j; it may go on in the pieces behind. Only places where its first byte may stand are tried.
+// The first place of a piece of len bytes from which a pattern of n bytes would go on in the pieces behind.
+fn tail_of(len: usize, n: usize) -> usize
+    requires { ⌜ 0 < n ⌝ }
+    ensures { λ r. ⌜ r ≤ len ⌝ }
+    ensures { λ r. ⌜ (0 < r → r + n ≤ len + 1) ⌝ }
+{
+    if n <= len {
+        return (len - n) + 1;
+    }
+    0
+}
+
+// Whether the pattern stands at some byte of the piece at j; it may go on in the pieces behind. It is looked for in the piece as in any value; of the
+// places where it would go on, only those where its first byte stands are tried.
 pub fn found_in<'a>(
     bytes: &'a [u8],
     lists: &[[usize; 2]],
@@ -27,11 +40,17 @@ pub fn found_in<'a>(
     ensures { λ b. ⌜ decisions.contains (now (pattern .entry)) (row (drop j (piecesOf (now (bytes .entry)) (now (lists .entry)) (now (signs .entry)) n r))) ≡ b or decisions.contains (now (pattern .entry)) (row (drop (j + 1) (piecesOf (now (bytes .entry)) (now (lists .entry)) (now (signs .entry)) n r))) ⌝ }
 {
     let piece = crate::pieces::piece_at(bytes, lists, signs, n, r, j);
+    if finding::search::contains(piece, pattern) {
+        return true;
+    }
     let first = pattern[0];
-    let mut i = text::skip::skip_others(piece, first, 0);
+    let from = tail_of(piece.len(), pattern.len());
+    let mut i = text::skip::skip_others(piece, first, from);
     while i < piece.len() {
-        if crate::compare::opens_at(bytes, lists, signs, n, r, j, i, pattern, false) {
-            return true;
+        if piece[i] == first {
+            if crate::compare::opens_at(bytes, lists, signs, n, r, j, i, pattern, false) {
+                return true;
+            }
         }
         i = text::skip::skip_others(piece, first, i + 1);
     }

@@ -1,9 +1,2 @@
-pub mod Counting
-pub mod Orders
-pub mod Refusals
-pub mod JudgeLaws
-pub mod RangeLaws
+pub mod TallyLaws
 pub mod Made
-pub mod EveryLaws
-pub mod CheckLaws
-pub mod StepLaws

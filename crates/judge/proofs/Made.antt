@@ -1,22 +1,4 @@
 -- What tools/walk.py made: derivations of the functions over slices of records. Assumes nothing.
-pub mod RangesAllFitKinds
-pub mod RangesAllFitLts
-pub mod RangesAllFitReads
-pub mod RangesAllInKinds
-pub mod RangesAllInLts
-pub mod RangesAllInReads
-pub mod RangesJudgeRangeKinds
-pub mod RangesJudgeRangeLts
-pub mod RangesJudgeRangeReads
-pub mod JudgingEntryRangeKinds
-pub mod JudgingEntryRangeLts
-pub mod JudgingEntryRangeReads
-pub mod JudgingJudgeOnKinds
-pub mod JudgingJudgeOnLts
-pub mod JudgingJudgeOnReads
-pub mod JudgingRefusalOfKinds
-pub mod JudgingRefusalOfLts
-pub mod JudgingRefusalOfReads
 pub mod TallyTallyEntryKinds
 pub mod TallyTallyEntryLts
 pub mod TallyTallyEntryReads

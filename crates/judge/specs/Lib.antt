@@ -1,4 +1,1 @@
 pub mod Tally
-pub mod Calls
-pub mod Judge
-pub mod Judging

@@ -1,43 +1,29 @@
--- Document 01, "Verdicts": a tally holds the next number (0 handshake, entries from 1) and counts of passed, failed, undecided. Closing says: failed if any
--- failed; else undecided if any; else nothing checked if there is no verdict; else passed. Assumes nothing.
-use Prim.Native.Nat.{_+_}
-use mathlib.Core.Bool.{Bool}
-use mathlib.Core.List.{List, [], _∷_}
-use lib.Dec.{ltb, eqb}
-use Rattle.text.specs.Base.{if_then_else_, _or_}
-use Rattle.verdicts.specs.declared.Verdict.{Verdict}
-use Rattle.verdicts.specs.declared.Verdict.the-variants as Verdict
-use Rattle.judge.specs.declared.tally.Counts.{Counts}
+-- The tally beside the state that the definitions of Judge and Close speak of: its next number and counts. Assumes nothing.
+use Prim.Native.Nat.{ℕ}
+use mathlib.Core.List.{List}
+use Rattle.judging.specs.declared.calls.Answer.{Answer}
+use Rattle.judging.specs.Tally.{noCounts}
+use Rattle.judging.specs.Judge.{JudgeState}
+use Rattle.ranges.specs.declared.steps.Step.{Step}
 use Rattle.judge.specs.declared.tally.Tally.{Tally}
-use Rattle.judge.specs.declared.tally.Outcome.{Outcome}
-use Rattle.judge.specs.declared.tally.Outcome.the-variants.{Failed, Undecided, NothingChecked, Passed}
-
-abbrev pub noCounts : Counts
-noCounts = record { passed = 0; failed = 0; undecided = 0 }
+use Rattle.judge.specs.declared.calls.Turn.{Turn}
 
 -- where every list of calls begins
 abbrev pub freshTally : Tally
 freshTally = record { next = 0; counts = noCounts }
 
--- one verdict more: 1 on the count of its kind
-abbrev pub added : Verdict → Counts → Counts
-added Verdict.Passed c = record { passed = c .passed + 1; failed = c .failed; undecided = c .undecided }
-added Verdict.Failed c = record { passed = c .passed; failed = c .failed + 1; undecided = c .undecided }
-added Verdict.Undecided c = record { passed = c .passed; failed = c .failed; undecided = c .undecided + 1 }
+-- the state of a tally and a list of verdicts
+abbrev pub stateOf : Tally → (verdicts : List ℕ) → JudgeState
+stateOf t verdicts = record { next = t .next; counts = t .counts; verdicts = verdicts }
 
--- some verdicts more
-unfoldable pub addedAll : List Verdict → Counts → Counts
-addedAll [] c = c
-addedAll (v ∷ vs) c = added v (addedAll vs c)
+-- the tally of a state
+abbrev pub tallyOf : JudgeState → Tally
+tallyOf s = record { next = s .next; counts = s .counts }
 
--- what closing says of the counts; where none failed and none is undecided, there is no verdict if none passed
-unfoldable pub outcomeOf : Counts → Outcome
-outcomeOf c =
-    if ltb 0 (c .failed) then Failed
-    else if ltb 0 (c .undecided) then Undecided
-    else if eqb (c .passed) 0 then NothingChecked
-    else Passed
+-- what a call answered, and what it left
+abbrev pub turned : Turn → (verdicts : List ℕ) → Answer × JudgeState
+turned t verdicts = (t .answer, stateOf (t .tally) verdicts)
 
--- 36: a tally count above 32,768
-unfoldable pub overLimit : Counts → Bool
-overLimit c = ltb 0x8000 (c .passed) or ltb 0x8000 (c .failed) or ltb 0x8000 (c .undecided)
+-- what a judging answered, with the tally that it left
+abbrev pub turnOf : Step → Turn
+turnOf s = record { tally = record { next = s .next; counts = s .counts }; answer = s .answer }

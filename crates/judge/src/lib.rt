@@ -1,7 +1,4 @@
-// Judging a script: the tally of its verdicts, and what a call answers.
+// Judge and Close, as methods of the tally.
 pub mod calls;
-mod checks;
 pub mod close;
-pub mod judging;
-pub mod ranges;
 pub mod tally;

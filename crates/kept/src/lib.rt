@@ -127,7 +127,7 @@ fn find(text: &[u8], w: Where, at: usize, number: usize) -> Turn
     ensures { λ r. ⌜ r .step ≡ stepOf plainRules (now (text .entry)) w (lineAt (now (text .entry)) at number) ⌝ }
     ensures { λ r. ⌜ r .next ≡ lineAt (now (text .entry)) at number .next ⌝ }
 {
-    let l = text::lines::line_at(text, at, number);
+    let l = lines::lines::line_at(text, at, number);
     Turn {
         step: roles::steps::step(text, w, l),
         next: l.next,

@@ -28,7 +28,7 @@ use Rattle.values.specs.Unquote as text-Unquote
 use Rattle.text.specs.Utf8 as text-Utf8
 use Rattle.text.specs.Words as text-Words
 use Rattle.wire.specs.Operations as wire-Operations
-use Rattle.wire.specs.Version as wire-Version
+use Rattle.version.specs.Version as wire-Version
 use Rattle.values.specs.Decimal as values-Decimal
 use Rattle.printed.specs.Listing as listing-Listing
 use Rattle.printed.specs.Listing.{listingOf}

@@ -1,6 +1,4 @@
-// The value that an expectation looks up: first which value is meant, then how long it is, then its bytes.
+// The value that an expectation looks up: which one is meant.
 pub mod fields;
 pub mod looked;
-pub mod rooms;
 pub mod value;
-pub mod written;

@@ -1,16 +1,27 @@
 -- How long a message is, as the code adds it up: the value is only known by its length. Assumes nothing.
 use Prim.Native.Nat.{ℕ, _+_}
-use mathlib.Core.Bool.{Bool, false}
 use mathlib.Core.List.{List}
-use lib.Dec.{eqb}
 use lib.ListN.{length}
 use Rattle.verdicts.specs.Held.{textAt}
 use Rattle.verdicts.specs.Messages.{integer}
-use Rattle.frames.specs.Words.{wordBytes}
-use Rattle.frames.specs.declared.words.Word.{Word}
+use Rattle.frames.specs.Words.{headBytes, middleBytes}
 use Rattle.frames.specs.declared.frames.Piece.{Piece}
 use Rattle.frames.specs.declared.frames.Piece.the-variants as pieces
+use Rattle.frames.specs.declared.frames.Ending.{Ending}
+use Rattle.frames.specs.declared.frames.Ending.the-variants as endings
 use Rattle.frames.specs.declared.frames.Frame.{Frame}
+
+-- an ending's word: `, got ` and `/, got `
+unfoldable pub endingWord : Ending → ℕ
+endingWord endings.Nothing = 0
+endingWord endings.Got = 6
+endingWord endings.PatternGot = 7
+
+-- and the value behind it
+unfoldable pub endingValue : (len : ℕ) → Ending → ℕ
+endingValue len endings.Nothing = 0
+endingValue len endings.Got = len
+endingValue len endings.PatternGot = len
 
 module _ (text bytes : List ℕ) (len : ℕ) where
   unfoldable pub pieceLength : Piece → ℕ
@@ -22,12 +33,4 @@ module _ (text bytes : List ℕ) (len : ℕ) where
 
   unfoldable pub frameLength : Frame → ℕ
   frameLength f =
-      length (wordBytes (f .first)) + pieceLength (f .a) + length (wordBytes (f .second)) + pieceLength (f .b) + length (wordBytes (f .third)) + pieceLength (f .c)
-
--- nothing is written of a word and the piece behind it, as the code tells it: the piece is none, and the word has no letter
-unfoldable pub empty : Word → Piece → Bool
-empty w pieces.Nothing = eqb (length (wordBytes w)) 0
-empty w (pieces.Text p) = false
-empty w (pieces.Held p) = false
-empty w pieces.Value = false
-empty w (pieces.Number n) = false
+      length (headBytes (f .first)) + length (textAt text (f .a)) + length (middleBytes (f .second)) + pieceLength (f .b) + endingWord (f .ending) + endingValue len (f .ending)

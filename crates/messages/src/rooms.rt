@@ -2,23 +2,16 @@
 ghost use mathlib.Core.Path.{_≡_};
 ghost use lib.ListN.{length};
 ghost use Rattle.writing.specs.Room.{left, lessBy};
-ghost use Rattle.frames.specs.Words.{wordBytes};
-ghost use Rattle.messages.specs.Lengths.{pieceLength, frameLength};
+ghost use Rattle.messages.specs.Lengths.{pieceLength, endingWord, endingValue, frameLength};
+use frames::frames::Ending;
 use frames::frames::Frame;
 use frames::frames::Piece;
-use frames::words::Word;
-use frames::words::word_place;
+use frames::words::head_len;
+use frames::words::middle_len;
 use places::texts::text_at;
 use writing::integer::integer_len;
 use writing::room::Room;
 use writing::room::less;
-
-pub fn less_word(room: Room, w: Word) -> Room
-    ensures { λ r. ⌜ r ≡ lessBy room (length (wordBytes w)) ⌝ }
-{
-    let p = word_place(w);
-    less(room, p.len)
-}
 
 // The value has len bytes.
 pub fn less_piece(room: Room, p: Piece, text: &[u8], bytes: &[u8], len: usize) -> Room
@@ -33,6 +26,17 @@ pub fn less_piece(room: Room, p: Piece, text: &[u8], bytes: &[u8], len: usize) -
     }
 }
 
+// The word of an ending, then the value.
+pub fn less_ending(room: Room, e: Ending, len: usize) -> Room
+    ensures { λ r. ⌜ r ≡ lessBy (lessBy room (endingWord e)) (endingValue len e) ⌝ }
+{
+    match e {
+        Ending::Nothing => less(less(room, 0), 0),
+        Ending::Got => less(less(room, 6), len),
+        Ending::PatternGot => less(less(room, 7), len),
+    }
+}
+
 pub fn frame_room(f: Frame, text: &[u8], bytes: &[u8], len: usize, room: usize) -> Room
     ensures { λ r. ⌜ r ≡ left room (frameLength (now (text .entry)) (now (bytes .entry)) len f) ⌝ }
 {
@@ -40,9 +44,11 @@ pub fn frame_room(f: Frame, text: &[u8], bytes: &[u8], len: usize, room: usize) 
     let a = f.a;
     let second = f.second;
     let b = f.b;
-    let third = f.third;
-    let c = f.c;
-    let one = less_piece(less_word(Room::Left(room), first), a, text, bytes, len);
-    let two = less_piece(less_word(one, second), b, text, bytes, len);
-    less_piece(less_word(two, third), c, text, bytes, len)
+    let ending = f.ending;
+    let one = less(
+        less(Room::Left(room), head_len(first)),
+        text_at(text, a).len(),
+    );
+    let two = less_piece(less(one, middle_len(second)), b, text, bytes, len);
+    less_ending(two, ending, len)
 }

@@ -29,10 +29,10 @@ use Rattle.script.specs.declared.roles.Key.{Key}
 use Rattle.script.specs.declared.roles.Key.the-variants as Key
 use Rattle.script.specs.declared.roles.Takes.{Takes}
 use Rattle.script.specs.declared.roles.Takes.the-variants as Takes
-use Rattle.roles.specs.OpeningRead.{halves, setPlace}
-use Rattle.roles.specs.declared.openings.Halves.{Halves}
-use Rattle.roles.specs.declared.openings.SetPlace.{SetPlace}
-use Rattle.roles.specs.declared.openings.SetPlace.the-variants.{NoSet, AllOf, BehindBlank}
+use Rattle.openings.specs.OpeningRead.{halves, setPlace}
+use Rattle.openings.specs.declared.Halves.{Halves}
+use Rattle.openings.specs.declared.SetPlace.{SetPlace}
+use Rattle.openings.specs.declared.SetPlace.the-variants.{NoSet, AllOf, BehindBlank}
 use Rattle.pieces.proofs.BehindLaws.{behind-none, behind-some, behind-in, cut-none, cut-some, cut-after, sums}
 use Rattle.pieces.proofs.CutLaws.{empty-in}
 use Rattle.records.specs.declared.calls.Sizes.{Sizes}

@@ -15,9 +15,9 @@ use Rattle.script.specs.declared.roles.Key.{Key}
 use Rattle.script.specs.declared.roles.Key.the-variants as Key
 use Rattle.script.specs.declared.roles.Takes.{Takes}
 use Rattle.script.specs.declared.roles.Takes.the-variants.{NoLines, Options, Garbage, Verify, Texts, Store, Multiple, FirstData, FirstRaw}
-use Rattle.roles.specs.OpeningRead.{setPlace}
-use Rattle.roles.specs.declared.openings.SetPlace.{SetPlace}
-use Rattle.roles.specs.declared.openings.SetPlace.the-variants.{NoSet, AllOf, BehindBlank}
+use Rattle.openings.specs.OpeningRead.{setPlace}
+use Rattle.openings.specs.declared.SetPlace.{SetPlace}
+use Rattle.openings.specs.declared.SetPlace.the-variants.{NoSet, AllOf, BehindBlank}
 use Rattle.records.specs.declared.calls.Sizes.{Sizes}
 use Rattle.records.specs.Records.{framedSized, optionsRecord, garbageRecord, verifyRecord, storeRecord, multipleRecord, textsRecord, rootRecord}
 

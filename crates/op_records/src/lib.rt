@@ -4,12 +4,12 @@ ghost use Prim.Native.Nat.{_+_, _<_};
 ghost use Rattle.script.specs.Operations.{formOf};
 ghost use Rattle.script.specs.Contents.{restOf};
 ghost use Rattle.script.specs.Inside.{In};
-ghost use Rattle.roles.specs.OpeningRead.{setPlace};
+ghost use Rattle.openings.specs.OpeningRead.{setPlace};
 ghost use Rattle.said.specs.Said.{pieceAt, SaidIn};
 ghost use Rattle.records.specs.Records.{rootRecord, recordOf};
 ghost use Rattle.op_records.specs.RecordRead.{textRecord, setRecord, lineRecord};
+use openings::SetPlace;
 use records::calls::Sizes;
-use roles::openings::SetPlace;
 use script::records::Items;
 use script::records::OpCall;
 use script::roles::Takes;
@@ -46,7 +46,7 @@ fn root_call(text: &[u8], args: Span) -> OpCall
     requires { ⌜ In (now text) args ⌝ }
     ensures { λ r. ⌜ r ≡ rootRecord (now (text .entry)) args ⌝ }
 {
-    let c = roles::openings::cut_or(text, args, 0x20);
+    let c = openings::cut_or(text, args, 0x20);
     OpCall::AddPermRoot {
         path: matchers::matchers::place_of(c.before),
         gc_root: matchers::matchers::place_of(c.after),
@@ -99,11 +99,11 @@ fn line_call(text: &[u8], op: Op, args: Span, i: usize, n: usize) -> OpCall
     requires { ⌜ In (now text) args ⌝ }
     ensures { λ r. ⌜ r ≡ lineRecord (now (text .entry)) (setPlace (formOf op .syntax)) op args i n ⌝ }
 {
-    match roles::openings::set_place(op) {
+    match openings::set_place(op) {
         SetPlace::NoSet => text_call(text, op, args),
         SetPlace::AllOf => set_call(text, op, args, records::calls::range_of(i, n)),
         SetPlace::BehindBlank => {
-            let c = roles::openings::cut_or(text, args, 0x20);
+            let c = openings::cut_or(text, args, 0x20);
             OpCall::AddSignatures {
                 path: matchers::matchers::place_of(c.before),
                 sigs: records::calls::range_of(i, n),
@@ -128,7 +128,7 @@ pub fn call_of(
     requires { ⌜ b + z .first + z .second < 0x1_0000_0000_0000_0000 ⌝ }
     ensures { λ r. ⌜ r ≡ recordOf (now (text .entry)) (formOf op .shape) op args (pieceAt (now (starts .entry)) (now (ends .entry))) i b z ⌝ }
 {
-    match roles::openings::takes_of(op) {
+    match openings::takes_of(op) {
         Takes::NoLines => line_call(text, op, args, i, z.items),
         Takes::Options => OpCall::SetOptions(records::calls::options_of(
             text,

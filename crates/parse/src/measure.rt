@@ -39,7 +39,7 @@ pub fn walk(text: &[u8], kept: &mut [Kept]) -> Measured
     let mut at: usize = 0;
     let mut number: usize = 1;
     while at < text.len() {
-        let l = text::lines::line_at(text, at, number);
+        let l = lines::lines::line_at(text, at, number);
         let step = roles::steps::step(text, w, l);
         let role = step.role;
         let next = step.next;
@@ -75,7 +75,7 @@ pub fn measure_keeping(text: &[u8], kept: &mut [Kept]) -> Measured
     if 0x8000 < text.len() {
         return Measured::Refused(Refusal { number: 1, line: 0 });
     }
-    if !text::utf8::well_formed(text) {
+    if !utf8::well_formed(text) {
         return Measured::Refused(Refusal { number: 2, line: 0 });
     }
     walk(text, kept)

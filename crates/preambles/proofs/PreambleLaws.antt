@@ -15,10 +15,10 @@ use Rattle.text.specs.Parts.{span, startsWith, sameBytes}
 use Rattle.text.specs.declared.parts.Span.{Span}
 use Rattle.text.proofs.Scan.{rest-more, never}
 use Rattle.text.proofs.LiteralLaws.{codes, spells-as}
-use Rattle.wire.specs.Version.{version, versionOf}
-use Rattle.wire.specs.declared.handshake.ProtocolVersion.{ProtocolVersion}
-use Rattle.wire.specs.declared.handshake.Version.{Version}
-use Rattle.wire.specs.declared.handshake.Version.the-variants as read
+use Rattle.version.specs.Version.{version, versionOf}
+use Rattle.version.specs.declared.ProtocolVersion.{ProtocolVersion}
+use Rattle.version.specs.declared.Version.{Version}
+use Rattle.version.specs.declared.Version.the-variants as read
 use Rattle.script.specs.Answers.{firstOf}
 use Rattle.script.specs.Pieces.{bytes, isEmpty, is, begins, behind, trim}
 use Rattle.script.specs.Roles.{step, expectRole, behindSigns, versionRole, saying, commentRole, protocolRole, wordRole, preambleExpect, preambleRole, preambleStep}

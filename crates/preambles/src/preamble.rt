@@ -3,7 +3,7 @@ ghost use mathlib.Core.Path.{_≡_};
 ghost use mathlib.Core.Bool.{true};
 ghost use lib.ListN.{getD};
 ghost use Rattle.text.specs.Parts.{span};
-ghost use Rattle.wire.specs.Version.{version};
+ghost use Rattle.version.specs.Version.{version};
 ghost use Rattle.script.specs.Pieces.{bytes};
 ghost use Rattle.script.specs.Roles.{behindSigns, versionRole, commentRole, wordRole, preambleExpect, preambleRole, preambleStep};
 ghost use Rattle.script.specs.Inside.{In};
@@ -15,7 +15,7 @@ use script::roles::Saying;
 use script::roles::Step;
 use script::roles::Where;
 use text::parts::Span;
-use wire::handshake::Version;
+use version::Version;
 
 // Where a comment begins behind the signs `#` at its front.
 fn behind_signs(text: &[u8], t: Span) -> usize
@@ -99,7 +99,7 @@ fn version_role(text: &[u8], v: Span) -> Role
 {
     let start = v.start;
     let end = v.end;
-    match wire::handshake::parse_version(&text[start..end]) {
+    match version::parse_version(&text[start..end]) {
         Version::Read(_) => Role::Says(Saying::Known(Key::Protocol, v)),
         Version::Bad => Role::Nothing,
     }

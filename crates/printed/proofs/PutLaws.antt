@@ -9,7 +9,7 @@ use Rattle.text.specs.Literal.{utf8}
 use Rattle.text.specs.Unicode.{encoded}
 use Rattle.text.proofs.LiteralLaws.{codes}
 use Rattle.wire.specs.Operations.{operation}
-use Rattle.wire.specs.declared.handshake.ProtocolVersion.{ProtocolVersion}
+use Rattle.version.specs.declared.ProtocolVersion.{ProtocolVersion}
 use Rattle.script.specs.declared.records.Entry.{Entry}
 use Rattle.script.specs.declared.records.Refusal.{Refusal}
 use Rattle.script.specs.declared.records.Script.{Script}

@@ -8,7 +8,7 @@ use Rattle.text.specs.Literal.{utf8}
 use Rattle.wire.specs.Operations.{operation}
 use Rattle.wire.specs.declared.ops.Op.{Op}
 use Rattle.wire.specs.declared.ops.Op.the-variants as ops
-use Rattle.wire.specs.declared.handshake.ProtocolVersion.{ProtocolVersion}
+use Rattle.version.specs.declared.ProtocolVersion.{ProtocolVersion}
 use Rattle.script.specs.Layout.{Reading}
 use Rattle.script.specs.Reading.{Parsed, refusedAt, read, readInto}
 use Rattle.script.specs.declared.records.OpCall.{OpCall}

@@ -9,7 +9,7 @@ use script::records::Entry;
 use script::records::OpCall;
 use script::records::Refusal;
 use script::records::Script;
-use wire::handshake::ProtocolVersion;
+use version::ProtocolVersion;
 use wire::ops::Op;
 use writing::decimal::put_decimal;
 use writing::words::put_after;

@@ -1,3 +1,2 @@
 pub mod ReadLaws
-pub mod ScriptLaws
 pub mod Made

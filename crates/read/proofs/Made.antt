@@ -2,6 +2,3 @@
 pub mod ReadingReadKinds
 pub mod ReadingReadLts
 pub mod ReadingReadReads
-pub mod ReadingReadScriptKinds
-pub mod ReadingReadScriptLts
-pub mod ReadingReadScriptReads

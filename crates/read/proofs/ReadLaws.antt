@@ -1,13 +1,12 @@
 -- Read: what Measure and the lengths of the tables say of the answer. Assumes nothing.
-use Prim.Native.Nat.{ℕ, _≤_, _<_}
+use Prim.Native.Nat.{ℕ, _≤_}
 use mathlib.Core.Path.{_≡_, refl, sym, ap, _∙_}
 use mathlib.Core.Bool.{Bool, true, false, not}
 use mathlib.Core.List.{List, map}
 use mathlib.Core.Option.{Option, none, some}
-use native.Mathlib.Nat.{min-le-left, min-le-right, min-eq-left, min-eq-right, le-of-lt, le-trans}
 use lib.Dec.{ltb}
 use lib.ListN.{length}
-use borrow.Author.Tests.{lt-ltb, le-ltb, ltb-false}
+use borrow.Author.Tests.{ltb-false}
 use Rattle.text.specs.Base.{if_then_else_}
 use Rattle.text.specs.Utf8.{wellFormed}
 use Rattle.text.specs.Lines.{lines}
@@ -28,56 +27,12 @@ use Rattle.parse.specs.MeasureRead.{measuredOf}
 use Rattle.parse.specs.declared.measure.Measured.{Measured}
 use Rattle.parse.specs.declared.measure.Measured.the-variants as Measured
 use Rattle.read.specs.declared.reading.Answer.the-variants as Answer
-use Rattle.read.specs.declared.reading.Fit.{Fit}
-use Rattle.read.specs.declared.reading.Fit.the-variants.{Enough, Short}
+use Rattle.fits.specs.declared.Fit.{Fit}
+use Rattle.fits.specs.declared.Fit.the-variants.{Enough, Short}
+use Rattle.fits.proofs.FitLaws.{room-within, room-limit}
 use Rattle.read.specs.Read.{answerOf, scriptOr, tablesOr}
-use Rattle.read.specs.ReadWalk.{readingOf, shortage, fitOf}
-
--- ---- Only the first 32,768 records count
-
-pub room-small : (n : ℕ) → n < 0x8000 → n ≡ room n
-unfolding room
-room-small n h = sym (min-eq-right (le-of-lt h))
-
-pub room-large : (n : ℕ) → 0x8000 ≤ n → 0x8000 ≡ room n
-unfolding room
-room-large n h = sym (min-eq-left h)
-
-pub room-within : (n m : ℕ) → m ≤ room n → m ≤ n
-unfolding room
-room-within n m h = le-trans h (min-le-right 0x8000 n)
-
-pub room-limit : (n m : ℕ) → m ≤ room n → m ≤ 0x8000
-unfolding room
-room-limit n m h = le-trans h (min-le-left 0x8000 n)
-
--- ---- the first table that is too short
-
-module _ (lent needed : Counts) (a : ℕ) (p : a ≡ room (lent .entries)) where
-  pub short-21 : a < needed .entries → fitOf (Short (refusal 21 0)) ≡ shortage lent needed
-  unfolding shortage fitOf
-  short-21 h = rw (← p, lt-ltb a (needed .entries) h)
-
-  module _ (h : needed .entries ≤ a) (b : ℕ) (q : b ≡ room (lent .items)) where
-    pub short-22 : b < needed .items → fitOf (Short (refusal 22 0)) ≡ shortage lent needed
-    unfolding shortage fitOf
-    short-22 i = rw (← p, ← q, le-ltb a (needed .entries) h, lt-ltb b (needed .items) i)
-
-    module _ (i : needed .items ≤ b) (c : ℕ) (r : c ≡ room (lent .expectations)) where
-      pub short-23 : c < needed .expectations → fitOf (Short (refusal 23 0)) ≡ shortage lent needed
-      unfolding shortage fitOf
-      short-23 j = rw (← p, ← q, ← r, le-ltb a (needed .entries) h, le-ltb b (needed .items) i, lt-ltb c (needed .expectations) j)
-
-      module _ (j : needed .expectations ≤ c) where
-        pub short-24 : lent .store < needed .store → fitOf (Short (refusal 24 0)) ≡ shortage lent needed
-        unfolding shortage fitOf
-        short-24 k = rw (← p, ← q, ← r, le-ltb a (needed .entries) h, le-ltb b (needed .items) i, le-ltb c (needed .expectations) j, lt-ltb (lent .store) (needed .store) k)
-
-        pub enough : needed .store ≤ lent .store → fitOf Enough ≡ shortage lent needed
-        unfolding shortage fitOf
-        enough k = rw (← p, ← q, ← r, le-ltb a (needed .entries) h, le-ltb b (needed .items) i, le-ltb c (needed .expectations) j, le-ltb (lent .store) (needed .store) k)
-
-pub ruleset short-laws = (short-21, short-22, short-23, short-24, enough)
+use Rattle.entries.specs.Whole.{readingOf}
+use Rattle.fits.specs.Fits.{shortage, fitOf}
 
 -- a refusal, or the reading
 pub fitting : Reading → Option Refusal → Parsed Reading

@@ -11,10 +11,10 @@ use borrow.Author.Tests.{ltb-false}
 use Rattle.text.specs.Base.{if_then_else_}
 use Rattle.text.specs.Parts.{span}
 use Rattle.text.specs.declared.parts.Span.{Span}
-use Rattle.wire.specs.Version.{version, versionOf, defaultVersion}
-use Rattle.wire.specs.declared.handshake.ProtocolVersion.{ProtocolVersion}
-use Rattle.wire.specs.declared.handshake.Version.{Version}
-use Rattle.wire.specs.declared.handshake.Version.the-variants.{Read, Bad}
+use Rattle.version.specs.Version.{version, versionOf, defaultVersion}
+use Rattle.version.specs.declared.ProtocolVersion.{ProtocolVersion}
+use Rattle.version.specs.declared.Version.{Version}
+use Rattle.version.specs.declared.Version.the-variants.{Read, Bad}
 use Rattle.script.specs.Pieces.{place, bytes}
 use Rattle.script.specs.Operations.{keyRow}
 use Rattle.script.specs.Contents.{versionIn}

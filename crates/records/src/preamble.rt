@@ -13,8 +13,8 @@ use script::records::MaybeItems;
 use script::records::Preamble;
 use script::roles::Key;
 use text::parts::Span;
-use wire::handshake::ProtocolVersion;
-use wire::handshake::Version;
+use version::ProtocolVersion;
+use version::Version;
 
 // A version that cannot be read is the default.
 fn version_in(text: &[u8], v: Span) -> ProtocolVersion
@@ -23,7 +23,7 @@ fn version_in(text: &[u8], v: Span) -> ProtocolVersion
 {
     let start = v.start;
     let end = v.end;
-    match wire::handshake::parse_version(&text[start..end]) {
+    match version::parse_version(&text[start..end]) {
         Version::Read(w) => w,
         Version::Bad => ProtocolVersion::default(),
     }

@@ -40,17 +40,17 @@ fn case_of(word: &[u8], bytes: &[u8]) -> Case {
         return Case::White(code_point(bytes));
     }
     if text::parts::same(word, b"good") {
-        return Case::Good(text::utf8::well_formed(bytes));
+        return Case::Good(utf8::well_formed(bytes));
     }
     if text::parts::same(word, b"bad") {
-        return Case::Bad(!text::utf8::well_formed(bytes));
+        return Case::Bad(!utf8::well_formed(bytes));
     }
     Case::Other
 }
 
 // A case by its word and its bytes in hex, which are decoded into the room lent.
 fn case_in(word: &[u8], hex: &[u8], room: &mut [u8]) -> Case {
-    let n = values::hex::hex_decode(hex, room);
+    let n = hex::hex_decode(hex, room);
     if room.len() < n {
         return Case::Other;
     }
@@ -59,10 +59,10 @@ fn case_in(word: &[u8], hex: &[u8], room: &mut [u8]) -> Case {
 
 // A line: a word, and bytes in hex.
 fn case_on(line: &[u8]) -> Case {
-    let w = text::words::word_at(line, 0);
+    let w = lines::words::word_at(line, 0);
     let start = w.start;
     let end = w.end;
-    let v = text::words::word_at(line, end);
+    let v = lines::words::word_at(line, end);
     let from = v.start;
     let to = v.end;
     let mut bytes = [0u8; 16];
@@ -149,7 +149,7 @@ fn read_cases(input: &[u8], codes: &mut [u32]) -> Tally
     };
     let mut at: usize = 0;
     while at < input.len() {
-        let l = text::lines::line_at(input, at, 0);
+        let l = lines::lines::line_at(input, at, 0);
         let start = l.start;
         let end = l.end;
         let c = case_on(&input[start..end]);
@@ -220,10 +220,10 @@ fn taken_right(room: &[u8], len: usize, surrogate: bool, white: bool) -> bool {
     }
     let bytes = &room[..len];
     if surrogate {
-        return !text::utf8::well_formed(bytes);
+        return !utf8::well_formed(bytes);
     }
-    if text::utf8::well_formed(bytes) {
-        let left = text::trim::trim(bytes);
+    if utf8::well_formed(bytes) {
+        let left = lines::trim::trim(bytes);
         if white {
             return left.len() == 0;
         }

@@ -1,2 +1,2 @@
 // Stored answers of the Rust to Read, replayed.
-pub mod lines;
+pub mod line;

@@ -1,2 +1,2 @@
 // Stored answers of the Rust to Message, replayed.
-pub mod lines;
+pub mod line;

@@ -24,7 +24,7 @@ use Rattle.script.specs.declared.roles.Takes.{Takes}
 use Rattle.script.specs.declared.roles.Where.{Where}
 use Rattle.script.specs.declared.roles.Where.the-variants.{InPreamble, Outside, InBlock, InEntry}
 use Rattle.roles.specs.StepRead.{frontOf, sortedStep, belowEmpty}
-use Rattle.roles.specs.OpeningRead.{openingStep}
+use Rattle.openings.specs.OpeningRead.{openingStep}
 use Rattle.roles.specs.declared.steps.Sort.{Sort}
 use Rattle.roles.specs.declared.steps.Sort.the-variants as sort
 use Rattle.roles.specs.declared.steps.Front.{Front}

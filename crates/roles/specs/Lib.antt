@@ -1,3 +1,2 @@
 pub mod BlockRead
-pub mod OpeningRead
 pub mod StepRead

@@ -10,7 +10,7 @@ use Rattle.script.specs.declared.roles.Role.the-variants.{Nothing}
 use Rattle.script.specs.declared.roles.Step.{Step}
 use Rattle.script.specs.declared.roles.Where.{Where}
 use Rattle.script.specs.declared.roles.Where.the-variants.{InPreamble, Outside, InBlock, InEntry}
-use Rattle.roles.specs.OpeningRead.{openingStep}
+use Rattle.openings.specs.OpeningRead.{openingStep}
 use Rattle.roles.specs.declared.steps.Sort.{Sort}
 use Rattle.roles.specs.declared.steps.Sort.the-variants as sort
 use Rattle.roles.specs.declared.steps.Front.{Front}

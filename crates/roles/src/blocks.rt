@@ -61,7 +61,7 @@ fn refused_value(text: &[u8], k: Key, v: Span) -> Refused
 {
     match value_kind(k) {
         ValueKind::Set => {
-            if crate::openings::not_closed(text, v) {
+            if openings::not_closed(text, v) {
                 return Refused::By(10);
             }
             Refused::No

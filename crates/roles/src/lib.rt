@@ -1,4 +1,3 @@
 // What each line of a text is (the line-by-line half of script/parse.rs of the Rust).
 pub mod blocks;
-pub mod openings;
 pub mod steps;

@@ -50,7 +50,7 @@ fn outside_sort(text: &[u8], t: Span) -> Sort
     requires { ⌜ In (now text) t ⌝ }
     ensures { λ r. ⌜ sortedStep (now (text .entry)) r t ≡ outsideStep (now (text .entry)) t ⌝ }
 {
-    if crate::openings::is_skipped(text, t) {
+    if openings::is_skipped(text, t) {
         return Sort::Skipped;
     }
     Sort::Opening
@@ -118,7 +118,7 @@ fn sorted_step(text: &[u8], sort: Sort, t: Span) -> Step
             next: Where::InEntry,
         },
         Sort::Argument(takes, list_open) => crate::blocks::argument_step(text, takes, list_open, t),
-        Sort::Opening => crate::openings::opening_step(text, t),
+        Sort::Opening => openings::opening_step(text, t),
     }
 }
 
@@ -155,7 +155,7 @@ pub fn step(text: &[u8], w: Where, l: Line) -> Step
             next: below_empty(w),
         };
     }
-    let inward = text::lines::indented(&text[start..end]);
+    let inward = lines::lines::indented(&text[start..end]);
     let t = pieces::pieces::trimmed(text, Span { start, end });
     step_at(text, w, inward, t)
 }

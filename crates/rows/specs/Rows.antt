@@ -7,7 +7,7 @@ use lib.ListN.{getD}
 use lib.Dec.{eqb}
 use lib.IntN.{ℤ}
 use Rattle.text.specs.Base.{if_then_else_}
-use Rattle.wire.specs.declared.handshake.ProtocolVersion.{ProtocolVersion}
+use Rattle.version.specs.declared.ProtocolVersion.{ProtocolVersion}
 use Rattle.script.specs.declared.records.Place.{Place}
 use Rattle.script.specs.declared.records.Items.{Items}
 use Rattle.script.specs.declared.records.Maybe.{Maybe}

@@ -6,7 +6,7 @@ use crate::parts::items;
 use crate::parts::maybe;
 use crate::parts::maybe_number;
 use script::response::HandshakeInfo;
-use wire::handshake::ProtocolVersion;
+use version::ProtocolVersion;
 
 fn version(major: u64, minor: u64) -> ProtocolVersion
     ensures { λ r. ⌜ r ≡ versionOf major minor ⌝ }

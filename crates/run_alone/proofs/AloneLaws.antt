@@ -25,8 +25,8 @@ module _ (es : List Entry) (is : List (List ℕ)) (xs : List Expectation) (bs : 
       rw (a, b, c, d) refl
 
   pub is-alone : (text : List ℕ) (rows : List (List ℕ)) (bytes : List ℕ) (lists : List (List ℕ)) (verdicts : List ℕ) (scratch answers : ℕ) (r : Ran)
-      → r ≡ ranOf answers scratch rows (scriptOr (readInto (lentOf es is xs bs) text)) (plainLeft text verdicts (callsOf bytes lists rows) .tally)
+      → r ≡ ranOf answers scratch rows (scriptOr (readInto (lentOf es is xs bs) text)) (plainLeft text verdicts (callsOf bytes lists rows))
       → r ≡ ranAlone text rows bytes lists verdicts scratch answers
   unfolding ranAlone
   is-alone text rows bytes lists verdicts scratch answers r e =
-      e ∙ ap (λ (c : Counts). ranOf answers scratch rows (scriptOr (readInto c text)) (plainLeft text verdicts (callsOf bytes lists rows) .tally)) own-lent
+      e ∙ ap (λ (c : Counts). ranOf answers scratch rows (scriptOr (readInto c text)) (plainLeft text verdicts (callsOf bytes lists rows))) own-lent

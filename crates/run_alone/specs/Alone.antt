@@ -15,4 +15,4 @@ ownTables = record { entries = 256; items = 1024; expectations = 1024; store = 3
 -- of a text, rows of calls, what they hand over, the verdict list, and how many bytes of scratch and places for answers are lent
 unfoldable pub ranAlone : (text : List ℕ) → (rows : List (List ℕ)) → (bytes : List ℕ) → (lists : List (List ℕ)) → (verdicts : List ℕ) → (scratch answers : ℕ) → Ran
 ranAlone text rows bytes lists verdicts scratch answers =
-    ranOf answers scratch rows (scriptOr (readInto ownTables text)) (plainLeft text verdicts (callsOf bytes lists rows) .tally)
+    ranOf answers scratch rows (scriptOr (readInto ownTables text)) (plainLeft text verdicts (callsOf bytes lists rows))

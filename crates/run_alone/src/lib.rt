@@ -4,7 +4,7 @@ ghost use mathlib.Core.List.{map};
 ghost use mathlib.Core.Path.{_≡_};
 ghost use lib.ListN.{length};
 ghost use Rattle.tables.specs.Written.{writtenAt};
-ghost use Rattle.plain.specs.PlainJudge.{plainRun};
+ghost use Rattle.judging.specs.PlainJudge.{plainRun};
 ghost use Rattle.calls.specs.CallRows.{callsOf, answerCode};
 ghost use Rattle.script_run.specs.Ran.{plainLeft, plainScratch, ifDone};
 ghost use Rattle.run_alone.specs.Alone.{ranAlone};

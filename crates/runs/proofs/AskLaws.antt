@@ -9,7 +9,7 @@ use lib.Seq.{drop-cons}
 use lib.Dec.{ltb}
 use borrow.Author.Tests.{lt-ltb, le-ltb, ltb-false}
 use Rattle.rows.specs.Rows.{at}
-use Rattle.judge.proofs.Orders.{neither}
+use Rattle.judging.proofs.Orders.{neither}
 use Rattle.runs.specs.Runs.{asksMore}
 
 -- the rows from i on are row i and those behind it

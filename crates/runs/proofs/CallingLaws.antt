@@ -16,9 +16,11 @@ use Rattle.script.specs.declared.response.DaemonResponse.{DaemonResponse}
 use Rattle.judge.specs.declared.calls.Turn.{Turn}
 use Rattle.subjects.specs.declared.handed.Handed.{Handed}
 use Rattle.subjects.specs.declared.handed.Handed.the-variants.{Info, Response}
-use Rattle.judge.specs.Calls.{Judging, judge, close}
-use Rattle.judge.specs.Judge.{Lent, JudgeState, scratchAfter, closeAnswer, judgeStep}
-use Rattle.judge.proofs.JudgeLaws.{no-entries, no-entries-scratch}
+use Rattle.judging.specs.Calls.{Judging, judge, close}
+use Rattle.judging.specs.Judge.{Lent, JudgeState, closeAnswer, judgeStep}
+use Rattle.judging.specs.Scratch.{scratchAfter}
+use Rattle.ranges.proofs.JudgeLaws.{no-entries, no-entries-scratch}
+use Rattle.judge.specs.Tally.{tallyOf, turned}
 use Rattle.calls.specs.CallRows.{handedOf, judgingOf, callOf}
 use Rattle.runs.specs.Runs.{onFront, scratchCall}
 
@@ -44,11 +46,11 @@ module _ (bytes : List ℕ) (lists : List (List ℕ)) (row : List ℕ) where
 -- the answer, the tally, the verdict list and the scratch after a call
 abbrev pub Called : (k : Lent) (s : JudgeState) (bytes : List ℕ) (lists : List (List ℕ)) (row scratch : List ℕ) → Turn → (v scr : List ℕ) → Type 0
 Called k s bytes lists row scratch r v scr =
-    ((r .answer, record { tally = r .tally; verdicts = v }) ≡ judgeStep k s (callOf bytes lists row))
+    (turned r v ≡ judgeStep k s (callOf bytes lists row))
     × (scr ≡ scratchCall k s (callOf bytes lists row) scratch)
 
 module _ (k : Lent) (s : JudgeState) (bytes : List ℕ) (lists : List (List ℕ)) (row scratch : List ℕ) where
-  pub closed : (r : Turn) → at row 0 ≡ 0 → r ≡ record { tally = s .tally; answer = closeAnswer (s .tally) (k .script .counts .entries) } → Called k s bytes lists row scratch r (s .verdicts) scratch
+  pub closed : (r : Turn) → at row 0 ≡ 0 → r ≡ record { tally = tallyOf s; answer = closeAnswer (s .next) (s .counts) (k .script .counts .entries) } → Called k s bytes lists row scratch r (s .verdicts) scratch
   unfolding judgeStep scratchCall
   closed r h e = rw (calls-close bytes lists row h, e) (refl, refl)
 
@@ -56,22 +58,22 @@ module _ (k : Lent) (s : JudgeState) (bytes : List ℕ) (lists : List (List ℕ)
     abbrev lent : List ℕ
     lent = take (at row 2) scratch
 
-    pub judged-by-row : (r .answer, record { tally = r .tally; verdicts = v }) ≡ judgeStep k s (judge (judging bytes lists (at row 1) (length lent) h))
-        → part ≡ scratchAfter k (s .tally) (length (s .verdicts)) (judging bytes lists (at row 1) (length lent) h) lent
+    pub judged-by-row : turned r v ≡ judgeStep k s (judge (judging bytes lists (at row 1) (length lent) h))
+        → part ≡ scratchAfter k s (judging bytes lists (at row 1) (length lent) h) lent
         → Called k s bytes lists row scratch r v (part ++ drop (at row 2) scratch)
     unfolding scratchCall onFront
     judged-by-row e f =
         let l : length lent ≡ at row 2 = length-take-le (at row 2) scratch fits in
         rw c (
           e ∙ ap (λ (n : ℕ). judgeStep k s (judge (judging bytes lists (at row 1) n h))) l,
-          ap (λ (p : List ℕ). p ++ drop (at row 2) scratch) (f ∙ ap (λ (n : ℕ). scratchAfter k (s .tally) (length (s .verdicts)) (judging bytes lists (at row 1) n h) lent) l),
+          ap (λ (p : List ℕ). p ++ drop (at row 2) scratch) (f ∙ ap (λ (n : ℕ). scratchAfter k s (judging bytes lists (at row 1) n h) lent) l),
         )
 
 -- an entry
 module _ (k : Lent) (s : JudgeState) (bytes : List ℕ) (lists : List (List ℕ)) (row scratch : List ℕ) (fits : at row 2 ≤ length scratch) (t : Turn) (v part : List ℕ) where
   pub entered : at row 0 ≢ 0 → at row 0 ≢ 1 → (r : DaemonResponse) → r ≡ responseRow (drop 3 row)
-      → (t .answer, record { tally = t .tally; verdicts = v }) ≡ judgeStep k s (judge (judging bytes lists (at row 1) (length (take (at row 2) scratch)) (Response r)))
-      → part ≡ scratchAfter k (s .tally) (length (s .verdicts)) (judging bytes lists (at row 1) (length (take (at row 2) scratch)) (Response r)) (take (at row 2) scratch)
+      → turned t v ≡ judgeStep k s (judge (judging bytes lists (at row 1) (length (take (at row 2) scratch)) (Response r)))
+      → part ≡ scratchAfter k s (judging bytes lists (at row 1) (length (take (at row 2) scratch)) (Response r)) (take (at row 2) scratch)
       → Called k s bytes lists row scratch t v (part ++ drop (at row 2) scratch)
   entered g h r q e f = judged-by-row k s bytes lists row scratch fits t v part (Response r) (calls-entry bytes lists row g h ∙ ap (λ (x : DaemonResponse). judge (judging bytes lists (at row 1) (at row 2) (Response x))) (sym q)) e f
 
@@ -85,12 +87,12 @@ module _ (text : List ℕ) (script : Script) (entries : List Entry) (expectation
   whole = record { text = text; script = script; entries = entries; expectations = expectations }
 
   pub handshaken : at row 0 ≢ 0 → at row 0 ≡ 1 → (i : HandshakeInfo) → i ≡ infoRow (drop 3 row)
-      → (t .answer, record { tally = t .tally; verdicts = v }) ≡ judgeStep alone s (judge (judging bytes lists (at row 1) (length (take (at row 2) scratch)) (Info i)))
-      → part ≡ scratchAfter alone (s .tally) (length (s .verdicts)) (judging bytes lists (at row 1) (length (take (at row 2) scratch)) (Info i)) (take (at row 2) scratch)
+      → turned t v ≡ judgeStep alone s (judge (judging bytes lists (at row 1) (length (take (at row 2) scratch)) (Info i)))
+      → part ≡ scratchAfter alone s (judging bytes lists (at row 1) (length (take (at row 2) scratch)) (Info i)) (take (at row 2) scratch)
       → Called whole s bytes lists row scratch t v (part ++ drop (at row 2) scratch)
   handshaken g h i q e f =
       let n : ℕ = length (take (at row 2) scratch) in
       judged-by-row whole s bytes lists row scratch fits t v part (Info i)
       (calls-handshake bytes lists row g h ∙ ap (λ (x : HandshakeInfo). judge (judging bytes lists (at row 1) (at row 2) (Info x))) (sym q))
       (e ∙ no-entries text script expectations entries i (at row 1) bytes (counted lists) n s)
-      (f ∙ no-entries-scratch text script expectations entries i (at row 1) bytes (counted lists) n (s .tally) (length (s .verdicts)) (take (at row 2) scratch))
+      (f ∙ no-entries-scratch text script expectations entries i (at row 1) bytes (counted lists) n s (take (at row 2) scratch))

@@ -10,10 +10,10 @@ use Rattle.tables.specs.Written.{writtenAt}
 use Rattle.tables.proofs.WrittenLaws.{written-one, written-twice}
 use Rattle.rows.specs.Rows.{at}
 use Rattle.judge.specs.declared.tally.Tally.{Tally}
-use Rattle.judge.specs.declared.calls.Answer.{Answer}
-use Rattle.judge.specs.Tally.{freshTally}
-use Rattle.judge.specs.Calls.{Call, run}
-use Rattle.judge.specs.Judge.{Lent, JudgeState, judgeStart, judgeStep}
+use Rattle.judging.specs.declared.calls.Answer.{Answer}
+use Rattle.judge.specs.Tally.{freshTally, stateOf}
+use Rattle.judging.specs.Calls.{Call, run}
+use Rattle.judging.specs.Judge.{Lent, JudgeState, judgeStart, judgeStep}
 use Rattle.calls.specs.CallRows.{callOf, callsOf, answerCode}
 use Rattle.runs.specs.Runs.{scratchCall, scratchRun, asksMore}
 use Rattle.runs.proofs.AskLaws.{rows-from, lent-here, lent-later}
@@ -56,9 +56,9 @@ module _ (k : Lent) (bytes : List ℕ) (lists : List (List ℕ)) (rows : List (L
     pub in-list : i ≤ length rows
     pub lent : asksMore (length scr) (drop i rows) ≡ false
     pub slots : length rows ≤ length ans
-    pub left : ran (judgeStart v₀) rows .1 ≡ ran (record { tally = t; verdicts = v }) (drop i rows) .1
-    pub answered : writtenAt 0 (map answerCode (ran (judgeStart v₀) rows .0)) ans₀ ≡ writtenAt i (map answerCode (ran (record { tally = t; verdicts = v }) (drop i rows) .0)) ans
-    pub written : after (judgeStart v₀) rows scr₀ ≡ after (record { tally = t; verdicts = v }) (drop i rows) scr
+    pub left : ran (judgeStart v₀) rows .1 ≡ ran (stateOf t v) (drop i rows) .1
+    pub answered : writtenAt 0 (map answerCode (ran (judgeStart v₀) rows .0)) ans₀ ≡ writtenAt i (map answerCode (ran (stateOf t v) (drop i rows) .0)) ans
+    pub written : after (judgeStart v₀) rows scr₀ ≡ after (stateOf t v) (drop i rows) scr
 
   module _ (v₀ scr₀ ans₀ : List ℕ) where
     pub going-begun : (t : Tally) → t ≡ freshTally → length rows ≤ length ans₀ → asksMore (length scr₀) rows ≡ false → Going v₀ scr₀ ans₀ t v₀ scr₀ ans₀ 0
@@ -66,7 +66,7 @@ module _ (k : Lent) (bytes : List ℕ) (lists : List (List ℕ)) (rows : List (L
 
     module _ (t : Tally) (v scr ans : List ℕ) (i : ℕ) (g : Going v₀ scr₀ ans₀ t v scr ans i) where
       abbrev s : JudgeState
-      s = record { tally = t; verdicts = v }
+      s = stateOf t v
 
       module _ (more : i < length rows) where
         abbrev c : Call
@@ -96,10 +96,10 @@ module _ (k : Lent) (bytes : List ℕ) (lists : List (List ℕ)) (rows : List (L
         part-lent = lent-here (length scr) rows i more (g .lent)
 
         -- one call more
-        pub going-on : (next : Tally) (v′ scr′ : List ℕ) (a : Answer) (n : ℕ) → (a, record { tally = next; verdicts = v′ }) ≡ judgeStep k s c → scr′ ≡ scratchCall k s c scr
+        pub going-on : (next : Tally) (v′ scr′ : List ℕ) (a : Answer) (n : ℕ) → (a, stateOf next v′) ≡ judgeStep k s c → scr′ ≡ scratchCall k s c scr
             → length scr′ ≡ length scr → n ≡ answerCode a → Going v₀ scr₀ ans₀ next v′ scr′ (set ans i n) (i + 1)
         going-on next v′ scr′ a n e f l m =
-            let s′ : JudgeState = record { tally = next; verdicts = v′ } in
+            let s′ : JudgeState = stateOf next v′ in
             let first = ap (λ (cs : List Call). run (judgeStep k) s cs) calls-from ∙ run-first (judgeStep k) s s′ a c (callsOf bytes lists rest) e in
             let told : List ℕ = map answerCode (ran s′ rest .0) in
             record {

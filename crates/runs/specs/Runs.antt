@@ -2,13 +2,14 @@
 use Prim.Native.Nat.{ℕ}
 use mathlib.Core.Bool.{Bool, false}
 use mathlib.Core.List.{List, [], _∷_, _++_}
-use lib.ListN.{length, take, drop}
+use lib.ListN.{take, drop}
 use lib.Dec.{ltb}
 use Rattle.text.specs.Base.{_or_}
 use Rattle.rows.specs.Rows.{at}
-use Rattle.judge.specs.declared.calls.Answer.{Answer}
-use Rattle.judge.specs.Calls.{Call, judge, close}
-use Rattle.judge.specs.Judge.{Lent, JudgeState, scratchAfter}
+use Rattle.judging.specs.declared.calls.Answer.{Answer}
+use Rattle.judging.specs.Calls.{Call, judge, close}
+use Rattle.judging.specs.Judge.{Lent, JudgeState}
+use Rattle.judging.specs.Scratch.{scratchAfter}
 
 -- A call is lent the first n bytes of the scratch; the rest is as it was.
 unfoldable pub onFront : (n : ℕ) → (List ℕ → List ℕ) → (scratch : List ℕ) → List ℕ
@@ -16,7 +17,7 @@ onFront n f scratch = f (take n scratch) ++ drop n scratch
 
 -- the scratch after a call
 unfoldable pub scratchCall : Lent → JudgeState → Call → (scratch : List ℕ) → List ℕ
-scratchCall k s (judge j) scratch = onFront (j .scratch) (scratchAfter k (s .tally) (length (s .verdicts)) j) scratch
+scratchCall k s (judge j) scratch = onFront (j .scratch) (scratchAfter k s j) scratch
 scratchCall k s close scratch = scratch
 
 -- Each call finds the state and the scratch that the one before it left: the last scratch.

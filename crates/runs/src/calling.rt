@@ -6,8 +6,9 @@ ghost use Prim.Native.Nat.{_≤_};
 ghost use lib.ListN.{length};
 ghost use Rattle.tables.specs.Written.{writtenAt};
 ghost use Rattle.rows.specs.Rows.{at};
-ghost use Rattle.judge.specs.Calls.{run};
-ghost use Rattle.judge.specs.Judge.{judgeStart, judgeStep};
+ghost use Rattle.judging.specs.Calls.{run};
+ghost use Rattle.judging.specs.Judge.{judgeStart, judgeStep};
+ghost use Rattle.judge.specs.Tally.{stateOf, turned};
 ghost use Rattle.calls.specs.CallRows.{callOf, callsOf, answerCode};
 ghost use Rattle.runs.specs.Runs.{scratchCall, scratchRun, asksMore};
 use calls::answers::answer_code;
@@ -33,8 +34,8 @@ pub fn one_call(
     scratch: &mut [u8],
 ) -> Turn
     requires { ⌜ at row 2 ≤ length (now scratch) ⌝ }
-    ensures { λ r. ⌜ (r .answer, record { tally = r .tally; verdicts = now (verdicts .exit) }) ≡ judgeStep (record { text = now (text .entry); script = script; entries = now (entries .entry); expectations = now (expectations .entry) }) (record { tally = t; verdicts = now (verdicts .entry) }) (callOf (now (bytes .entry)) (now (lists .entry)) row) ⌝ }
-    ensures { λ _. ⌜ now (scratch .exit) ≡ scratchCall (record { text = now (text .entry); script = script; entries = now (entries .entry); expectations = now (expectations .entry) }) (record { tally = t; verdicts = now (verdicts .entry) }) (callOf (now (bytes .entry)) (now (lists .entry)) row) (now (scratch .entry)) ⌝ }
+    ensures { λ r. ⌜ turned r (now (verdicts .exit)) ≡ judgeStep (record { text = now (text .entry); script = script; entries = now (entries .entry); expectations = now (expectations .entry) }) (stateOf t (now (verdicts .entry))) (callOf (now (bytes .entry)) (now (lists .entry)) row) ⌝ }
+    ensures { λ _. ⌜ now (scratch .exit) ≡ scratchCall (record { text = now (text .entry); script = script; entries = now (entries .entry); expectations = now (expectations .entry) }) (stateOf t (now (verdicts .entry))) (callOf (now (bytes .entry)) (now (lists .entry)) row) (now (scratch .entry)) ⌝ }
 {
     let kind = row[0];
     if kind == 0 {
@@ -86,7 +87,7 @@ pub fn run_calls(
 ) -> Tally
     requires { ⌜ length (now calls) ≤ length (now answers) ⌝ }
     requires { ⌜ asksMore (length (now scratch)) (now calls) ≡ false ⌝ }
-    ensures { λ t. ⌜ record { tally = t; verdicts = now (verdicts .exit) } ≡ run (judgeStep (record { text = now (text .entry); script = script; entries = now (entries .entry); expectations = now (expectations .entry) })) (judgeStart (now (verdicts .entry))) (callsOf (now (bytes .entry)) (now (lists .entry)) (now (calls .entry))) .1 ⌝ }
+    ensures { λ t. ⌜ stateOf t (now (verdicts .exit)) ≡ run (judgeStep (record { text = now (text .entry); script = script; entries = now (entries .entry); expectations = now (expectations .entry) })) (judgeStart (now (verdicts .entry))) (callsOf (now (bytes .entry)) (now (lists .entry)) (now (calls .entry))) .1 ⌝ }
     ensures { λ _. ⌜ now (answers .exit) ≡ writtenAt 0 (map answerCode (run (judgeStep (record { text = now (text .entry); script = script; entries = now (entries .entry); expectations = now (expectations .entry) })) (judgeStart (now (verdicts .entry))) (callsOf (now (bytes .entry)) (now (lists .entry)) (now (calls .entry))) .0)) (now (answers .entry)) ⌝ }
     ensures { λ _. ⌜ now (scratch .exit) ≡ scratchRun (judgeStep (record { text = now (text .entry); script = script; entries = now (entries .entry); expectations = now (expectations .entry) })) (scratchCall (record { text = now (text .entry); script = script; entries = now (entries .entry); expectations = now (expectations .entry) })) (judgeStart (now (verdicts .entry))) (callsOf (now (bytes .entry)) (now (lists .entry)) (now (calls .entry))) (now (scratch .entry)) ⌝ }
 {

@@ -18,9 +18,9 @@ use Rattle.text.specs.Parts.{span, positionFrom, position}
 use Rattle.text.specs.declared.parts.Span.{Span}
 use Rattle.text.specs.declared.lines.Line.{Line}
 use Rattle.wire.specs.Operations.{operation, first, named}
-use Rattle.wire.specs.Version.{version}
+use Rattle.version.specs.Version.{version}
 use Rattle.wire.specs.declared.ops.Op.{Op}
-use Rattle.wire.specs.declared.handshake.ProtocolVersion.{ProtocolVersion}
+use Rattle.version.specs.declared.ProtocolVersion.{ProtocolVersion}
 use Rattle.script.specs.Answers.{Answer, given, refused, _>>=_, firstOf}
 use Rattle.script.specs.Pieces.{bytes, isEmpty, is, begins, behind, trim, Cut, cutInto, cut, cutAt, cutOr}
 use Rattle.script.specs.Operations.{formOf}

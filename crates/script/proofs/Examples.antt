@@ -33,7 +33,7 @@ use Rattle.values.specs.Unquote as text-Unquote
 use Rattle.text.specs.Utf8 as text-Utf8
 use Rattle.text.specs.Words as text-Words
 use Rattle.wire.specs.Operations as wire-Operations
-use Rattle.wire.specs.Version as wire-Version
+use Rattle.version.specs.Version as wire-Version
 use Rattle.script.specs.Layout.{Reading}
 use Rattle.script.specs.Reading.{Parsed, refusedAt, read, refusal, parsed}
 use Rattle.script.specs.Plain.{PlainLine, plainLines, opened, owners}

@@ -15,9 +15,9 @@ use Rattle.text.specs.declared.parts.Span.{Span}
 use Rattle.text.specs.declared.lines.Line.{Line}
 use Rattle.text.proofs.Scan.{never, both, by-cases}
 use Rattle.wire.specs.Operations.{named}
-use Rattle.wire.specs.Version.{version}
+use Rattle.version.specs.Version.{version}
 use Rattle.wire.specs.declared.ops.Op.{Op}
-use Rattle.wire.specs.declared.handshake.ProtocolVersion.{ProtocolVersion}
+use Rattle.version.specs.declared.ProtocolVersion.{ProtocolVersion}
 use Rattle.script.specs.Answers.{Answer, given, refused, _>>=_}
 use Rattle.script.specs.Pieces.{Cut, cutInto, bytes, isEmpty, is, begins, behind, trim, cut, cutOr}
 use Rattle.script.specs.Operations.{keysOf, keyIn, formOf}

@@ -7,9 +7,9 @@ use mathlib.Core.Option.{Option, none, some}
 use Rattle.text.specs.Base.{if_then_else_, BLANK}
 use Rattle.values.specs.Numbers.{number}
 use Rattle.text.specs.declared.parts.Span.{Span}
-use Rattle.wire.specs.Version.{version, defaultVersion}
+use Rattle.version.specs.Version.{version, defaultVersion}
 use Rattle.wire.specs.declared.ops.Op.{Op}
-use Rattle.wire.specs.declared.handshake.ProtocolVersion.{ProtocolVersion}
+use Rattle.version.specs.declared.ProtocolVersion.{ProtocolVersion}
 use Rattle.script.specs.Answers.{Answer, given, refused, _>>=_}
 use Rattle.script.specs.Pieces.{bytes, is, trim, cutOr}
 use Rattle.script.specs.Operations.{sameKey, Shape, singlePath, singleString, pathSet, pathSetFlag, pathSetMode, noArgs, setOptions, collectGarbage, verifyStore, addPermRoot, addSignatures, addTextToStore, addToStore, addMultipleToStore, addBuildLog, registerDrvOutput, queryRealisation, querySubstitutablePathInfo, querySubstitutablePathInfos, rawBytes, formOf}

@@ -11,9 +11,9 @@ use Rattle.text.specs.Lines.{indented}
 use Rattle.text.specs.declared.parts.Span.{Span}
 use Rattle.text.specs.declared.lines.Line.{Line}
 use Rattle.wire.specs.Operations.{named}
-use Rattle.wire.specs.Version.{version}
+use Rattle.version.specs.Version.{version}
 use Rattle.wire.specs.declared.ops.Op.{Op}
-use Rattle.wire.specs.declared.handshake.ProtocolVersion.{ProtocolVersion}
+use Rattle.version.specs.declared.ProtocolVersion.{ProtocolVersion}
 use Rattle.script.specs.Answers.{Answer, given, refused, _>>=_, firstOf}
 use Rattle.script.specs.Pieces.{Cut, bytes, isEmpty, is, begins, behind, trim, cut, cutOr}
 use Rattle.script.specs.Operations.{Kind, aNumber, aFlag, aQuoted, aSet, someData, aList, aHex, aVersion, aFeatureSet, aText, keyRow, keysOf, keyIn, Syntax, ignored, oneText, oneSet, pathThenSet, pathThenText, formOf}

@@ -11,7 +11,7 @@ use Rattle.text.specs.Literal.{spells}
 use Rattle.text.specs.Parts.{span, pairPosition}
 use Rattle.values.specs.Numbers.{allDigits, decimalFrom}
 use Rattle.text.specs.declared.parts.Span.{Span}
-use Rattle.wire.specs.Version.{DOT}
+use Rattle.version.specs.Version.{DOT}
 use Rattle.script.specs.Answers.{Answer, given, refused}
 use Rattle.script.specs.Pieces.{bytes, behind, trim}
 use Rattle.script.specs.declared.records.Time.{Time}

@@ -1,5 +1,5 @@
 // The records of a script, as reading leaves them. A value that is a part of the text or of the store is a place; a list is a range of a table.
-use wire::handshake::ProtocolVersion;
+use version::ProtocolVersion;
 use wire::ops::Op;
 
 // A part of the text or of the store: where it starts and how many bytes it has. Empty or absent is 0 and 0.

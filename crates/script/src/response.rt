@@ -4,7 +4,7 @@ use crate::records::Items;
 use crate::records::Maybe;
 use crate::records::MaybeItems;
 use crate::records::Place;
-use wire::handshake::ProtocolVersion;
+use version::ProtocolVersion;
 
 // A number that may be missing.
 pub enum MaybeNumber {

@@ -1,3 +1,4 @@
+pub mod DemandThree
 pub mod RanLaws
 pub mod ScratchLaws
 pub mod Made

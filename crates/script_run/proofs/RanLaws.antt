@@ -17,18 +17,19 @@ use Rattle.read.specs.Read.{lentOf, answerOf, scriptOr, tablesOr}
 use Rattle.read.specs.declared.reading.Answer.{Answer}
 use Rattle.read.specs.declared.reading.Answer.the-variants as Answer
 use Rattle.judge.specs.declared.tally.Tally.{Tally}
-use Rattle.judge.specs.declared.calls.Answer as Told
-use Rattle.judge.specs.Calls.{Call, run}
-use Rattle.judge.specs.Judge.{Lent, JudgeState, judgeStart, judgeStep}
-use Rattle.plain.specs.PlainJudge.{plainRun}
-use Rattle.plain.proofs.LentRead.{read-agrees}
-use Rattle.claims.proofs.DemandThree as claims
+use Rattle.judging.specs.declared.calls.Answer as Told
+use Rattle.judging.specs.Calls.{Call, run}
+use Rattle.judging.specs.Judge.{Lent, JudgeState, judgeStart, judgeStep}
+use Rattle.judging.specs.PlainJudge.{plainRun}
+use Rattle.judging.proofs.LentRead.{read-agrees}
+use Rattle.judge.specs.Tally.{stateOf, tallyOf}
 use Rattle.calls.specs.CallRows.{callsOf, answerCode}
 use Rattle.runs.specs.Runs.{scratchCall, scratchRun, asksMore}
 use Rattle.runs.proofs.RunLaws.{written-nothing}
 use Rattle.script_run.specs.Ran.{plainLeft, plainScratch, ranAs, ranOf, ifDone}
 use Rattle.script_run.specs.declared.running.Ran.{Ran}
 use Rattle.script_run.specs.declared.running.Ran.the-variants.{FewAnswers, MuchScratch, Refused, Done}
+use Rattle.script_run.proofs.DemandThree as three
 use Rattle.script_run.proofs.ScratchLaws.{same-scratch}
 
 module _ (text : List ℕ) (entries : List Entry) (items : List (List ℕ)) (expectations : List Expectation) (store : List ℕ)
@@ -42,7 +43,7 @@ module _ (text : List ℕ) (entries : List Entry) (items : List (List ℕ)) (exp
   -- what a run is to answer and to leave
   abbrev pub Left : Ran → (es : List Entry) (is : List (List ℕ)) (xs : List Expectation) (st v′ scr′ ans′ : List ℕ) → Type 0
   Left r es is xs st v′ scr′ ans′ =
-      (r ≡ ranOf (length ans) (length scr) rows (scriptOr p) (plainLeft text v calls .tally))
+      (r ≡ ranOf (length ans) (length scr) rows (scriptOr p) (plainLeft text v calls))
       × ((es ≡ ifDone r (writtenAt 0 (tablesOr p .entries) entries) entries)
       × ((is ≡ ifDone r (writtenAt 0 (map itemOf (tablesOr p .items)) items) items)
       × ((xs ≡ ifDone r (writtenAt 0 (tablesOr p .expectations) expectations) expectations)
@@ -62,9 +63,9 @@ module _ (text : List ℕ) (entries : List Entry) (items : List (List ℕ)) (exp
 
     module _ (little : b ≡ false) where
       -- nothing is in the way of Read
-      ran-as : (t : Tally) → ranOf (length ans) (length scr) rows (scriptOr p) t ≡ ranAs (scriptOr p) t
+      ran-as : (left : JudgeState) → ranOf (length ans) (length scr) rows (scriptOr p) left ≡ ranAs (scriptOr p) left
       unfolding ranOf
-      ran-as t = rw (le-ltb (length ans) (length rows) enough, sym asked ∙ little) refl
+      ran-as left = rw (le-ltb (length ans) (length rows) enough, sym asked ∙ little) refl
 
       module _ (a : Answer) (answers : answerOf a ≡ scriptOr p) (es : List Entry) (is : List (List ℕ)) (xs : List Expectation) (st : List ℕ)
           (e₁ : es ≡ writtenAt 0 (tablesOr p .entries) entries) (e₂ : is ≡ writtenAt 0 (map itemOf (tablesOr p .items)) items)
@@ -78,8 +79,8 @@ module _ (text : List ℕ) (entries : List Entry) (items : List (List ℕ)) (exp
             go (read r) h f = let z : _≡_ {A = ℕ} 0 1 = cc in absurd (omega arith)
             go (refusedAt r) h f =
                 let g : q ≡ r = cc in
-                let t : Tally = plainLeft text v calls .tally in (
-                  ap (λ (x : Refusal). Refused x) g ∙ sym (ran-as t ∙ ap (λ (o : Parsed Reading). ranAs (scriptOr o) t) h),
+                let left : JudgeState = plainLeft text v calls in (
+                  ap (λ (x : Refusal). Refused x) g ∙ sym (ran-as left ∙ ap (λ (o : Parsed Reading). ranAs (scriptOr o) left) h),
                   (
                     e₁ ∙ ap (λ (o : Parsed Reading). writtenAt 0 (tablesOr o .entries) entries) h ∙ written-nothing 0 entries,
                     (
@@ -101,22 +102,22 @@ module _ (text : List ℕ) (entries : List Entry) (items : List (List ℕ)) (exp
           k = record { text = text; script = script; entries = es; expectations = xs }
 
           same : run (judgeStep k) (judgeStart v) calls ≡ (plainRun text (length v) calls .0, plainLeft text v calls)
-          same = claims.demand-three text entries items expectations store script es xs reads e₁ e₃ v calls
+          same = three.demand-three text entries items expectations store script es xs reads e₁ e₃ v calls
 
           scratch-same : scratchRun (judgeStep k) (scratchCall k) (judgeStart v) calls scr ≡ plainScratch text (length v) calls scr
           scratch-same =
-              let r = claims.as-read text entries items expectations store script es xs reads e₁ e₃ in
+              let r = three.as-read text entries items expectations store script es xs reads e₁ e₃ in
               same-scratch k (read-agrees (lentOf entries items expectations store) entries expectations (r .0) k (r .1)) v calls scr
 
           pub done : (t : Tally) (v′ scr′ ans′ : List ℕ)
-              → record { tally = t; verdicts = v′ } ≡ run (judgeStep k) (judgeStart v) calls .1
+              → stateOf t v′ ≡ run (judgeStep k) (judgeStart v) calls .1
               → ans′ ≡ writtenAt 0 (map answerCode (run (judgeStep k) (judgeStart v) calls .0)) ans
               → scr′ ≡ scratchRun (judgeStep k) (scratchCall k) (judgeStart v) calls scr
               → Left (Done t) es is xs st v′ scr′ ans′
           unfolding answerOf ranAs ifDone
           done t v′ scr′ ans′ x y z =
-              let left : record { tally = t; verdicts = v′ } ≡ plainLeft text v calls = x ∙ ap (λ (r : List Told.Answer × JudgeState). r .1) same in
-              let told : t ≡ plainLeft text v calls .tally = ap (λ (s : JudgeState). s .tally) left in (
-                ap (λ (u : Tally). Done u) told ∙ sym (ran-as (plainLeft text v calls .tally) ∙ ap (λ (o : Parsed Script). ranAs o (plainLeft text v calls .tally)) (sym reads)),
+              let left : stateOf t v′ ≡ plainLeft text v calls = x ∙ ap (λ (r : List Told.Answer × JudgeState). r .1) same in
+              let told : t ≡ tallyOf (plainLeft text v calls) = ap tallyOf left in (
+                ap (λ (u : Tally). Done u) told ∙ sym (ran-as (plainLeft text v calls) ∙ ap (λ (o : Parsed Script). ranAs o (plainLeft text v calls)) (sym reads)),
                 (e₁, (e₂, (e₃, (e₄, (ap (λ (s : JudgeState). s .verdicts) left, (z ∙ scratch-same, y ∙ ap (λ (r : List Told.Answer × JudgeState). writtenAt 0 (map answerCode (r .0)) ans) same)))))),
               )

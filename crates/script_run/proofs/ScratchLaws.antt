@@ -7,14 +7,15 @@ use lib.ListN.{length, take, drop}
 use Rattle.script.specs.declared.records.Refusal.{Refusal}
 use Rattle.verdicts.specs.Told.{Subject}
 use Rattle.verdicts.specs.Lookup.{looked}
-use Rattle.judge.specs.declared.calls.Answer.{Answer}
-use Rattle.judge.specs.Calls.{Judging, Call, judge, close, subjectOf}
-use Rattle.judge.specs.Judge.{Lent, JudgeState, judgeStart, rangeFor, saidBy, pastEntries, refusalOn, judgeRefusal, judgeStep, overwrittenOr, scratchOn, scratchAfter}
-use Rattle.plain.specs.PlainJudge.{PlainState, belonging, ownedLines, plainRefusal, plainCall}
-use Rattle.plain.specs.Claim.{stateOver}
-use Rattle.plain.proofs.History.{plainOf, historyCall, plain-shown, plain-begin, slotsIn, countsIn, unrefused}
-use Rattle.plain.proofs.Ours.{Agrees, shows, our-shown, said-lines, same-refusal, length-over}
-use Rattle.plain.proofs.DemandThree.{our-begin}
+use Rattle.judging.specs.declared.calls.Answer.{Answer}
+use Rattle.judging.specs.Calls.{Call, judge, close, subjectOf}
+use Rattle.judging.specs.Judge.{Lent, JudgeState, judgeStart, rangeFor, saidBy, judgeStep}
+use Rattle.judging.specs.Scratch.{overwrittenOr, scratchOn, scratchAfter}
+use Rattle.judging.specs.PlainJudge.{PlainState, belonging, ownedLines, plainRefusal, plainCall}
+use Rattle.judging.specs.Claim.{stateOver}
+use Rattle.judging.proofs.History.{plainOf, historyCall, plain-shown, plain-begin, slotsIn, unrefused}
+use Rattle.judging.proofs.Ours.{Agrees, shows, our-shown, said-lines, same-refusal, length-over}
+use Rattle.judging.proofs.DemandThree.{our-begin}
 use Rattle.runs.specs.Runs.{onFront, scratchCall, scratchRun}
 use Rattle.script_run.specs.Ran.{plainWrites, plainScratch}
 
@@ -39,17 +40,11 @@ module _ (k : Lent) (a : Agrees k) (before : List ℕ) where
   abbrev writes : List Subject → Call → List ℕ → List ℕ
   writes h c old = plainWrites text places (plainOf text places h) c old
 
-  -- the first refusal, as the scratch asks for it
-  same-first : (h : List Subject) (j : Judging)
-      → refusalOn k (pastEntries k (j .number)) (rangeFor k (j .number) (j .handed)) (record { next = length h; counts = countsIn h (ownedLines text) }) places j ≡ plainRefusal text places (length h) j
-  unfolding judgeRefusal
-  same-first h j = same-refusal k a h places j
-
   -- one call of ours writes what the history's does
   our-writes : (h : List Subject) (c : Call) (old : List ℕ) → scratchCall k (shows k a before h) c old ≡ writes h c old
   unfolding scratchCall plainWrites onFront scratchAfter scratchOn shows stateOver plainOf overwrittenOr
   our-writes h (judge j) old =
-      rw (length-over (slotsIn h (ownedLines text)) before, same-first h j)
+      rw (length-over (slotsIn h (ownedLines text)) before, same-refusal k a h places j)
       (go (plainRefusal text places (length h) j) refl)
     where
       go : (o : Option Refusal) → plainRefusal text places (length h) j ≡ o

@@ -7,11 +7,12 @@ use Rattle.text.specs.Base.{if_then_else_}
 use Rattle.script.specs.Reading.{Parsed, refusedAt, read}
 use Rattle.script.specs.declared.records.Script.{Script}
 use Rattle.verdicts.specs.Lookup.{looked}
-use Rattle.judge.specs.declared.tally.Tally.{Tally}
-use Rattle.judge.specs.Calls.{Call, judge, close, subjectOf}
-use Rattle.judge.specs.Judge.{JudgeState, overwrittenOr}
-use Rattle.plain.specs.PlainJudge.{belonging, ownedLines, PlainState, plainStart, plainRefusal, plainCall, plainRun}
-use Rattle.plain.specs.Claim.{stateOver}
+use Rattle.judge.specs.Tally.{tallyOf}
+use Rattle.judging.specs.Calls.{Call, judge, close, subjectOf}
+use Rattle.judging.specs.Judge.{JudgeState}
+use Rattle.judging.specs.Scratch.{overwrittenOr}
+use Rattle.judging.specs.PlainJudge.{belonging, ownedLines, PlainState, plainStart, plainRefusal, plainCall, plainRun}
+use Rattle.judging.specs.Claim.{stateOver}
 use Rattle.runs.specs.Runs.{onFront, scratchRun, asksMore}
 use Rattle.script_run.specs.declared.running.Ran.{Ran}
 use Rattle.script_run.specs.declared.running.Ran.the-variants.{FewAnswers, MuchScratch, Refused, Done}
@@ -36,13 +37,13 @@ module _ (text : List ℕ) (places : ℕ) where
 -- ---- what is answered
 
 -- what Read refuses, or that all is done
-unfoldable pub ranAs : Parsed Script → Tally → Ran
-ranAs (refusedAt r) t = Refused r
-ranAs (read s) t = Done t
+unfoldable pub ranAs : Parsed Script → JudgeState → Ran
+ranAs (refusedAt r) left = Refused r
+ranAs (read s) left = Done (tallyOf left)
 
--- too few places for the answers; else a call that asks for more of the scratch than is lent; else what Read refuses; else done, with the tally
-unfoldable pub ranOf : (slots lent : ℕ) → (rows : List (List ℕ)) → Parsed Script → Tally → Ran
-ranOf slots lent rows p t = if ltb slots (length rows) then FewAnswers else if asksMore lent rows then MuchScratch else ranAs p t
+-- too few places for the answers; else a call that asks for more of the scratch than is lent; else what Read refuses; else done, with the tally that is left
+unfoldable pub ranOf : (slots lent : ℕ) → (rows : List (List ℕ)) → Parsed Script → (left : JudgeState) → Ran
+ranOf slots lent rows p left = if ltb slots (length rows) then FewAnswers else if asksMore lent rows then MuchScratch else ranAs p left
 
 -- what is lent stays as it was unless all is done
 unfoldable pub ifDone : {A : Type 0} → Ran → (after before : A) → A

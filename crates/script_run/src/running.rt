@@ -5,7 +5,7 @@ ghost use lib.ListN.{length};
 ghost use Rattle.script.specs.Reading.{readInto};
 ghost use Rattle.tables.specs.Written.{itemOf, writtenAt};
 ghost use Rattle.read.specs.Read.{scriptOr, tablesOr, lentOf};
-ghost use Rattle.plain.specs.PlainJudge.{plainRun};
+ghost use Rattle.judging.specs.PlainJudge.{plainRun};
 ghost use Rattle.calls.specs.CallRows.{callsOf, answerCode};
 ghost use Rattle.script_run.specs.Ran.{plainLeft, plainScratch, ranOf, ifDone};
 use judge::tally::Tally;
@@ -39,7 +39,7 @@ pub fn run_script(
     scratch: &mut [u8],
     answers: &mut [u64],
 ) -> Ran
-    ensures { λ r. ⌜ r ≡ ranOf (length (now (answers .entry))) (length (now (scratch .entry))) (now (calls .entry)) (scriptOr (readInto (lentOf (now (entries .entry)) (now (items .entry)) (now (expectations .entry)) (now (store .entry))) (now (text .entry)))) (plainLeft (now (text .entry)) (now (verdicts .entry)) (callsOf (now (bytes .entry)) (now (lists .entry)) (now (calls .entry))) .tally) ⌝ }
+    ensures { λ r. ⌜ r ≡ ranOf (length (now (answers .entry))) (length (now (scratch .entry))) (now (calls .entry)) (scriptOr (readInto (lentOf (now (entries .entry)) (now (items .entry)) (now (expectations .entry)) (now (store .entry))) (now (text .entry)))) (plainLeft (now (text .entry)) (now (verdicts .entry)) (callsOf (now (bytes .entry)) (now (lists .entry)) (now (calls .entry)))) ⌝ }
     ensures { λ r. ⌜ now (entries .exit) ≡ ifDone r (writtenAt 0 (tablesOr (readInto (lentOf (now (entries .entry)) (now (items .entry)) (now (expectations .entry)) (now (store .entry))) (now (text .entry))) .entries) (now (entries .entry))) (now (entries .entry)) ⌝ }
     ensures { λ r. ⌜ now (items .exit) ≡ ifDone r (writtenAt 0 (map itemOf (tablesOr (readInto (lentOf (now (entries .entry)) (now (items .entry)) (now (expectations .entry)) (now (store .entry))) (now (text .entry))) .items)) (now (items .entry))) (now (items .entry)) ⌝ }
     ensures { λ r. ⌜ now (expectations .exit) ≡ ifDone r (writtenAt 0 (tablesOr (readInto (lentOf (now (entries .entry)) (now (items .entry)) (now (expectations .entry)) (now (store .entry))) (now (text .entry))) .expectations) (now (expectations .entry))) (now (expectations .entry)) ⌝ }

@@ -24,10 +24,10 @@ use Rattle.script.specs.declared.roles.Key.the-variants as Key
 use Rattle.script.specs.declared.roles.Takes.{Takes}
 use Rattle.script.specs.declared.roles.Takes.the-variants.{NoLines, Options, Garbage, Verify, Texts, Store, Multiple, FirstData, FirstRaw}
 use Rattle.script.proofs.roles.Takes.{the-type}
-use Rattle.roles.specs.OpeningRead.{halves, setPlace}
-use Rattle.roles.specs.declared.openings.Halves.{Halves}
-use Rattle.roles.specs.declared.openings.SetPlace.{SetPlace}
-use Rattle.roles.specs.declared.openings.SetPlace.the-variants.{NoSet, AllOf, BehindBlank}
+use Rattle.openings.specs.OpeningRead.{halves, setPlace}
+use Rattle.openings.specs.declared.Halves.{Halves}
+use Rattle.openings.specs.declared.SetPlace.{SetPlace}
+use Rattle.openings.specs.declared.SetPlace.the-variants.{NoSet, AllOf, BehindBlank}
 use Rattle.tables.specs.Written.{itemOf, itemsFor, itemsOf, featuresOf, writtenAt}
 use Rattle.tables.proofs.WrittenLaws.{written-none, written-length, written-twice}
 use Rattle.said.specs.Said.{pieceAt, pieceOf}

@@ -13,8 +13,8 @@ use Rattle.script.specs.declared.roles.Key.{Key}
 use Rattle.script.specs.declared.roles.Key.the-variants as Key
 use Rattle.script.specs.declared.roles.Takes.{Takes}
 use Rattle.script.specs.declared.roles.Takes.the-variants.{NoLines, Options, Garbage, Verify, Texts, Store, Multiple, FirstData, FirstRaw}
-use Rattle.roles.specs.declared.openings.SetPlace.{SetPlace}
-use Rattle.roles.specs.declared.openings.SetPlace.the-variants.{NoSet, AllOf, BehindBlank}
+use Rattle.openings.specs.declared.SetPlace.{SetPlace}
+use Rattle.openings.specs.declared.SetPlace.the-variants.{NoSet, AllOf, BehindBlank}
 use Rattle.records.specs.Records.{sizes}
 use Rattle.records.specs.declared.calls.Sizes.{Sizes}
 

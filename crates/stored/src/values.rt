@@ -9,13 +9,13 @@ ghost use Rattle.script.specs.Layout.{storedOf};
 ghost use Rattle.script.specs.Inside.{In};
 ghost use Rattle.script.specs.declared.roles.Key.the-variants as Key;
 ghost use Rattle.script.specs.declared.roles.Takes.the-variants as Takes;
-ghost use Rattle.roles.specs.OpeningRead.{setPlace};
+ghost use Rattle.openings.specs.OpeningRead.{setPlace};
 ghost use Rattle.tables.specs.Written.{itemsFor, writtenAt};
 ghost use Rattle.said.specs.Said.{pieceAt, SaidIn};
 ghost use Rattle.stored.specs.Closing.{setItems, stored, sizesFor};
 ghost use Rattle.stored.specs.ClosingRead.{lineSet, storedBy, sizesBy};
+use openings::SetPlace;
 use records::calls::Sizes;
-use roles::openings::SetPlace;
 use said::said::Piece;
 use script::roles::Key;
 use script::roles::Takes;
@@ -49,11 +49,11 @@ fn put_line_set(text: &[u8], op: Op, args: Span, items: &mut [[usize; 2]], at: u
     ensures { λ r. ⌜ r ≡ length (lineSet (now (text .entry)) args (setPlace (formOf op .syntax))) ⌝ }
     ensures { λ _. ⌜ now (items .exit) ≡ writtenAt at (itemsFor (lineSet (now (text .entry)) args (setPlace (formOf op .syntax)))) (now (items .entry)) ⌝ }
 {
-    match roles::openings::set_place(op) {
+    match openings::set_place(op) {
         SetPlace::NoSet => 0,
         SetPlace::AllOf => tables::sets::put_set(text, args, items, at),
         SetPlace::BehindBlank => {
-            let c = roles::openings::cut_or(text, args, 0x20);
+            let c = openings::cut_or(text, args, 0x20);
             tables::sets::put_set(text, c.after, items, at)
         }
     }
@@ -75,7 +75,7 @@ fn put_items(
     ensures { λ r. ⌜ r ≡ length (setItems (now (text .entry)) args (pieceAt (now (starts .entry)) (now (ends .entry))) (formOf op .shape)) ⌝ }
     ensures { λ _. ⌜ now (items .exit) ≡ writtenAt at (itemsFor (setItems (now (text .entry)) args (pieceAt (now (starts .entry)) (now (ends .entry))) (formOf op .shape))) (now (items .entry)) ⌝ }
 {
-    match roles::openings::takes_of(op) {
+    match openings::takes_of(op) {
         Takes::NoLines => put_line_set(text, op, args, items, at),
         Takes::Garbage => put_set_of(text, starts, ends, Key::Paths, items, at),
         Takes::Texts => put_set_of(text, starts, ends, Key::Refs, items, at),
@@ -233,6 +233,6 @@ pub fn put_values(
     ensures { λ _. ⌜ now (store .exit) ≡ writtenAt b (stored (now (text .entry)) args (pieceAt (now (starts .entry)) (now (ends .entry))) (formOf op .shape)) (now (store .entry)) ⌝ }
 {
     let n = put_items(text, op, args, starts, ends, items, i + pairs);
-    let takes = roles::openings::takes_of(op);
+    let takes = openings::takes_of(op);
     put_stored(text, takes, starts, ends, pairs + n, store, b)
 }

@@ -7,8 +7,6 @@ ghost use Rattle.verdicts.specs.Verdicts.{verdict};
 ghost use Rattle.lookups.specs.Values.{Means, valueBytes};
 ghost use Prim.Native.Nat.{_≤_};
 ghost use lib.ListN.{length};
-use expect::verdicts_of::entry_verdict;
-use expect::verdicts_of::handshake_verdict;
 use lookups::looked::looked_entry;
 use lookups::looked::looked_handshake;
 use lookups::value::Value;
@@ -17,6 +15,8 @@ use places::inside::response_in;
 use script::records::Expect;
 use script::response::DaemonResponse;
 use script::response::HandshakeInfo;
+use verdict_of::entry_verdict;
+use verdict_of::handshake_verdict;
 use verdicts::Verdict;
 
 // What a number is judged against: the handshake against its information, an entry against a response.

@@ -12,7 +12,7 @@ use Rattle.values.specs.Hex.{hexDecoded}
 use Rattle.values.specs.Unquote.{unquoted}
 use Rattle.text.specs.Parts.{span, startsWith}
 use Rattle.text.specs.declared.parts.Span.{Span}
-use Rattle.values.proofs.HexLaws.{trailing-quotes}
+use Rattle.hex.proofs.HexLaws.{trailing-quotes}
 use Rattle.text.proofs.LiteralLaws.{codes}
 use Rattle.script.specs.Answers.{firstOf}
 use Rattle.script.specs.Pieces.{bytes, behind}

@@ -19,7 +19,7 @@ pub fn put_unquoted(text: &[u8], v: Span, store: &mut [u8], at: usize) -> usize
 {
     let start = v.start;
     let end = v.end;
-    values::unquote::unquote(&text[start..end], &mut store[at..])
+    unquote::unquote(&text[start..end], &mut store[at..])
 }
 
 // Writes the bytes of what follows `x"`. Quotes at its end are no hex digits, so they write nothing.
@@ -31,7 +31,7 @@ pub fn put_hex(text: &[u8], v: Span, store: &mut [u8], at: usize) -> usize
 {
     let start = v.start;
     let end = v.end;
-    values::hex::hex_decode(&text[start..end], &mut store[at..])
+    hex::hex_decode(&text[start..end], &mut store[at..])
 }
 
 // Writes the bytes of data; a file's name does not stand in the store.

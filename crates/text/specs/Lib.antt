@@ -7,5 +7,4 @@ pub mod Skip
 pub mod Trim
 pub mod Unicode
 pub mod Utf8
-pub mod Utf8Walk
 pub mod Words

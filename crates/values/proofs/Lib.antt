@@ -1,4 +1,2 @@
-pub mod HexLaws
 pub mod NumberLaws
-pub mod UnquoteLaws
 pub mod ValueExamples

@@ -1,4 +1,2 @@
 // Values that stand in a text: numbers, hex, quoted texts (document 01, "Lines and words").
-pub mod hex;
 pub mod number;
-pub mod unquote;

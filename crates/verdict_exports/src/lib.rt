@@ -3,8 +3,6 @@ ghost use mathlib.Core.Path.{_≡_};
 ghost use Rattle.rows.specs.Rows.{expectRow, responseRow, infoRow};
 ghost use Rattle.verdict_exports.specs.Numbered.{entryNumber, handshakeNumber};
 use expect::message::counted_of;
-use expect::verdicts_of::entry_verdict;
-use expect::verdicts_of::handshake_verdict;
 use lookups::looked::looked_entry;
 use lookups::looked::looked_handshake;
 use places::inside::expect_in;
@@ -13,6 +11,8 @@ use places::inside::response_in;
 use script::records::Expect;
 use script::response::DaemonResponse;
 use script::response::HandshakeInfo;
+use verdict_of::entry_verdict;
+use verdict_of::handshake_verdict;
 use verdicts::code_of;
 
 fn entry_number(

@@ -46,7 +46,7 @@ impl<'a> Lines<'a> {
         ensures { λ r. ⌜ left (now (self .entry)) ≡ r ∷ left (now (self .exit)) ⌝ }
         ensures { λ r. ⌜ now (self .exit) ≡ past (now (self .entry)) ⌝ }
     {
-        let l = text::lines::line_at(self.text, self.at, self.number);
+        let l = lines::lines::line_at(self.text, self.at, self.number);
         self.at = l.next;
         self.number = l.number + 1;
         l

@@ -7,7 +7,7 @@ use Rattle.values.specs.Numbers.{allDigits, decimalFrom, digits, number}
 use Rattle.text.specs.Parts.{splitFrom, split}
 use Rattle.text.proofs.LiteralLaws.{codes}
 use Rattle.wire.specs.Operations.{operation, first, named, coded}
-use Rattle.wire.specs.Version.{versioned, defaultVersion, ofNumbers, ofParts, version}
+use Rattle.version.specs.Version.{versioned, defaultVersion, ofNumbers, ofParts, version}
 use Rattle.wire.specs.declared.ops.Op.the-variants.{IsValidPath, QuerySubstitutablePathInfo, QuerySubstitutablePathInfos, AddToStore, AddToStoreNar, SyncWithGC, AddPermRoot}
 
 examples :

@@ -1,3 +1,2 @@
 pub mod OperationTables
 pub mod Operations
-pub mod Version

@@ -5,9 +5,9 @@ use Rattle.below.proofs.lines.Ahead
 use Rattle.below.proofs.lines.Ahead.Laws
 use Rattle.below.proofs.lines.Next
 use Rattle.below.proofs.lines.Next.Laws as Laws'
-use Rattle.kept.proofs.Made.KeptElem
 use Rattle.entries.proofs.entries.Advance
 use Rattle.entries.proofs.entries.Advance.Laws as Laws''
+use Rattle.kept.proofs.Made.KeptElem
 use Rattle.slots.proofs.Made.EntryElem
 use Rattle.slots.proofs.Made.ExpectationElem
 use borrow.Author.Called

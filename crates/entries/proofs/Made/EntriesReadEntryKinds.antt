@@ -2,9 +2,9 @@
 -- Assumes nothing.
 use Rattle.below.proofs.lines.Ahead
 use Rattle.below.proofs.lines.Ahead.Laws
-use Rattle.kept.proofs.Made.KeptElem
 use Rattle.entries.proofs.entries.Advance
 use Rattle.entries.proofs.entries.Advance.Laws as Laws'
+use Rattle.kept.proofs.Made.KeptElem
 use Rattle.slots.proofs.Made.EntryElem
 use Rattle.slots.proofs.Made.ExpectationElem
 use borrow.Fn.Kinds

@@ -281,7 +281,7 @@ abbrev b10 : Syntax.Body
 b10 = Syntax.cond (Syntax.copy (Syntax.place 17 List.[])) b8 b9
 
 abbrev b11 : Syntax.Body
-b11 = Syntax.call "text::lines::line_at" (List._∷_ (Syntax.copy (Syntax.place 1 List.[])) (List._∷_ (Syntax.copy (Syntax.place 6 List.[])) (List._∷_ (Syntax.copy (Syntax.place 7 List.[])) List.[]))) (Syntax.place 8 List.[])
+b11 = Syntax.call "lines::lines::line_at" (List._∷_ (Syntax.copy (Syntax.place 1 List.[])) (List._∷_ (Syntax.copy (Syntax.place 6 List.[])) (List._∷_ (Syntax.copy (Syntax.place 7 List.[])) List.[]))) (Syntax.place 8 List.[])
 
 abbrev b12 : Syntax.Body
 b12 = Syntax.call "roles::steps::step" (List._∷_ (Syntax.copy (Syntax.place 1 List.[])) (List._∷_ (Syntax.copy (Syntax.place 5 List.[])) (List._∷_ (Syntax.copy (Syntax.place 8 List.[])) List.[]))) (Syntax.place 9 List.[])
@@ -1145,7 +1145,7 @@ module _ (claims· : Claims) where
   module _ (Pre· : (κs : Lifetimes.Lfts 2) → Kinds.Dens κs ps → Type 0) (Post· : (κs : Lifetimes.Lfts 2) → (a : Kinds.Dens κs ps) → Kinds.Plain 2 ps r κs) where
     module _ (M : Type 1) where
       abbrev pub Closed : Type 2
-      Closed = (𝓤 : URA.URA M) (H : Wp.Heap 𝓤) (A : Atoms.Atoms 𝓤) (W : Kit.Given 𝓤 H A) (𝓣 : Wp.Tables 𝓤 H) (known0 : Plain.Known 𝓤 H A W 𝓣 0 ps·0 r·0 (claims· .0) (claims· .1) "totals::begin") (known1 : Plain.Known 𝓤 H A W 𝓣 1 ps·1 r·1 (claims· .2) (claims· .3) "text::lines::line_at") (known2 : Plain.Known 𝓤 H A W 𝓣 1 ps·2 r·2 (claims· .4) (claims· .5) "roles::steps::step") (known3 : Plain.Known 𝓤 H A W 𝓣 1 ps·3 r·3 (claims· .6) (claims· .7) "kept::keep") (known4 : Plain.Known 𝓤 H A W 𝓣 1 ps·4 r·4 (claims· .8) (claims· .9) "totals::say_on") (known5 : Plain.Known 𝓤 H A W 𝓣 0 ps·5 r·5 (claims· .10) (claims· .11) "totals::enter") (known6 : Plain.Known 𝓤 H A W 𝓣 1 ps·6 r·6 (claims· .12) (claims· .13) "totals::open_entry") (known7 : Plain.Known 𝓤 H A W 𝓣 0 ps·7 r·7 (claims· .14) (claims· .15) "roles::steps::same_place") (known8 : Plain.Known 𝓤 H A W 𝓣 0 ps·8 r·8 (claims· .16) (claims· .17) "totals::close_on") → Statement.Triple 𝓤 (Wp.WpFn 𝓤 H (𝓣 .C) (𝓣 .Λ) (Function.fnOf 2 ps r xs m hs body)) (Function.plainOf 𝓤 H A 2 ps r Pre· Post·)
+      Closed = (𝓤 : URA.URA M) (H : Wp.Heap 𝓤) (A : Atoms.Atoms 𝓤) (W : Kit.Given 𝓤 H A) (𝓣 : Wp.Tables 𝓤 H) (known0 : Plain.Known 𝓤 H A W 𝓣 0 ps·0 r·0 (claims· .0) (claims· .1) "totals::begin") (known1 : Plain.Known 𝓤 H A W 𝓣 1 ps·1 r·1 (claims· .2) (claims· .3) "lines::lines::line_at") (known2 : Plain.Known 𝓤 H A W 𝓣 1 ps·2 r·2 (claims· .4) (claims· .5) "roles::steps::step") (known3 : Plain.Known 𝓤 H A W 𝓣 1 ps·3 r·3 (claims· .6) (claims· .7) "kept::keep") (known4 : Plain.Known 𝓤 H A W 𝓣 1 ps·4 r·4 (claims· .8) (claims· .9) "totals::say_on") (known5 : Plain.Known 𝓤 H A W 𝓣 0 ps·5 r·5 (claims· .10) (claims· .11) "totals::enter") (known6 : Plain.Known 𝓤 H A W 𝓣 1 ps·6 r·6 (claims· .12) (claims· .13) "totals::open_entry") (known7 : Plain.Known 𝓤 H A W 𝓣 0 ps·7 r·7 (claims· .14) (claims· .15) "roles::steps::same_place") (known8 : Plain.Known 𝓤 H A W 𝓣 0 ps·8 r·8 (claims· .16) (claims· .17) "totals::close_on") → Statement.Triple 𝓤 (Wp.WpFn 𝓤 H (𝓣 .C) (𝓣 .Λ) (Function.fnOf 2 ps r xs m hs body)) (Function.plainOf 𝓤 H A 2 ps r Pre· Post·)
 
     module _ (Inv·0 : InvT-loop) (μ·0 : MeasureT-loop) where
       abbrev at0 : Typed.TF T16 O4
@@ -1426,7 +1426,7 @@ module _ (claims· : Claims) where
 
       module _ {M : Type 1} (𝓤 : URA.URA M) (H : Wp.Heap 𝓤) (A : Atoms.Atoms 𝓤) (W : Kit.Given 𝓤 H A) (𝓣 : Wp.Tables 𝓤 H) where
         abbrev Knowns : Type 1
-        Knowns = Plain.Known 𝓤 H A W 𝓣 0 ps·0 r·0 (claims· .0) (claims· .1) "totals::begin" × Plain.Known 𝓤 H A W 𝓣 1 ps·1 r·1 (claims· .2) (claims· .3) "text::lines::line_at" × Plain.Known 𝓤 H A W 𝓣 1 ps·2 r·2 (claims· .4) (claims· .5) "roles::steps::step" × Plain.Known 𝓤 H A W 𝓣 1 ps·3 r·3 (claims· .6) (claims· .7) "kept::keep" × Plain.Known 𝓤 H A W 𝓣 1 ps·4 r·4 (claims· .8) (claims· .9) "totals::say_on" × Plain.Known 𝓤 H A W 𝓣 0 ps·5 r·5 (claims· .10) (claims· .11) "totals::enter" × Plain.Known 𝓤 H A W 𝓣 1 ps·6 r·6 (claims· .12) (claims· .13) "totals::open_entry" × Plain.Known 𝓤 H A W 𝓣 0 ps·7 r·7 (claims· .14) (claims· .15) "roles::steps::same_place" × Plain.Known 𝓤 H A W 𝓣 0 ps·8 r·8 (claims· .16) (claims· .17) "totals::close_on"
+        Knowns = Plain.Known 𝓤 H A W 𝓣 0 ps·0 r·0 (claims· .0) (claims· .1) "totals::begin" × Plain.Known 𝓤 H A W 𝓣 1 ps·1 r·1 (claims· .2) (claims· .3) "lines::lines::line_at" × Plain.Known 𝓤 H A W 𝓣 1 ps·2 r·2 (claims· .4) (claims· .5) "roles::steps::step" × Plain.Known 𝓤 H A W 𝓣 1 ps·3 r·3 (claims· .6) (claims· .7) "kept::keep" × Plain.Known 𝓤 H A W 𝓣 1 ps·4 r·4 (claims· .8) (claims· .9) "totals::say_on" × Plain.Known 𝓤 H A W 𝓣 0 ps·5 r·5 (claims· .10) (claims· .11) "totals::enter" × Plain.Known 𝓤 H A W 𝓣 1 ps·6 r·6 (claims· .12) (claims· .13) "totals::open_entry" × Plain.Known 𝓤 H A W 𝓣 0 ps·7 r·7 (claims· .14) (claims· .15) "roles::steps::same_place" × Plain.Known 𝓤 H A W 𝓣 0 ps·8 r·8 (claims· .16) (claims· .17) "totals::close_on"
 
       module _ (κs : Lifetimes.Lfts 2) (qs : Lifetimes.Shares 2) where
         abbrev g19 : List.List Row.Entry
@@ -1924,7 +1924,7 @@ module _ (claims· : Claims) where
           d66 = Typed.s-seq 𝓤 H A W 𝓣 E G19 G20 b12 b46 Δ3 (Typed.both s16) at65 (Plain.t-call-plain 𝓤 H A W 𝓣 1 ps·2 r·2 (claims· .4) (claims· .5) "roles::steps::step" (known .2) E (λ pos β. β) G19 (record { pos = 1; ty = Syntax.tyRef (Syntax.named 0) Syntax.imm (Syntax.tyInt Syntax.w8); ref = λ x. x }, (record { pos = 5; st = List.[]; d = 0; at = λ x. x }, (record { pos = 8; st = List.[]; d = 0; at = λ x. x }, tt))) 9 (List._∷_ 0 List.[]) (Call.sub-id 𝓤 H A W (G19 .slots)) (ShrSlice.spares-sslice 𝓤 H A W (TReferent.rtF (TReferent.fInt Syntax.w8)) (Syntax.tyRef (Syntax.named 0) Syntax.imm (Syntax.tyInt Syntax.w8)) 0, SShared.reads-sslice 𝓤 H A W (TReferent.rtF (TReferent.fInt Syntax.w8)) (Syntax.tyRef (Syntax.named 0) Syntax.imm (Syntax.tyInt Syntax.w8)) 0, Path'.refl, ((Yields.yields-copy 𝓤 H A W (λ ρ. Unit) (Declared.row Where.the-type) Path'.refl (TCopies.cEnum Where.the-type Laws'7.the-laws Laws'7.the-copy .copy 𝓤 H A W) (Rows.whole (Declared.row Where.the-type)) (λ x. x) (λ x. x) (λ ρ told. RLocal.mem-whole 𝓤 H A W (Declared.row Where.the-type) ρ) λ ρ told. RLocal.whole-mem 𝓤 H A W (Declared.row Where.the-type) ρ, Path'.refl), ((Yields.yields-copy 𝓤 H A W (λ ρ. Unit) (Declared'.row Line.the-type) Path'.refl (TCopies.cStruct Line.the-type Laws'8.the-laws Laws'8.the-copy .copy 𝓤 H A W) (Rows.whole (Declared'.row Line.the-type)) (λ x. x) (λ x. x) (λ ρ told. RLocal.mem-whole 𝓤 H A W (Declared'.row Line.the-type) ρ) λ ρ told. RLocal.whole-mem 𝓤 H A W (Declared'.row Line.the-type) ρ, Path'.refl), tt))) (Reads'.room-gone 𝓤 H A τ4) (tt, tt) Path'.refl) d65
 
           d67 : Typed.Typed 𝓤 H A 𝓣 E G14 b48 Δ3 at67
-          d67 = Typed.s-seq 𝓤 H A W 𝓣 E G14 G19 b11 b47 Δ3 (Typed.both s15) at66 (Plain.t-call-plain 𝓤 H A W 𝓣 1 ps·1 r·1 (claims· .2) (claims· .3) "text::lines::line_at" (known .1) E (λ pos β. β) G14 (record { pos = 1; ty = Syntax.tyRef (Syntax.named 0) Syntax.imm (Syntax.tyInt Syntax.w8); ref = λ x. x }, (Num.vAt 6 λ x. x, (Num.vAt 7 λ x. x, tt))) 8 (List._∷_ 0 List.[]) (Call.sub-id 𝓤 H A W (G14 .slots)) (ShrSlice.spares-sslice 𝓤 H A W (TReferent.rtF (TReferent.fInt Syntax.w8)) (Syntax.tyRef (Syntax.named 0) Syntax.imm (Syntax.tyInt Syntax.w8)) 0, SShared.reads-sslice 𝓤 H A W (TReferent.rtF (TReferent.fInt Syntax.w8)) (Syntax.tyRef (Syntax.named 0) Syntax.imm (Syntax.tyInt Syntax.w8)) 0, Path'.refl, ((RScalar.reads-sc 𝓤 H A W (Row.sInt Syntax.w64), Path'.refl), ((RScalar.reads-sc 𝓤 H A W (Row.sInt Syntax.w64), Path'.refl), tt))) (Reads'.room-gone 𝓤 H A τ3) (tt, tt) Path'.refl) d66
+          d67 = Typed.s-seq 𝓤 H A W 𝓣 E G14 G19 b11 b47 Δ3 (Typed.both s15) at66 (Plain.t-call-plain 𝓤 H A W 𝓣 1 ps·1 r·1 (claims· .2) (claims· .3) "lines::lines::line_at" (known .1) E (λ pos β. β) G14 (record { pos = 1; ty = Syntax.tyRef (Syntax.named 0) Syntax.imm (Syntax.tyInt Syntax.w8); ref = λ x. x }, (Num.vAt 6 λ x. x, (Num.vAt 7 λ x. x, tt))) 8 (List._∷_ 0 List.[]) (Call.sub-id 𝓤 H A W (G14 .slots)) (ShrSlice.spares-sslice 𝓤 H A W (TReferent.rtF (TReferent.fInt Syntax.w8)) (Syntax.tyRef (Syntax.named 0) Syntax.imm (Syntax.tyInt Syntax.w8)) 0, SShared.reads-sslice 𝓤 H A W (TReferent.rtF (TReferent.fInt Syntax.w8)) (Syntax.tyRef (Syntax.named 0) Syntax.imm (Syntax.tyInt Syntax.w8)) 0, Path'.refl, ((RScalar.reads-sc 𝓤 H A W (Row.sInt Syntax.w64), Path'.refl), ((RScalar.reads-sc 𝓤 H A W (Row.sInt Syntax.w64), Path'.refl), tt))) (Reads'.room-gone 𝓤 H A τ3) (tt, tt) Path'.refl) d66
 
           d68 : Typed.Typed 𝓤 H A 𝓣 E G13 b49 Δ3 at68
           d68 = Typed.t-seq 𝓤 H A W 𝓣 E G13 G14 b10 b48 Δ3 at6 at67 d6 d67
@@ -2665,6 +2665,6 @@ module _ (claims· : Claims) where
           pub asked : (a : Kinds.Dens κs ps) → (good : Kinds.GoodsP κs ps a) → (pre : Pre· κs a) → (bs : List.List Nat.ℕ) → Φ (Any.wantQ 2 ps r xs m κs qs a (Post· κs a)) (Function.init 2 ps r xs m κs qs a)
           asked = λ a good pre bs. laid record { κs = κs; args = record { text = a .0; kept = a .1 .0 }; good = good; pre = pre }
 
-        module _ {M : Type 1} (𝓤 : URA.URA M) (H : Wp.Heap 𝓤) (A : Atoms.Atoms 𝓤) (W : Kit.Given 𝓤 H A) (𝓣 : Wp.Tables 𝓤 H) (known0 : Plain.Known 𝓤 H A W 𝓣 0 ps·0 r·0 (claims· .0) (claims· .1) "totals::begin") (known1 : Plain.Known 𝓤 H A W 𝓣 1 ps·1 r·1 (claims· .2) (claims· .3) "text::lines::line_at") (known2 : Plain.Known 𝓤 H A W 𝓣 1 ps·2 r·2 (claims· .4) (claims· .5) "roles::steps::step") (known3 : Plain.Known 𝓤 H A W 𝓣 1 ps·3 r·3 (claims· .6) (claims· .7) "kept::keep") (known4 : Plain.Known 𝓤 H A W 𝓣 1 ps·4 r·4 (claims· .8) (claims· .9) "totals::say_on") (known5 : Plain.Known 𝓤 H A W 𝓣 0 ps·5 r·5 (claims· .10) (claims· .11) "totals::enter") (known6 : Plain.Known 𝓤 H A W 𝓣 1 ps·6 r·6 (claims· .12) (claims· .13) "totals::open_entry") (known7 : Plain.Known 𝓤 H A W 𝓣 0 ps·7 r·7 (claims· .14) (claims· .15) "roles::steps::same_place") (known8 : Plain.Known 𝓤 H A W 𝓣 0 ps·8 r·8 (claims· .16) (claims· .17) "totals::close_on") where
+        module _ {M : Type 1} (𝓤 : URA.URA M) (H : Wp.Heap 𝓤) (A : Atoms.Atoms 𝓤) (W : Kit.Given 𝓤 H A) (𝓣 : Wp.Tables 𝓤 H) (known0 : Plain.Known 𝓤 H A W 𝓣 0 ps·0 r·0 (claims· .0) (claims· .1) "totals::begin") (known1 : Plain.Known 𝓤 H A W 𝓣 1 ps·1 r·1 (claims· .2) (claims· .3) "lines::lines::line_at") (known2 : Plain.Known 𝓤 H A W 𝓣 1 ps·2 r·2 (claims· .4) (claims· .5) "roles::steps::step") (known3 : Plain.Known 𝓤 H A W 𝓣 1 ps·3 r·3 (claims· .6) (claims· .7) "kept::keep") (known4 : Plain.Known 𝓤 H A W 𝓣 1 ps·4 r·4 (claims· .8) (claims· .9) "totals::say_on") (known5 : Plain.Known 𝓤 H A W 𝓣 0 ps·5 r·5 (claims· .10) (claims· .11) "totals::enter") (known6 : Plain.Known 𝓤 H A W 𝓣 1 ps·6 r·6 (claims· .12) (claims· .13) "totals::open_entry") (known7 : Plain.Known 𝓤 H A W 𝓣 0 ps·7 r·7 (claims· .14) (claims· .15) "roles::steps::same_place") (known8 : Plain.Known 𝓤 H A W 𝓣 0 ps·8 r·8 (claims· .16) (claims· .17) "totals::close_on") where
           pub spec : Statement.Triple 𝓤 (Wp.WpFn 𝓤 H (𝓣 .C) (𝓣 .Λ) (Function.fnOf 2 ps r xs m hs body)) (Function.plainOf 𝓤 H A 2 ps r Pre· Post·)
           spec = Plain.t-fn-plain 𝓤 H A W 𝓣 2 ps r xs m hs body (λ κs qs bs. Φ) (λ κs qs bs bd. typed κs qs 𝓤 H A W 𝓣 (known0, known1, known2, known3, known4, known5, known6, known7, known8) bs bd) Pre· Post· asked

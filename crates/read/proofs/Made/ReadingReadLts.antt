@@ -1,13 +1,13 @@
 -- The derivation of `reading::read`, with a need for each thing that is left. Made by tools/walk.py, from what Rattle makes for a twin in which the elements are arrays.
 -- Assumes nothing.
 use Prim.Native.Nat
+use Rattle.fits.proofs.Fit
+use Rattle.fits.proofs.Fit.Laws
 use Rattle.kept.proofs.Made.KeptElem
 use Rattle.parse.proofs.measure.Measured
-use Rattle.parse.proofs.measure.Measured.Laws
+use Rattle.parse.proofs.measure.Measured.Laws as Laws'
 use Rattle.read.proofs.reading.Answer
-use Rattle.read.proofs.reading.Answer.Laws as Laws'
-use Rattle.read.proofs.reading.Fit
-use Rattle.read.proofs.reading.Fit.Laws as Laws''
+use Rattle.read.proofs.reading.Answer.Laws as Laws''
 use Rattle.script.proofs.records.Counts
 use Rattle.script.proofs.records.Counts.Laws as Laws'3
 use Rattle.script.proofs.records.Items
@@ -26,8 +26,8 @@ use Rattle.script.proofs.records.Script
 use Rattle.script.proofs.records.Script.Laws as Laws'10
 use Rattle.slots.proofs.Made.EntryElem
 use Rattle.slots.proofs.Made.ExpectationElem
-use Rattle.wire.proofs.handshake.ProtocolVersion
-use Rattle.wire.proofs.handshake.ProtocolVersion.Laws as Laws'11
+use Rattle.version.proofs.ProtocolVersion
+use Rattle.version.proofs.ProtocolVersion.Laws as Laws'11
 use borrow.Author.Called
 use borrow.Enum.Known
 use borrow.Enum.Make
@@ -105,13 +105,13 @@ abbrev τ2 : Syntax.Ty
 τ2 = Syntax.tyStruct (List._∷_ 115 (List._∷_ 99 (List._∷_ 114 (List._∷_ 105 (List._∷_ 112 (List._∷_ 116 (List._∷_ 58 (List._∷_ 58 (List._∷_ 114 (List._∷_ 101 (List._∷_ 99 (List._∷_ 111 (List._∷_ 114 (List._∷_ 100 (List._∷_ 115 (List._∷_ 58 (List._∷_ 58 (List._∷_ 67 (List._∷_ 111 (List._∷_ 117 (List._∷_ 110 (List._∷_ 116 (List._∷_ 115 List.[]))))))))))))))))))))))) (Syntax.tcons (Syntax.tyInt Syntax.w64) (Syntax.tcons (Syntax.tyInt Syntax.w64) (Syntax.tcons (Syntax.tyInt Syntax.w64) (Syntax.tcons (Syntax.tyInt Syntax.w64) Syntax.tnil))))
 
 abbrev τ3 : Syntax.Ty
-τ3 = Syntax.tyEnum (List._∷_ 114 (List._∷_ 101 (List._∷_ 97 (List._∷_ 100 (List._∷_ 58 (List._∷_ 58 (List._∷_ 114 (List._∷_ 101 (List._∷_ 97 (List._∷_ 100 (List._∷_ 105 (List._∷_ 110 (List._∷_ 103 (List._∷_ 58 (List._∷_ 58 (List._∷_ 65 (List._∷_ 110 (List._∷_ 115 (List._∷_ 119 (List._∷_ 101 (List._∷_ 114 List.[]))))))))))))))))))))) (Syntax.ttcons (Syntax.tcons (Syntax.tyStruct (List._∷_ 115 (List._∷_ 99 (List._∷_ 114 (List._∷_ 105 (List._∷_ 112 (List._∷_ 116 (List._∷_ 58 (List._∷_ 58 (List._∷_ 114 (List._∷_ 101 (List._∷_ 99 (List._∷_ 111 (List._∷_ 114 (List._∷_ 100 (List._∷_ 115 (List._∷_ 58 (List._∷_ 58 (List._∷_ 82 (List._∷_ 101 (List._∷_ 102 (List._∷_ 117 (List._∷_ 115 (List._∷_ 97 (List._∷_ 108 List.[])))))))))))))))))))))))) (Syntax.tcons (Syntax.tyInt Syntax.w64) (Syntax.tcons (Syntax.tyInt Syntax.w64) Syntax.tnil))) Syntax.tnil) (Syntax.ttcons (Syntax.tcons (Syntax.tyStruct (List._∷_ 115 (List._∷_ 99 (List._∷_ 114 (List._∷_ 105 (List._∷_ 112 (List._∷_ 116 (List._∷_ 58 (List._∷_ 58 (List._∷_ 114 (List._∷_ 101 (List._∷_ 99 (List._∷_ 111 (List._∷_ 114 (List._∷_ 100 (List._∷_ 115 (List._∷_ 58 (List._∷_ 58 (List._∷_ 83 (List._∷_ 99 (List._∷_ 114 (List._∷_ 105 (List._∷_ 112 (List._∷_ 116 List.[]))))))))))))))))))))))) (Syntax.tcons (Syntax.tyStruct (List._∷_ 115 (List._∷_ 99 (List._∷_ 114 (List._∷_ 105 (List._∷_ 112 (List._∷_ 116 (List._∷_ 58 (List._∷_ 58 (List._∷_ 114 (List._∷_ 101 (List._∷_ 99 (List._∷_ 111 (List._∷_ 114 (List._∷_ 100 (List._∷_ 115 (List._∷_ 58 (List._∷_ 58 (List._∷_ 80 (List._∷_ 114 (List._∷_ 101 (List._∷_ 97 (List._∷_ 109 (List._∷_ 98 (List._∷_ 108 (List._∷_ 101 List.[]))))))))))))))))))))))))) (Syntax.tcons (Syntax.tyStruct (List._∷_ 119 (List._∷_ 105 (List._∷_ 114 (List._∷_ 101 (List._∷_ 58 (List._∷_ 58 (List._∷_ 104 (List._∷_ 97 (List._∷_ 110 (List._∷_ 100 (List._∷_ 115 (List._∷_ 104 (List._∷_ 97 (List._∷_ 107 (List._∷_ 101 (List._∷_ 58 (List._∷_ 58 (List._∷_ 80 (List._∷_ 114 (List._∷_ 111 (List._∷_ 116 (List._∷_ 111 (List._∷_ 99 (List._∷_ 111 (List._∷_ 108 (List._∷_ 86 (List._∷_ 101 (List._∷_ 114 (List._∷_ 115 (List._∷_ 105 (List._∷_ 111 (List._∷_ 110 List.[])))))))))))))))))))))))))))))))) (Syntax.tcons (Syntax.tyInt Syntax.w16) (Syntax.tcons (Syntax.tyInt Syntax.w8) Syntax.tnil))) (Syntax.tcons (Syntax.tyStruct (List._∷_ 115 (List._∷_ 99 (List._∷_ 114 (List._∷_ 105 (List._∷_ 112 (List._∷_ 116 (List._∷_ 58 (List._∷_ 58 (List._∷_ 114 (List._∷_ 101 (List._∷_ 99 (List._∷_ 111 (List._∷_ 114 (List._∷_ 100 (List._∷_ 115 (List._∷_ 58 (List._∷_ 58 (List._∷_ 73 (List._∷_ 116 (List._∷_ 101 (List._∷_ 109 (List._∷_ 115 List.[])))))))))))))))))))))) (Syntax.tcons (Syntax.tyInt Syntax.w64) (Syntax.tcons (Syntax.tyInt Syntax.w64) Syntax.tnil))) (Syntax.tcons (Syntax.tyStruct (List._∷_ 115 (List._∷_ 99 (List._∷_ 114 (List._∷_ 105 (List._∷_ 112 (List._∷_ 116 (List._∷_ 58 (List._∷_ 58 (List._∷_ 114 (List._∷_ 101 (List._∷_ 99 (List._∷_ 111 (List._∷_ 114 (List._∷_ 100 (List._∷_ 115 (List._∷_ 58 (List._∷_ 58 (List._∷_ 73 (List._∷_ 116 (List._∷_ 101 (List._∷_ 109 (List._∷_ 115 List.[])))))))))))))))))))))) (Syntax.tcons (Syntax.tyInt Syntax.w64) (Syntax.tcons (Syntax.tyInt Syntax.w64) Syntax.tnil))) (Syntax.tcons (Syntax.tyEnum (List._∷_ 115 (List._∷_ 99 (List._∷_ 114 (List._∷_ 105 (List._∷_ 112 (List._∷_ 116 (List._∷_ 58 (List._∷_ 58 (List._∷_ 114 (List._∷_ 101 (List._∷_ 99 (List._∷_ 111 (List._∷_ 114 (List._∷_ 100 (List._∷_ 115 (List._∷_ 58 (List._∷_ 58 (List._∷_ 77 (List._∷_ 97 (List._∷_ 121 (List._∷_ 98 (List._∷_ 101 List.[])))))))))))))))))))))) (Syntax.ttcons Syntax.tnil (Syntax.ttcons (Syntax.tcons (Syntax.tyStruct (List._∷_ 115 (List._∷_ 99 (List._∷_ 114 (List._∷_ 105 (List._∷_ 112 (List._∷_ 116 (List._∷_ 58 (List._∷_ 58 (List._∷_ 114 (List._∷_ 101 (List._∷_ 99 (List._∷_ 111 (List._∷_ 114 (List._∷_ 100 (List._∷_ 115 (List._∷_ 58 (List._∷_ 58 (List._∷_ 80 (List._∷_ 108 (List._∷_ 97 (List._∷_ 99 (List._∷_ 101 List.[])))))))))))))))))))))) (Syntax.tcons (Syntax.tyInt Syntax.w64) (Syntax.tcons (Syntax.tyInt Syntax.w64) Syntax.tnil))) Syntax.tnil) Syntax.ttnil))) (Syntax.tcons (Syntax.tyEnum (List._∷_ 115 (List._∷_ 99 (List._∷_ 114 (List._∷_ 105 (List._∷_ 112 (List._∷_ 116 (List._∷_ 58 (List._∷_ 58 (List._∷_ 114 (List._∷_ 101 (List._∷_ 99 (List._∷_ 111 (List._∷_ 114 (List._∷_ 100 (List._∷_ 115 (List._∷_ 58 (List._∷_ 58 (List._∷_ 77 (List._∷_ 97 (List._∷_ 121 (List._∷_ 98 (List._∷_ 101 List.[])))))))))))))))))))))) (Syntax.ttcons Syntax.tnil (Syntax.ttcons (Syntax.tcons (Syntax.tyStruct (List._∷_ 115 (List._∷_ 99 (List._∷_ 114 (List._∷_ 105 (List._∷_ 112 (List._∷_ 116 (List._∷_ 58 (List._∷_ 58 (List._∷_ 114 (List._∷_ 101 (List._∷_ 99 (List._∷_ 111 (List._∷_ 114 (List._∷_ 100 (List._∷_ 115 (List._∷_ 58 (List._∷_ 58 (List._∷_ 80 (List._∷_ 108 (List._∷_ 97 (List._∷_ 99 (List._∷_ 101 List.[])))))))))))))))))))))) (Syntax.tcons (Syntax.tyInt Syntax.w64) (Syntax.tcons (Syntax.tyInt Syntax.w64) Syntax.tnil))) Syntax.tnil) Syntax.ttnil))) (Syntax.tcons (Syntax.tyEnum (List._∷_ 115 (List._∷_ 99 (List._∷_ 114 (List._∷_ 105 (List._∷_ 112 (List._∷_ 116 (List._∷_ 58 (List._∷_ 58 (List._∷_ 114 (List._∷_ 101 (List._∷_ 99 (List._∷_ 111 (List._∷_ 114 (List._∷_ 100 (List._∷_ 115 (List._∷_ 58 (List._∷_ 58 (List._∷_ 77 (List._∷_ 97 (List._∷_ 121 (List._∷_ 98 (List._∷_ 101 (List._∷_ 73 (List._∷_ 116 (List._∷_ 101 (List._∷_ 109 (List._∷_ 115 List.[]))))))))))))))))))))))))))) (Syntax.ttcons Syntax.tnil (Syntax.ttcons (Syntax.tcons (Syntax.tyStruct (List._∷_ 115 (List._∷_ 99 (List._∷_ 114 (List._∷_ 105 (List._∷_ 112 (List._∷_ 116 (List._∷_ 58 (List._∷_ 58 (List._∷_ 114 (List._∷_ 101 (List._∷_ 99 (List._∷_ 111 (List._∷_ 114 (List._∷_ 100 (List._∷_ 115 (List._∷_ 58 (List._∷_ 58 (List._∷_ 73 (List._∷_ 116 (List._∷_ 101 (List._∷_ 109 (List._∷_ 115 List.[])))))))))))))))))))))) (Syntax.tcons (Syntax.tyInt Syntax.w64) (Syntax.tcons (Syntax.tyInt Syntax.w64) Syntax.tnil))) Syntax.tnil) Syntax.ttnil))) Syntax.tnil))))))) (Syntax.tcons (Syntax.tyStruct (List._∷_ 115 (List._∷_ 99 (List._∷_ 114 (List._∷_ 105 (List._∷_ 112 (List._∷_ 116 (List._∷_ 58 (List._∷_ 58 (List._∷_ 114 (List._∷_ 101 (List._∷_ 99 (List._∷_ 111 (List._∷_ 114 (List._∷_ 100 (List._∷_ 115 (List._∷_ 58 (List._∷_ 58 (List._∷_ 67 (List._∷_ 111 (List._∷_ 117 (List._∷_ 110 (List._∷_ 116 (List._∷_ 115 List.[]))))))))))))))))))))))) (Syntax.tcons (Syntax.tyInt Syntax.w64) (Syntax.tcons (Syntax.tyInt Syntax.w64) (Syntax.tcons (Syntax.tyInt Syntax.w64) (Syntax.tcons (Syntax.tyInt Syntax.w64) Syntax.tnil))))) Syntax.tnil))) Syntax.tnil) Syntax.ttnil))
+τ3 = Syntax.tyEnum (List._∷_ 114 (List._∷_ 101 (List._∷_ 97 (List._∷_ 100 (List._∷_ 58 (List._∷_ 58 (List._∷_ 114 (List._∷_ 101 (List._∷_ 97 (List._∷_ 100 (List._∷_ 105 (List._∷_ 110 (List._∷_ 103 (List._∷_ 58 (List._∷_ 58 (List._∷_ 65 (List._∷_ 110 (List._∷_ 115 (List._∷_ 119 (List._∷_ 101 (List._∷_ 114 List.[]))))))))))))))))))))) (Syntax.ttcons (Syntax.tcons (Syntax.tyStruct (List._∷_ 115 (List._∷_ 99 (List._∷_ 114 (List._∷_ 105 (List._∷_ 112 (List._∷_ 116 (List._∷_ 58 (List._∷_ 58 (List._∷_ 114 (List._∷_ 101 (List._∷_ 99 (List._∷_ 111 (List._∷_ 114 (List._∷_ 100 (List._∷_ 115 (List._∷_ 58 (List._∷_ 58 (List._∷_ 82 (List._∷_ 101 (List._∷_ 102 (List._∷_ 117 (List._∷_ 115 (List._∷_ 97 (List._∷_ 108 List.[])))))))))))))))))))))))) (Syntax.tcons (Syntax.tyInt Syntax.w64) (Syntax.tcons (Syntax.tyInt Syntax.w64) Syntax.tnil))) Syntax.tnil) (Syntax.ttcons (Syntax.tcons (Syntax.tyStruct (List._∷_ 115 (List._∷_ 99 (List._∷_ 114 (List._∷_ 105 (List._∷_ 112 (List._∷_ 116 (List._∷_ 58 (List._∷_ 58 (List._∷_ 114 (List._∷_ 101 (List._∷_ 99 (List._∷_ 111 (List._∷_ 114 (List._∷_ 100 (List._∷_ 115 (List._∷_ 58 (List._∷_ 58 (List._∷_ 83 (List._∷_ 99 (List._∷_ 114 (List._∷_ 105 (List._∷_ 112 (List._∷_ 116 List.[]))))))))))))))))))))))) (Syntax.tcons (Syntax.tyStruct (List._∷_ 115 (List._∷_ 99 (List._∷_ 114 (List._∷_ 105 (List._∷_ 112 (List._∷_ 116 (List._∷_ 58 (List._∷_ 58 (List._∷_ 114 (List._∷_ 101 (List._∷_ 99 (List._∷_ 111 (List._∷_ 114 (List._∷_ 100 (List._∷_ 115 (List._∷_ 58 (List._∷_ 58 (List._∷_ 80 (List._∷_ 114 (List._∷_ 101 (List._∷_ 97 (List._∷_ 109 (List._∷_ 98 (List._∷_ 108 (List._∷_ 101 List.[]))))))))))))))))))))))))) (Syntax.tcons (Syntax.tyStruct (List._∷_ 118 (List._∷_ 101 (List._∷_ 114 (List._∷_ 115 (List._∷_ 105 (List._∷_ 111 (List._∷_ 110 (List._∷_ 58 (List._∷_ 58 (List._∷_ 80 (List._∷_ 114 (List._∷_ 111 (List._∷_ 116 (List._∷_ 111 (List._∷_ 99 (List._∷_ 111 (List._∷_ 108 (List._∷_ 86 (List._∷_ 101 (List._∷_ 114 (List._∷_ 115 (List._∷_ 105 (List._∷_ 111 (List._∷_ 110 List.[])))))))))))))))))))))))) (Syntax.tcons (Syntax.tyInt Syntax.w16) (Syntax.tcons (Syntax.tyInt Syntax.w8) Syntax.tnil))) (Syntax.tcons (Syntax.tyStruct (List._∷_ 115 (List._∷_ 99 (List._∷_ 114 (List._∷_ 105 (List._∷_ 112 (List._∷_ 116 (List._∷_ 58 (List._∷_ 58 (List._∷_ 114 (List._∷_ 101 (List._∷_ 99 (List._∷_ 111 (List._∷_ 114 (List._∷_ 100 (List._∷_ 115 (List._∷_ 58 (List._∷_ 58 (List._∷_ 73 (List._∷_ 116 (List._∷_ 101 (List._∷_ 109 (List._∷_ 115 List.[])))))))))))))))))))))) (Syntax.tcons (Syntax.tyInt Syntax.w64) (Syntax.tcons (Syntax.tyInt Syntax.w64) Syntax.tnil))) (Syntax.tcons (Syntax.tyStruct (List._∷_ 115 (List._∷_ 99 (List._∷_ 114 (List._∷_ 105 (List._∷_ 112 (List._∷_ 116 (List._∷_ 58 (List._∷_ 58 (List._∷_ 114 (List._∷_ 101 (List._∷_ 99 (List._∷_ 111 (List._∷_ 114 (List._∷_ 100 (List._∷_ 115 (List._∷_ 58 (List._∷_ 58 (List._∷_ 73 (List._∷_ 116 (List._∷_ 101 (List._∷_ 109 (List._∷_ 115 List.[])))))))))))))))))))))) (Syntax.tcons (Syntax.tyInt Syntax.w64) (Syntax.tcons (Syntax.tyInt Syntax.w64) Syntax.tnil))) (Syntax.tcons (Syntax.tyEnum (List._∷_ 115 (List._∷_ 99 (List._∷_ 114 (List._∷_ 105 (List._∷_ 112 (List._∷_ 116 (List._∷_ 58 (List._∷_ 58 (List._∷_ 114 (List._∷_ 101 (List._∷_ 99 (List._∷_ 111 (List._∷_ 114 (List._∷_ 100 (List._∷_ 115 (List._∷_ 58 (List._∷_ 58 (List._∷_ 77 (List._∷_ 97 (List._∷_ 121 (List._∷_ 98 (List._∷_ 101 List.[])))))))))))))))))))))) (Syntax.ttcons Syntax.tnil (Syntax.ttcons (Syntax.tcons (Syntax.tyStruct (List._∷_ 115 (List._∷_ 99 (List._∷_ 114 (List._∷_ 105 (List._∷_ 112 (List._∷_ 116 (List._∷_ 58 (List._∷_ 58 (List._∷_ 114 (List._∷_ 101 (List._∷_ 99 (List._∷_ 111 (List._∷_ 114 (List._∷_ 100 (List._∷_ 115 (List._∷_ 58 (List._∷_ 58 (List._∷_ 80 (List._∷_ 108 (List._∷_ 97 (List._∷_ 99 (List._∷_ 101 List.[])))))))))))))))))))))) (Syntax.tcons (Syntax.tyInt Syntax.w64) (Syntax.tcons (Syntax.tyInt Syntax.w64) Syntax.tnil))) Syntax.tnil) Syntax.ttnil))) (Syntax.tcons (Syntax.tyEnum (List._∷_ 115 (List._∷_ 99 (List._∷_ 114 (List._∷_ 105 (List._∷_ 112 (List._∷_ 116 (List._∷_ 58 (List._∷_ 58 (List._∷_ 114 (List._∷_ 101 (List._∷_ 99 (List._∷_ 111 (List._∷_ 114 (List._∷_ 100 (List._∷_ 115 (List._∷_ 58 (List._∷_ 58 (List._∷_ 77 (List._∷_ 97 (List._∷_ 121 (List._∷_ 98 (List._∷_ 101 List.[])))))))))))))))))))))) (Syntax.ttcons Syntax.tnil (Syntax.ttcons (Syntax.tcons (Syntax.tyStruct (List._∷_ 115 (List._∷_ 99 (List._∷_ 114 (List._∷_ 105 (List._∷_ 112 (List._∷_ 116 (List._∷_ 58 (List._∷_ 58 (List._∷_ 114 (List._∷_ 101 (List._∷_ 99 (List._∷_ 111 (List._∷_ 114 (List._∷_ 100 (List._∷_ 115 (List._∷_ 58 (List._∷_ 58 (List._∷_ 80 (List._∷_ 108 (List._∷_ 97 (List._∷_ 99 (List._∷_ 101 List.[])))))))))))))))))))))) (Syntax.tcons (Syntax.tyInt Syntax.w64) (Syntax.tcons (Syntax.tyInt Syntax.w64) Syntax.tnil))) Syntax.tnil) Syntax.ttnil))) (Syntax.tcons (Syntax.tyEnum (List._∷_ 115 (List._∷_ 99 (List._∷_ 114 (List._∷_ 105 (List._∷_ 112 (List._∷_ 116 (List._∷_ 58 (List._∷_ 58 (List._∷_ 114 (List._∷_ 101 (List._∷_ 99 (List._∷_ 111 (List._∷_ 114 (List._∷_ 100 (List._∷_ 115 (List._∷_ 58 (List._∷_ 58 (List._∷_ 77 (List._∷_ 97 (List._∷_ 121 (List._∷_ 98 (List._∷_ 101 (List._∷_ 73 (List._∷_ 116 (List._∷_ 101 (List._∷_ 109 (List._∷_ 115 List.[]))))))))))))))))))))))))))) (Syntax.ttcons Syntax.tnil (Syntax.ttcons (Syntax.tcons (Syntax.tyStruct (List._∷_ 115 (List._∷_ 99 (List._∷_ 114 (List._∷_ 105 (List._∷_ 112 (List._∷_ 116 (List._∷_ 58 (List._∷_ 58 (List._∷_ 114 (List._∷_ 101 (List._∷_ 99 (List._∷_ 111 (List._∷_ 114 (List._∷_ 100 (List._∷_ 115 (List._∷_ 58 (List._∷_ 58 (List._∷_ 73 (List._∷_ 116 (List._∷_ 101 (List._∷_ 109 (List._∷_ 115 List.[])))))))))))))))))))))) (Syntax.tcons (Syntax.tyInt Syntax.w64) (Syntax.tcons (Syntax.tyInt Syntax.w64) Syntax.tnil))) Syntax.tnil) Syntax.ttnil))) Syntax.tnil))))))) (Syntax.tcons (Syntax.tyStruct (List._∷_ 115 (List._∷_ 99 (List._∷_ 114 (List._∷_ 105 (List._∷_ 112 (List._∷_ 116 (List._∷_ 58 (List._∷_ 58 (List._∷_ 114 (List._∷_ 101 (List._∷_ 99 (List._∷_ 111 (List._∷_ 114 (List._∷_ 100 (List._∷_ 115 (List._∷_ 58 (List._∷_ 58 (List._∷_ 67 (List._∷_ 111 (List._∷_ 117 (List._∷_ 110 (List._∷_ 116 (List._∷_ 115 List.[]))))))))))))))))))))))) (Syntax.tcons (Syntax.tyInt Syntax.w64) (Syntax.tcons (Syntax.tyInt Syntax.w64) (Syntax.tcons (Syntax.tyInt Syntax.w64) (Syntax.tcons (Syntax.tyInt Syntax.w64) Syntax.tnil))))) Syntax.tnil))) Syntax.tnil) Syntax.ttnil))
 
 abbrev τ4 : Syntax.Ty
-τ4 = Syntax.tyEnum (List._∷_ 114 (List._∷_ 101 (List._∷_ 97 (List._∷_ 100 (List._∷_ 58 (List._∷_ 58 (List._∷_ 114 (List._∷_ 101 (List._∷_ 97 (List._∷_ 100 (List._∷_ 105 (List._∷_ 110 (List._∷_ 103 (List._∷_ 58 (List._∷_ 58 (List._∷_ 70 (List._∷_ 105 (List._∷_ 116 List.[])))))))))))))))))) (Syntax.ttcons Syntax.tnil (Syntax.ttcons (Syntax.tcons (Syntax.tyStruct (List._∷_ 115 (List._∷_ 99 (List._∷_ 114 (List._∷_ 105 (List._∷_ 112 (List._∷_ 116 (List._∷_ 58 (List._∷_ 58 (List._∷_ 114 (List._∷_ 101 (List._∷_ 99 (List._∷_ 111 (List._∷_ 114 (List._∷_ 100 (List._∷_ 115 (List._∷_ 58 (List._∷_ 58 (List._∷_ 82 (List._∷_ 101 (List._∷_ 102 (List._∷_ 117 (List._∷_ 115 (List._∷_ 97 (List._∷_ 108 List.[])))))))))))))))))))))))) (Syntax.tcons (Syntax.tyInt Syntax.w64) (Syntax.tcons (Syntax.tyInt Syntax.w64) Syntax.tnil))) Syntax.tnil) Syntax.ttnil))
+τ4 = Syntax.tyEnum (List._∷_ 102 (List._∷_ 105 (List._∷_ 116 (List._∷_ 115 (List._∷_ 58 (List._∷_ 58 (List._∷_ 70 (List._∷_ 105 (List._∷_ 116 List.[]))))))))) (Syntax.ttcons Syntax.tnil (Syntax.ttcons (Syntax.tcons (Syntax.tyStruct (List._∷_ 115 (List._∷_ 99 (List._∷_ 114 (List._∷_ 105 (List._∷_ 112 (List._∷_ 116 (List._∷_ 58 (List._∷_ 58 (List._∷_ 114 (List._∷_ 101 (List._∷_ 99 (List._∷_ 111 (List._∷_ 114 (List._∷_ 100 (List._∷_ 115 (List._∷_ 58 (List._∷_ 58 (List._∷_ 82 (List._∷_ 101 (List._∷_ 102 (List._∷_ 117 (List._∷_ 115 (List._∷_ 97 (List._∷_ 108 List.[])))))))))))))))))))))))) (Syntax.tcons (Syntax.tyInt Syntax.w64) (Syntax.tcons (Syntax.tyInt Syntax.w64) Syntax.tnil))) Syntax.tnil) Syntax.ttnil))
 
 abbrev τ5 : Syntax.Ty
-τ5 = Syntax.tyStruct (List._∷_ 115 (List._∷_ 99 (List._∷_ 114 (List._∷_ 105 (List._∷_ 112 (List._∷_ 116 (List._∷_ 58 (List._∷_ 58 (List._∷_ 114 (List._∷_ 101 (List._∷_ 99 (List._∷_ 111 (List._∷_ 114 (List._∷_ 100 (List._∷_ 115 (List._∷_ 58 (List._∷_ 58 (List._∷_ 83 (List._∷_ 99 (List._∷_ 114 (List._∷_ 105 (List._∷_ 112 (List._∷_ 116 List.[]))))))))))))))))))))))) (Syntax.tcons (Syntax.tyStruct (List._∷_ 115 (List._∷_ 99 (List._∷_ 114 (List._∷_ 105 (List._∷_ 112 (List._∷_ 116 (List._∷_ 58 (List._∷_ 58 (List._∷_ 114 (List._∷_ 101 (List._∷_ 99 (List._∷_ 111 (List._∷_ 114 (List._∷_ 100 (List._∷_ 115 (List._∷_ 58 (List._∷_ 58 (List._∷_ 80 (List._∷_ 114 (List._∷_ 101 (List._∷_ 97 (List._∷_ 109 (List._∷_ 98 (List._∷_ 108 (List._∷_ 101 List.[]))))))))))))))))))))))))) (Syntax.tcons (Syntax.tyStruct (List._∷_ 119 (List._∷_ 105 (List._∷_ 114 (List._∷_ 101 (List._∷_ 58 (List._∷_ 58 (List._∷_ 104 (List._∷_ 97 (List._∷_ 110 (List._∷_ 100 (List._∷_ 115 (List._∷_ 104 (List._∷_ 97 (List._∷_ 107 (List._∷_ 101 (List._∷_ 58 (List._∷_ 58 (List._∷_ 80 (List._∷_ 114 (List._∷_ 111 (List._∷_ 116 (List._∷_ 111 (List._∷_ 99 (List._∷_ 111 (List._∷_ 108 (List._∷_ 86 (List._∷_ 101 (List._∷_ 114 (List._∷_ 115 (List._∷_ 105 (List._∷_ 111 (List._∷_ 110 List.[])))))))))))))))))))))))))))))))) (Syntax.tcons (Syntax.tyInt Syntax.w16) (Syntax.tcons (Syntax.tyInt Syntax.w8) Syntax.tnil))) (Syntax.tcons (Syntax.tyStruct (List._∷_ 115 (List._∷_ 99 (List._∷_ 114 (List._∷_ 105 (List._∷_ 112 (List._∷_ 116 (List._∷_ 58 (List._∷_ 58 (List._∷_ 114 (List._∷_ 101 (List._∷_ 99 (List._∷_ 111 (List._∷_ 114 (List._∷_ 100 (List._∷_ 115 (List._∷_ 58 (List._∷_ 58 (List._∷_ 73 (List._∷_ 116 (List._∷_ 101 (List._∷_ 109 (List._∷_ 115 List.[])))))))))))))))))))))) (Syntax.tcons (Syntax.tyInt Syntax.w64) (Syntax.tcons (Syntax.tyInt Syntax.w64) Syntax.tnil))) (Syntax.tcons (Syntax.tyStruct (List._∷_ 115 (List._∷_ 99 (List._∷_ 114 (List._∷_ 105 (List._∷_ 112 (List._∷_ 116 (List._∷_ 58 (List._∷_ 58 (List._∷_ 114 (List._∷_ 101 (List._∷_ 99 (List._∷_ 111 (List._∷_ 114 (List._∷_ 100 (List._∷_ 115 (List._∷_ 58 (List._∷_ 58 (List._∷_ 73 (List._∷_ 116 (List._∷_ 101 (List._∷_ 109 (List._∷_ 115 List.[])))))))))))))))))))))) (Syntax.tcons (Syntax.tyInt Syntax.w64) (Syntax.tcons (Syntax.tyInt Syntax.w64) Syntax.tnil))) (Syntax.tcons (Syntax.tyEnum (List._∷_ 115 (List._∷_ 99 (List._∷_ 114 (List._∷_ 105 (List._∷_ 112 (List._∷_ 116 (List._∷_ 58 (List._∷_ 58 (List._∷_ 114 (List._∷_ 101 (List._∷_ 99 (List._∷_ 111 (List._∷_ 114 (List._∷_ 100 (List._∷_ 115 (List._∷_ 58 (List._∷_ 58 (List._∷_ 77 (List._∷_ 97 (List._∷_ 121 (List._∷_ 98 (List._∷_ 101 List.[])))))))))))))))))))))) (Syntax.ttcons Syntax.tnil (Syntax.ttcons (Syntax.tcons (Syntax.tyStruct (List._∷_ 115 (List._∷_ 99 (List._∷_ 114 (List._∷_ 105 (List._∷_ 112 (List._∷_ 116 (List._∷_ 58 (List._∷_ 58 (List._∷_ 114 (List._∷_ 101 (List._∷_ 99 (List._∷_ 111 (List._∷_ 114 (List._∷_ 100 (List._∷_ 115 (List._∷_ 58 (List._∷_ 58 (List._∷_ 80 (List._∷_ 108 (List._∷_ 97 (List._∷_ 99 (List._∷_ 101 List.[])))))))))))))))))))))) (Syntax.tcons (Syntax.tyInt Syntax.w64) (Syntax.tcons (Syntax.tyInt Syntax.w64) Syntax.tnil))) Syntax.tnil) Syntax.ttnil))) (Syntax.tcons (Syntax.tyEnum (List._∷_ 115 (List._∷_ 99 (List._∷_ 114 (List._∷_ 105 (List._∷_ 112 (List._∷_ 116 (List._∷_ 58 (List._∷_ 58 (List._∷_ 114 (List._∷_ 101 (List._∷_ 99 (List._∷_ 111 (List._∷_ 114 (List._∷_ 100 (List._∷_ 115 (List._∷_ 58 (List._∷_ 58 (List._∷_ 77 (List._∷_ 97 (List._∷_ 121 (List._∷_ 98 (List._∷_ 101 List.[])))))))))))))))))))))) (Syntax.ttcons Syntax.tnil (Syntax.ttcons (Syntax.tcons (Syntax.tyStruct (List._∷_ 115 (List._∷_ 99 (List._∷_ 114 (List._∷_ 105 (List._∷_ 112 (List._∷_ 116 (List._∷_ 58 (List._∷_ 58 (List._∷_ 114 (List._∷_ 101 (List._∷_ 99 (List._∷_ 111 (List._∷_ 114 (List._∷_ 100 (List._∷_ 115 (List._∷_ 58 (List._∷_ 58 (List._∷_ 80 (List._∷_ 108 (List._∷_ 97 (List._∷_ 99 (List._∷_ 101 List.[])))))))))))))))))))))) (Syntax.tcons (Syntax.tyInt Syntax.w64) (Syntax.tcons (Syntax.tyInt Syntax.w64) Syntax.tnil))) Syntax.tnil) Syntax.ttnil))) (Syntax.tcons (Syntax.tyEnum (List._∷_ 115 (List._∷_ 99 (List._∷_ 114 (List._∷_ 105 (List._∷_ 112 (List._∷_ 116 (List._∷_ 58 (List._∷_ 58 (List._∷_ 114 (List._∷_ 101 (List._∷_ 99 (List._∷_ 111 (List._∷_ 114 (List._∷_ 100 (List._∷_ 115 (List._∷_ 58 (List._∷_ 58 (List._∷_ 77 (List._∷_ 97 (List._∷_ 121 (List._∷_ 98 (List._∷_ 101 (List._∷_ 73 (List._∷_ 116 (List._∷_ 101 (List._∷_ 109 (List._∷_ 115 List.[]))))))))))))))))))))))))))) (Syntax.ttcons Syntax.tnil (Syntax.ttcons (Syntax.tcons (Syntax.tyStruct (List._∷_ 115 (List._∷_ 99 (List._∷_ 114 (List._∷_ 105 (List._∷_ 112 (List._∷_ 116 (List._∷_ 58 (List._∷_ 58 (List._∷_ 114 (List._∷_ 101 (List._∷_ 99 (List._∷_ 111 (List._∷_ 114 (List._∷_ 100 (List._∷_ 115 (List._∷_ 58 (List._∷_ 58 (List._∷_ 73 (List._∷_ 116 (List._∷_ 101 (List._∷_ 109 (List._∷_ 115 List.[])))))))))))))))))))))) (Syntax.tcons (Syntax.tyInt Syntax.w64) (Syntax.tcons (Syntax.tyInt Syntax.w64) Syntax.tnil))) Syntax.tnil) Syntax.ttnil))) Syntax.tnil))))))) (Syntax.tcons (Syntax.tyStruct (List._∷_ 115 (List._∷_ 99 (List._∷_ 114 (List._∷_ 105 (List._∷_ 112 (List._∷_ 116 (List._∷_ 58 (List._∷_ 58 (List._∷_ 114 (List._∷_ 101 (List._∷_ 99 (List._∷_ 111 (List._∷_ 114 (List._∷_ 100 (List._∷_ 115 (List._∷_ 58 (List._∷_ 58 (List._∷_ 67 (List._∷_ 111 (List._∷_ 117 (List._∷_ 110 (List._∷_ 116 (List._∷_ 115 List.[]))))))))))))))))))))))) (Syntax.tcons (Syntax.tyInt Syntax.w64) (Syntax.tcons (Syntax.tyInt Syntax.w64) (Syntax.tcons (Syntax.tyInt Syntax.w64) (Syntax.tcons (Syntax.tyInt Syntax.w64) Syntax.tnil))))) Syntax.tnil))
+τ5 = Syntax.tyStruct (List._∷_ 115 (List._∷_ 99 (List._∷_ 114 (List._∷_ 105 (List._∷_ 112 (List._∷_ 116 (List._∷_ 58 (List._∷_ 58 (List._∷_ 114 (List._∷_ 101 (List._∷_ 99 (List._∷_ 111 (List._∷_ 114 (List._∷_ 100 (List._∷_ 115 (List._∷_ 58 (List._∷_ 58 (List._∷_ 83 (List._∷_ 99 (List._∷_ 114 (List._∷_ 105 (List._∷_ 112 (List._∷_ 116 List.[]))))))))))))))))))))))) (Syntax.tcons (Syntax.tyStruct (List._∷_ 115 (List._∷_ 99 (List._∷_ 114 (List._∷_ 105 (List._∷_ 112 (List._∷_ 116 (List._∷_ 58 (List._∷_ 58 (List._∷_ 114 (List._∷_ 101 (List._∷_ 99 (List._∷_ 111 (List._∷_ 114 (List._∷_ 100 (List._∷_ 115 (List._∷_ 58 (List._∷_ 58 (List._∷_ 80 (List._∷_ 114 (List._∷_ 101 (List._∷_ 97 (List._∷_ 109 (List._∷_ 98 (List._∷_ 108 (List._∷_ 101 List.[]))))))))))))))))))))))))) (Syntax.tcons (Syntax.tyStruct (List._∷_ 118 (List._∷_ 101 (List._∷_ 114 (List._∷_ 115 (List._∷_ 105 (List._∷_ 111 (List._∷_ 110 (List._∷_ 58 (List._∷_ 58 (List._∷_ 80 (List._∷_ 114 (List._∷_ 111 (List._∷_ 116 (List._∷_ 111 (List._∷_ 99 (List._∷_ 111 (List._∷_ 108 (List._∷_ 86 (List._∷_ 101 (List._∷_ 114 (List._∷_ 115 (List._∷_ 105 (List._∷_ 111 (List._∷_ 110 List.[])))))))))))))))))))))))) (Syntax.tcons (Syntax.tyInt Syntax.w16) (Syntax.tcons (Syntax.tyInt Syntax.w8) Syntax.tnil))) (Syntax.tcons (Syntax.tyStruct (List._∷_ 115 (List._∷_ 99 (List._∷_ 114 (List._∷_ 105 (List._∷_ 112 (List._∷_ 116 (List._∷_ 58 (List._∷_ 58 (List._∷_ 114 (List._∷_ 101 (List._∷_ 99 (List._∷_ 111 (List._∷_ 114 (List._∷_ 100 (List._∷_ 115 (List._∷_ 58 (List._∷_ 58 (List._∷_ 73 (List._∷_ 116 (List._∷_ 101 (List._∷_ 109 (List._∷_ 115 List.[])))))))))))))))))))))) (Syntax.tcons (Syntax.tyInt Syntax.w64) (Syntax.tcons (Syntax.tyInt Syntax.w64) Syntax.tnil))) (Syntax.tcons (Syntax.tyStruct (List._∷_ 115 (List._∷_ 99 (List._∷_ 114 (List._∷_ 105 (List._∷_ 112 (List._∷_ 116 (List._∷_ 58 (List._∷_ 58 (List._∷_ 114 (List._∷_ 101 (List._∷_ 99 (List._∷_ 111 (List._∷_ 114 (List._∷_ 100 (List._∷_ 115 (List._∷_ 58 (List._∷_ 58 (List._∷_ 73 (List._∷_ 116 (List._∷_ 101 (List._∷_ 109 (List._∷_ 115 List.[])))))))))))))))))))))) (Syntax.tcons (Syntax.tyInt Syntax.w64) (Syntax.tcons (Syntax.tyInt Syntax.w64) Syntax.tnil))) (Syntax.tcons (Syntax.tyEnum (List._∷_ 115 (List._∷_ 99 (List._∷_ 114 (List._∷_ 105 (List._∷_ 112 (List._∷_ 116 (List._∷_ 58 (List._∷_ 58 (List._∷_ 114 (List._∷_ 101 (List._∷_ 99 (List._∷_ 111 (List._∷_ 114 (List._∷_ 100 (List._∷_ 115 (List._∷_ 58 (List._∷_ 58 (List._∷_ 77 (List._∷_ 97 (List._∷_ 121 (List._∷_ 98 (List._∷_ 101 List.[])))))))))))))))))))))) (Syntax.ttcons Syntax.tnil (Syntax.ttcons (Syntax.tcons (Syntax.tyStruct (List._∷_ 115 (List._∷_ 99 (List._∷_ 114 (List._∷_ 105 (List._∷_ 112 (List._∷_ 116 (List._∷_ 58 (List._∷_ 58 (List._∷_ 114 (List._∷_ 101 (List._∷_ 99 (List._∷_ 111 (List._∷_ 114 (List._∷_ 100 (List._∷_ 115 (List._∷_ 58 (List._∷_ 58 (List._∷_ 80 (List._∷_ 108 (List._∷_ 97 (List._∷_ 99 (List._∷_ 101 List.[])))))))))))))))))))))) (Syntax.tcons (Syntax.tyInt Syntax.w64) (Syntax.tcons (Syntax.tyInt Syntax.w64) Syntax.tnil))) Syntax.tnil) Syntax.ttnil))) (Syntax.tcons (Syntax.tyEnum (List._∷_ 115 (List._∷_ 99 (List._∷_ 114 (List._∷_ 105 (List._∷_ 112 (List._∷_ 116 (List._∷_ 58 (List._∷_ 58 (List._∷_ 114 (List._∷_ 101 (List._∷_ 99 (List._∷_ 111 (List._∷_ 114 (List._∷_ 100 (List._∷_ 115 (List._∷_ 58 (List._∷_ 58 (List._∷_ 77 (List._∷_ 97 (List._∷_ 121 (List._∷_ 98 (List._∷_ 101 List.[])))))))))))))))))))))) (Syntax.ttcons Syntax.tnil (Syntax.ttcons (Syntax.tcons (Syntax.tyStruct (List._∷_ 115 (List._∷_ 99 (List._∷_ 114 (List._∷_ 105 (List._∷_ 112 (List._∷_ 116 (List._∷_ 58 (List._∷_ 58 (List._∷_ 114 (List._∷_ 101 (List._∷_ 99 (List._∷_ 111 (List._∷_ 114 (List._∷_ 100 (List._∷_ 115 (List._∷_ 58 (List._∷_ 58 (List._∷_ 80 (List._∷_ 108 (List._∷_ 97 (List._∷_ 99 (List._∷_ 101 List.[])))))))))))))))))))))) (Syntax.tcons (Syntax.tyInt Syntax.w64) (Syntax.tcons (Syntax.tyInt Syntax.w64) Syntax.tnil))) Syntax.tnil) Syntax.ttnil))) (Syntax.tcons (Syntax.tyEnum (List._∷_ 115 (List._∷_ 99 (List._∷_ 114 (List._∷_ 105 (List._∷_ 112 (List._∷_ 116 (List._∷_ 58 (List._∷_ 58 (List._∷_ 114 (List._∷_ 101 (List._∷_ 99 (List._∷_ 111 (List._∷_ 114 (List._∷_ 100 (List._∷_ 115 (List._∷_ 58 (List._∷_ 58 (List._∷_ 77 (List._∷_ 97 (List._∷_ 121 (List._∷_ 98 (List._∷_ 101 (List._∷_ 73 (List._∷_ 116 (List._∷_ 101 (List._∷_ 109 (List._∷_ 115 List.[]))))))))))))))))))))))))))) (Syntax.ttcons Syntax.tnil (Syntax.ttcons (Syntax.tcons (Syntax.tyStruct (List._∷_ 115 (List._∷_ 99 (List._∷_ 114 (List._∷_ 105 (List._∷_ 112 (List._∷_ 116 (List._∷_ 58 (List._∷_ 58 (List._∷_ 114 (List._∷_ 101 (List._∷_ 99 (List._∷_ 111 (List._∷_ 114 (List._∷_ 100 (List._∷_ 115 (List._∷_ 58 (List._∷_ 58 (List._∷_ 73 (List._∷_ 116 (List._∷_ 101 (List._∷_ 109 (List._∷_ 115 List.[])))))))))))))))))))))) (Syntax.tcons (Syntax.tyInt Syntax.w64) (Syntax.tcons (Syntax.tyInt Syntax.w64) Syntax.tnil))) Syntax.tnil) Syntax.ttnil))) Syntax.tnil))))))) (Syntax.tcons (Syntax.tyStruct (List._∷_ 115 (List._∷_ 99 (List._∷_ 114 (List._∷_ 105 (List._∷_ 112 (List._∷_ 116 (List._∷_ 58 (List._∷_ 58 (List._∷_ 114 (List._∷_ 101 (List._∷_ 99 (List._∷_ 111 (List._∷_ 114 (List._∷_ 100 (List._∷_ 115 (List._∷_ 58 (List._∷_ 58 (List._∷_ 67 (List._∷_ 111 (List._∷_ 117 (List._∷_ 110 (List._∷_ 116 (List._∷_ 115 List.[]))))))))))))))))))))))) (Syntax.tcons (Syntax.tyInt Syntax.w64) (Syntax.tcons (Syntax.tyInt Syntax.w64) (Syntax.tcons (Syntax.tyInt Syntax.w64) (Syntax.tcons (Syntax.tyInt Syntax.w64) Syntax.tnil))))) Syntax.tnil))
 
 abbrev τ6 : Syntax.Ty
 τ6 = Syntax.tyStruct (List._∷_ 38 (List._∷_ 91 (List._∷_ 93 List.[]))) (Syntax.tcons (Syntax.tyRef Syntax.erased Syntax.mut (Syntax.tyArray (Syntax.tyInt Syntax.w64) 2)) (Syntax.tcons (Syntax.tyInt Syntax.w64) Syntax.tnil))
@@ -120,16 +120,16 @@ abbrev τ7 : Syntax.Ty
 τ7 = Syntax.tyStruct (List._∷_ 38 (List._∷_ 91 (List._∷_ 93 List.[]))) (Syntax.tcons (Syntax.tyRef Syntax.erased Syntax.mut (Syntax.tyInt Syntax.w8)) (Syntax.tcons (Syntax.tyInt Syntax.w64) Syntax.tnil))
 
 abbrev kind0 : KValue.Valued
-kind0 = record { ty = Declared.row Answer.the-type; one = Path'.refl; val = Laws'12.val Answer.the-type Laws'.the-laws; tells = Laws'12.tells Answer.the-type Laws'.the-laws; still = Laws'12.still Answer.the-type Laws'.the-copy Exit.yes; row = Rows'.whole (Declared.row Answer.the-type); rd = λ x. x; mk = λ x. x }
+kind0 = record { ty = Declared.row Answer.the-type; one = Path'.refl; val = Laws'12.val Answer.the-type Laws''.the-laws; tells = Laws'12.tells Answer.the-type Laws''.the-laws; still = Laws'12.still Answer.the-type Laws''.the-copy Exit.yes; row = Rows'.whole (Declared.row Answer.the-type); rd = λ x. x; mk = λ x. x }
 
 abbrev kind0-laws : (M : Type 1) (𝓤 : URA.URA M) (H : Wp.Heap 𝓤) (A : Atoms.Atoms 𝓤) → Kit.Given 𝓤 H A → KValue.ValuedLaws 𝓤 H A kind0
-kind0-laws = λ M 𝓤 H A W. record { copies = Laws'12.copy Answer.the-type Laws'.the-copy 𝓤 H A W; lawful = Laws'12.lawful Answer.the-type Laws'.the-laws 𝓤 H A W tt; makes = Laws'12.makes Answer.the-type Laws'.the-plain 𝓤 H A; in-mem = RLocal.mem-whole 𝓤 H A W (Declared.row Answer.the-type); of-mem = RLocal.whole-mem 𝓤 H A W (Declared.row Answer.the-type) }
+kind0-laws = λ M 𝓤 H A W. record { copies = Laws'12.copy Answer.the-type Laws''.the-copy 𝓤 H A W; lawful = Laws'12.lawful Answer.the-type Laws''.the-laws 𝓤 H A W tt; makes = Laws'12.makes Answer.the-type Laws''.the-plain 𝓤 H A; in-mem = RLocal.mem-whole 𝓤 H A W (Declared.row Answer.the-type); of-mem = RLocal.whole-mem 𝓤 H A W (Declared.row Answer.the-type) }
 
 abbrev kind1 : KValue.Valued
-kind1 = record { ty = Declared.row Measured.the-type; one = Path'.refl; val = Laws'12.val Measured.the-type Laws.the-laws; tells = Laws'12.tells Measured.the-type Laws.the-laws; still = Laws'12.still Measured.the-type Laws.the-copy Exit.yes; row = Rows'.whole (Declared.row Measured.the-type); rd = λ x. x; mk = λ x. x }
+kind1 = record { ty = Declared.row Measured.the-type; one = Path'.refl; val = Laws'12.val Measured.the-type Laws'.the-laws; tells = Laws'12.tells Measured.the-type Laws'.the-laws; still = Laws'12.still Measured.the-type Laws'.the-copy Exit.yes; row = Rows'.whole (Declared.row Measured.the-type); rd = λ x. x; mk = λ x. x }
 
 abbrev kind1-laws : (M : Type 1) (𝓤 : URA.URA M) (H : Wp.Heap 𝓤) (A : Atoms.Atoms 𝓤) → Kit.Given 𝓤 H A → KValue.ValuedLaws 𝓤 H A kind1
-kind1-laws = λ M 𝓤 H A W. record { copies = Laws'12.copy Measured.the-type Laws.the-copy 𝓤 H A W; lawful = Laws'12.lawful Measured.the-type Laws.the-laws 𝓤 H A W tt; makes = Laws'12.makes Measured.the-type Laws.the-plain 𝓤 H A; in-mem = RLocal.mem-whole 𝓤 H A W (Declared.row Measured.the-type); of-mem = RLocal.whole-mem 𝓤 H A W (Declared.row Measured.the-type) }
+kind1-laws = λ M 𝓤 H A W. record { copies = Laws'12.copy Measured.the-type Laws'.the-copy 𝓤 H A W; lawful = Laws'12.lawful Measured.the-type Laws'.the-laws 𝓤 H A W tt; makes = Laws'12.makes Measured.the-type Laws'.the-plain 𝓤 H A; in-mem = RLocal.mem-whole 𝓤 H A W (Declared.row Measured.the-type); of-mem = RLocal.whole-mem 𝓤 H A W (Declared.row Measured.the-type) }
 
 abbrev kind2 : KValue.Valued
 kind2 = record { ty = Declared'.row Counts.the-type; one = Path'.refl; val = Laws'13.val Counts.the-type Laws'3.the-laws; tells = Laws'13.tells Counts.the-type Laws'3.the-laws; still = Laws'13.still Counts.the-type Laws'3.the-copy Exit.yes; row = Rows'.whole (Declared'.row Counts.the-type); rd = λ x. x; mk = λ x. x }
@@ -138,10 +138,10 @@ abbrev kind2-laws : (M : Type 1) (𝓤 : URA.URA M) (H : Wp.Heap 𝓤) (A : Atom
 kind2-laws = λ M 𝓤 H A W. record { copies = Laws'13.copy Counts.the-type Laws'3.the-copy 𝓤 H A W; lawful = Laws'13.lawful Counts.the-type Laws'3.the-laws 𝓤 H A W; makes = Laws'13.makes Counts.the-type Laws'3.the-plain 𝓤 H A; in-mem = RLocal.mem-whole 𝓤 H A W (Declared'.row Counts.the-type); of-mem = RLocal.whole-mem 𝓤 H A W (Declared'.row Counts.the-type) }
 
 abbrev kind3 : KValue.Valued
-kind3 = record { ty = Declared.row Fit.the-type; one = Path'.refl; val = Laws'12.val Fit.the-type Laws''.the-laws; tells = Laws'12.tells Fit.the-type Laws''.the-laws; still = Laws'12.still Fit.the-type Laws''.the-copy Exit.yes; row = Rows'.whole (Declared.row Fit.the-type); rd = λ x. x; mk = λ x. x }
+kind3 = record { ty = Declared.row Fit.the-type; one = Path'.refl; val = Laws'12.val Fit.the-type Laws.the-laws; tells = Laws'12.tells Fit.the-type Laws.the-laws; still = Laws'12.still Fit.the-type Laws.the-copy Exit.yes; row = Rows'.whole (Declared.row Fit.the-type); rd = λ x. x; mk = λ x. x }
 
 abbrev kind3-laws : (M : Type 1) (𝓤 : URA.URA M) (H : Wp.Heap 𝓤) (A : Atoms.Atoms 𝓤) → Kit.Given 𝓤 H A → KValue.ValuedLaws 𝓤 H A kind3
-kind3-laws = λ M 𝓤 H A W. record { copies = Laws'12.copy Fit.the-type Laws''.the-copy 𝓤 H A W; lawful = Laws'12.lawful Fit.the-type Laws''.the-laws 𝓤 H A W tt; makes = Laws'12.makes Fit.the-type Laws''.the-plain 𝓤 H A; in-mem = RLocal.mem-whole 𝓤 H A W (Declared.row Fit.the-type); of-mem = RLocal.whole-mem 𝓤 H A W (Declared.row Fit.the-type) }
+kind3-laws = λ M 𝓤 H A W. record { copies = Laws'12.copy Fit.the-type Laws.the-copy 𝓤 H A W; lawful = Laws'12.lawful Fit.the-type Laws.the-laws 𝓤 H A W tt; makes = Laws'12.makes Fit.the-type Laws.the-plain 𝓤 H A; in-mem = RLocal.mem-whole 𝓤 H A W (Declared.row Fit.the-type); of-mem = RLocal.whole-mem 𝓤 H A W (Declared.row Fit.the-type) }
 
 abbrev kind4 : KValue.Valued
 kind4 = record { ty = Declared'.row Script.the-type; one = Path'.refl; val = Laws'13.val Script.the-type Laws'10.the-laws; tells = Laws'13.tells Script.the-type Laws'10.the-laws; still = Laws'13.still Script.the-type Laws'10.the-copy Exit.yes; row = Rows'.whole (Declared'.row Script.the-type); rd = λ x. x; mk = λ x. x }
@@ -234,10 +234,10 @@ abbrev b12 : Syntax.Body
 b12 = Syntax.assign (Syntax.place 19 List.[]) (Syntax.rvOpd (Syntax.copy (Syntax.place 5 (List._∷_ (Syntax.field 1) List.[]))))
 
 abbrev b13 : Syntax.Body
-b13 = Syntax.call "read::reading::lent_of" (List._∷_ (Syntax.copy (Syntax.place 16 List.[])) (List._∷_ (Syntax.copy (Syntax.place 17 List.[])) (List._∷_ (Syntax.copy (Syntax.place 18 List.[])) (List._∷_ (Syntax.copy (Syntax.place 19 List.[])) List.[])))) (Syntax.place 10 List.[])
+b13 = Syntax.call "fits::lent_of" (List._∷_ (Syntax.copy (Syntax.place 16 List.[])) (List._∷_ (Syntax.copy (Syntax.place 17 List.[])) (List._∷_ (Syntax.copy (Syntax.place 18 List.[])) (List._∷_ (Syntax.copy (Syntax.place 19 List.[])) List.[])))) (Syntax.place 10 List.[])
 
 abbrev b14 : Syntax.Body
-b14 = Syntax.call "read::reading::room_for" (List._∷_ (Syntax.copy (Syntax.place 9 List.[])) (List._∷_ (Syntax.copy (Syntax.place 10 List.[])) List.[])) (Syntax.place 20 List.[])
+b14 = Syntax.call "fits::room_for" (List._∷_ (Syntax.copy (Syntax.place 9 List.[])) (List._∷_ (Syntax.copy (Syntax.place 10 List.[])) List.[])) (Syntax.place 20 List.[])
 
 abbrev b15 : Syntax.Body
 b15 = Syntax.assign (Syntax.place 11 List.[]) (Syntax.rvOpd (Syntax.copy (Syntax.place 20 (List._∷_ (Syntax.variant 1) (List._∷_ (Syntax.field 1) List.[])))))
@@ -279,7 +279,7 @@ abbrev b27 : Syntax.Body
 b27 = Syntax.assign (Syntax.place 32 List.[]) (Syntax.aggregate (List._∷_ (Syntax.copy (Syntax.place 31 List.[])) (List._∷_ (Syntax.copy (Syntax.place 5 (List._∷_ (Syntax.field 1) List.[]))) List.[])))
 
 abbrev b28 : Syntax.Body
-b28 = Syntax.call "read::reading::read_script" (List._∷_ (Syntax.copy (Syntax.place 1 List.[])) (List._∷_ (Syntax.copy (Syntax.place 24 List.[])) (List._∷_ (Syntax.copy (Syntax.place 9 List.[])) (List._∷_ (Syntax.copy (Syntax.place 26 List.[])) (List._∷_ (Syntax.copy (Syntax.place 28 List.[])) (List._∷_ (Syntax.copy (Syntax.place 30 List.[])) (List._∷_ (Syntax.copy (Syntax.place 32 List.[])) List.[]))))))) (Syntax.place 22 List.[])
+b28 = Syntax.call "entries::scripts::read_script" (List._∷_ (Syntax.copy (Syntax.place 1 List.[])) (List._∷_ (Syntax.copy (Syntax.place 24 List.[])) (List._∷_ (Syntax.copy (Syntax.place 9 List.[])) (List._∷_ (Syntax.copy (Syntax.place 26 List.[])) (List._∷_ (Syntax.copy (Syntax.place 28 List.[])) (List._∷_ (Syntax.copy (Syntax.place 30 List.[])) (List._∷_ (Syntax.copy (Syntax.place 32 List.[])) List.[]))))))) (Syntax.place 22 List.[])
 
 abbrev b29 : Syntax.Body
 b29 = Syntax.assign (Syntax.place 21 List.[]) (Syntax.aggregate (List._∷_ (Syntax.int Syntax.w8 1) (List._∷_ (Syntax.copy (Syntax.place 22 List.[])) List.[])))
@@ -832,7 +832,7 @@ module _ (claims· : Claims) where
   s13 = λ bs. Known.k-enum-known Measured.enum 0 T14 7 λ x. x
 
   abbrev s14 : (bs : List.List Nat.ℕ) → Typed.Gives T16 T17
-  s14 = λ bs. Known.k-known-told Measured.enum Laws.the-laws 0 T16 7 λ x. x
+  s14 = λ bs. Known.k-known-told Measured.enum Laws'.the-laws 0 T16 7 λ x. x
 
   abbrev s15 : (bs : List.List Nat.ℕ) → Typed.Mo T17 → Typed.Mo T18
   s15 = λ bs. RScalar.n-room T17 6 (Syntax.tyArray KeptElem.ty 1024)
@@ -853,7 +853,7 @@ module _ (claims· : Claims) where
   s20 = λ bs. Known.k-enum-known Measured.enum 1 T14 7 λ x. x
 
   abbrev s21 : (bs : List.List Nat.ℕ) → Typed.Gives T23 T24
-  s21 = λ bs. Known.k-known-told Measured.enum Laws.the-laws 1 T23 7 λ x. x
+  s21 = λ bs. Known.k-known-told Measured.enum Laws'.the-laws 1 T23 7 λ x. x
 
   abbrev s22 : (bs : List.List Nat.ℕ) → Typed.Mo T24 → Typed.Mo T25
   s22 = λ bs. Make'.n-make (Declared'.row Counts.the-type) T24 9 λ m. m .1 .1 .1 .1 .1 .1 .1 .0 .0
@@ -898,7 +898,7 @@ module _ (claims· : Claims) where
   s35 = λ bs. Known.k-enum-known Fit.enum 1 T38 20 λ x. x
 
   abbrev s36 : (bs : List.List Nat.ℕ) → Typed.Gives T39 T40
-  s36 = λ bs. Known.k-known-told Fit.enum Laws''.the-laws 1 T39 20 λ x. x
+  s36 = λ bs. Known.k-known-told Fit.enum Laws.the-laws 1 T39 20 λ x. x
 
   abbrev s37 : (bs : List.List Nat.ℕ) → Typed.Mo T40 → Typed.Mo T41
   s37 = λ bs. RScalar.n-room T40 6 (Syntax.tyArray KeptElem.ty 1024)
@@ -1005,7 +1005,7 @@ module _ (claims· : Claims) where
   module _ (Pre· : (κs : Lifetimes.Lfts 5) → Kinds.Dens κs ps → Type 0) (Post· : (κs : Lifetimes.Lfts 5) → (a : Kinds.Dens κs ps) → Kinds.Plain 5 ps r κs) where
     module _ (M : Type 1) where
       abbrev pub Closed : Type 2
-      Closed = (𝓤 : URA.URA M) (H : Wp.Heap 𝓤) (A : Atoms.Atoms 𝓤) (W : Kit.Given 𝓤 H A) (𝓣 : Wp.Tables 𝓤 H) (known0 : Plain.Known 𝓤 H A W 𝓣 0 ps·0 r·0 (claims· .0) (claims· .1) "kept::blank") (known1 : Plain.Known 𝓤 H A W 𝓣 2 ps·1 r·1 (claims· .2) (claims· .3) "parse::measure::measure_keeping") (known2 : Plain.Known 𝓤 H A W 𝓣 0 ps·2 r·2 (claims· .4) (claims· .5) "read::reading::lent_of") (known3 : Plain.Known 𝓤 H A W 𝓣 0 ps·3 r·3 (claims· .6) (claims· .7) "read::reading::room_for") (known4 : Plain.Known 𝓤 H A W 𝓣 6 ps·4 r·4 (claims· .8) (claims· .9) "read::reading::read_script") → Statement.Triple 𝓤 (Wp.WpFn 𝓤 H (𝓣 .C) (𝓣 .Λ) (Function.fnOf 5 ps r xs m hs body)) (Function.plainOf 𝓤 H A 5 ps r Pre· Post·)
+      Closed = (𝓤 : URA.URA M) (H : Wp.Heap 𝓤) (A : Atoms.Atoms 𝓤) (W : Kit.Given 𝓤 H A) (𝓣 : Wp.Tables 𝓤 H) (known0 : Plain.Known 𝓤 H A W 𝓣 0 ps·0 r·0 (claims· .0) (claims· .1) "kept::blank") (known1 : Plain.Known 𝓤 H A W 𝓣 2 ps·1 r·1 (claims· .2) (claims· .3) "parse::measure::measure_keeping") (known2 : Plain.Known 𝓤 H A W 𝓣 0 ps·2 r·2 (claims· .4) (claims· .5) "fits::lent_of") (known3 : Plain.Known 𝓤 H A W 𝓣 0 ps·3 r·3 (claims· .6) (claims· .7) "fits::room_for") (known4 : Plain.Known 𝓤 H A W 𝓣 6 ps·4 r·4 (claims· .8) (claims· .9) "entries::scripts::read_script") → Statement.Triple 𝓤 (Wp.WpFn 𝓤 H (𝓣 .C) (𝓣 .Λ) (Function.fnOf 5 ps r xs m hs body)) (Function.plainOf 𝓤 H A 5 ps r Pre· Post·)
 
     module _ where
       abbrev at0 : (bs : List.List Nat.ℕ) → Typed.TF T20 O1
@@ -1274,7 +1274,7 @@ module _ (claims· : Claims) where
 
       module _ {M : Type 1} (𝓤 : URA.URA M) (H : Wp.Heap 𝓤) (A : Atoms.Atoms 𝓤) (W : Kit.Given 𝓤 H A) (𝓣 : Wp.Tables 𝓤 H) where
         abbrev Knowns : Type 1
-        Knowns = Plain.Known 𝓤 H A W 𝓣 0 ps·0 r·0 (claims· .0) (claims· .1) "kept::blank" × Plain.Known 𝓤 H A W 𝓣 2 ps·1 r·1 (claims· .2) (claims· .3) "parse::measure::measure_keeping" × Plain.Known 𝓤 H A W 𝓣 0 ps·2 r·2 (claims· .4) (claims· .5) "read::reading::lent_of" × Plain.Known 𝓤 H A W 𝓣 0 ps·3 r·3 (claims· .6) (claims· .7) "read::reading::room_for" × Plain.Known 𝓤 H A W 𝓣 6 ps·4 r·4 (claims· .8) (claims· .9) "read::reading::read_script"
+        Knowns = Plain.Known 𝓤 H A W 𝓣 0 ps·0 r·0 (claims· .0) (claims· .1) "kept::blank" × Plain.Known 𝓤 H A W 𝓣 2 ps·1 r·1 (claims· .2) (claims· .3) "parse::measure::measure_keeping" × Plain.Known 𝓤 H A W 𝓣 0 ps·2 r·2 (claims· .4) (claims· .5) "fits::lent_of" × Plain.Known 𝓤 H A W 𝓣 0 ps·3 r·3 (claims· .6) (claims· .7) "fits::room_for" × Plain.Known 𝓤 H A W 𝓣 6 ps·4 r·4 (claims· .8) (claims· .9) "entries::scripts::read_script"
 
       module _ (κs : Lifetimes.Lfts 5) (qs : Lifetimes.Shares 5) where
         abbrev g37 : List.List Row.Entry
@@ -1591,31 +1591,31 @@ module _ (claims· : Claims) where
           E = Frame.EnvOf 𝓤 H (List._∷_ (Kinds.tyR r) (Enter.tysP ps xs)) bs
 
           d0 : Typed.Typed 𝓤 H A 𝓣 E G20 b6 Δ1 (at0 bs)
-          d0 = Typed.s-typed 𝓤 H A W 𝓣 E G20 b6 Δ1 (λ Ψ. Typed.pass T20 T21 (s18 bs) (Typed.pass T21 T22 (s19 bs) Ψ)) tt (Typed.g-post 𝓤 H A W 𝓣 E G20 G21 G22 b6 (Typed.pass T20 T21 (s18 bs)) (Typed.pass T21 T22 (s19 bs)) (Make.t-enum-make-wt 𝓤 H A W E 𝓣 Answer.the-type Laws'.the-laws Laws'.the-plain tt G20 15 (List._∷_ (RScalar.oInt Syntax.w8 0) (List._∷_ (RScalar.oAt 8 τ1 (Laws'13.val Refusal.the-type Laws'9.the-laws)) List.[])) (λ m. Answer.enum .make (Logic.inl (m .1 .1 .1 .1 .1 .1 .1 .1 .0, tt))) (Reads'.room-gone 𝓤 H A τ3) (tt, ((Reads.reads-struct 𝓤 H A W Refusal.the-type Laws'9.the-laws, Path'.refl), tt)) Path'.refl (λ m wa. Make.made-val Answer.the-type Laws'.the-laws (List._∷_ (Laws'13.val Refusal.the-type Laws'9.the-laws (m .1 .1 .1 .1 .1 .1 .1 .1 .0)) List.[]) (Answer.enum .make (Logic.inl (m .1 .1 .1 .1 .1 .1 .1 .1 .0, tt))) (Signed.made-wt Refusal.the-field Laws'9.the-field-laws (Make'.struct-wt Refusal.the-type Laws'9.the-laws (Make'.u64-wt, (Make'.u64-wt, tt))) (Refusal.the-type .to (m .1 .1 .1 .1 .1 .1 .1 .1 .0)), tt) (wa .1)) λ m wa. Make.made-is Answer.the-type Laws'.the-laws (List._∷_ (Laws'13.val Refusal.the-type Laws'9.the-laws (m .1 .1 .1 .1 .1 .1 .1 .1 .0)) List.[]) (Answer.enum .make (Logic.inl (m .1 .1 .1 .1 .1 .1 .1 .1 .0, tt))) (Signed.made-wt Refusal.the-field Laws'9.the-field-laws (Make'.struct-wt Refusal.the-type Laws'9.the-laws (Make'.u64-wt, (Make'.u64-wt, tt))) (Refusal.the-type .to (m .1 .1 .1 .1 .1 .1 .1 .1 .0)), tt) (wa .1)) (RScalar.g-room 𝓤 H A W E G21 8 τ1 (RLocal.room-whole 𝓤 H A W (Declared'.row Refusal.the-type) τ1 Path'.refl)))
+          d0 = Typed.s-typed 𝓤 H A W 𝓣 E G20 b6 Δ1 (λ Ψ. Typed.pass T20 T21 (s18 bs) (Typed.pass T21 T22 (s19 bs) Ψ)) tt (Typed.g-post 𝓤 H A W 𝓣 E G20 G21 G22 b6 (Typed.pass T20 T21 (s18 bs)) (Typed.pass T21 T22 (s19 bs)) (Make.t-enum-make-wt 𝓤 H A W E 𝓣 Answer.the-type Laws''.the-laws Laws''.the-plain tt G20 15 (List._∷_ (RScalar.oInt Syntax.w8 0) (List._∷_ (RScalar.oAt 8 τ1 (Laws'13.val Refusal.the-type Laws'9.the-laws)) List.[])) (λ m. Answer.enum .make (Logic.inl (m .1 .1 .1 .1 .1 .1 .1 .1 .0, tt))) (Reads'.room-gone 𝓤 H A τ3) (tt, ((Reads.reads-struct 𝓤 H A W Refusal.the-type Laws'9.the-laws, Path'.refl), tt)) Path'.refl (λ m wa. Make.made-val Answer.the-type Laws''.the-laws (List._∷_ (Laws'13.val Refusal.the-type Laws'9.the-laws (m .1 .1 .1 .1 .1 .1 .1 .1 .0)) List.[]) (Answer.enum .make (Logic.inl (m .1 .1 .1 .1 .1 .1 .1 .1 .0, tt))) (Signed.made-wt Refusal.the-field Laws'9.the-field-laws (Make'.struct-wt Refusal.the-type Laws'9.the-laws (Make'.u64-wt, (Make'.u64-wt, tt))) (Refusal.the-type .to (m .1 .1 .1 .1 .1 .1 .1 .1 .0)), tt) (wa .1)) λ m wa. Make.made-is Answer.the-type Laws''.the-laws (List._∷_ (Laws'13.val Refusal.the-type Laws'9.the-laws (m .1 .1 .1 .1 .1 .1 .1 .1 .0)) List.[]) (Answer.enum .make (Logic.inl (m .1 .1 .1 .1 .1 .1 .1 .1 .0, tt))) (Signed.made-wt Refusal.the-field Laws'9.the-field-laws (Make'.struct-wt Refusal.the-type Laws'9.the-laws (Make'.u64-wt, (Make'.u64-wt, tt))) (Refusal.the-type .to (m .1 .1 .1 .1 .1 .1 .1 .1 .0)), tt) (wa .1)) (RScalar.g-room 𝓤 H A W E G21 8 τ1 (RLocal.room-whole 𝓤 H A W (Declared'.row Refusal.the-type) τ1 Path'.refl)))
 
           d1 : Typed.Typed 𝓤 H A 𝓣 E G19 b6 Δ1 (at1 bs)
           d1 = Typed.g-pre 𝓤 H A W 𝓣 E G19 G20 b6 Δ1 (Typed.pass T19 T20 (s17 bs)) (at0 bs) (RScalar.g-room 𝓤 H A W E G19 7 τ0 (RLocal.room-whole 𝓤 H A W (Known.Known Measured.enum 0) τ0 Path'.refl)) d0
 
           d2 : Typed.Typed 𝓤 H A 𝓣 E G18 b7 Δ1 (at2 bs)
-          d2 = Typed.s-seq 𝓤 H A W 𝓣 E G18 G19 b5 b6 Δ1 (Typed.pass T18 T19 (s16 bs)) (at1 bs) (CopyOut.t-copy-told 𝓤 H A W E 𝓣 (Declared'.row Refusal.the-type) Path'.refl (Laws'13.val Refusal.the-type Laws'9.the-laws) (Laws'13.lawful Refusal.the-type Laws'9.the-laws 𝓤 H A W) (Laws'13.makes Refusal.the-type Laws'9.the-plain 𝓤 H A) G18 8 (RScalar.oFld 7 (List._∷_ (Syntax.variant 0) (List._∷_ (Syntax.field 1) List.[])) τ1 8 λ v. Laws'13.val Refusal.the-type Laws'9.the-laws (v .0)) (λ m. m .1 .1 .1 .1 .1 .1 .1 .0 .0) (λ m. Laws'12.Fields (Declared.variants Measured.the-type) (Laws'12.spellss (Measured.enum .parts) Laws.the-laws) (Measured.the-type .to (Known.at Measured.enum 0 (m .1 .1 .1 .1 .1 .1 .1 .0)))) (Reads'.room-gone 𝓤 H A τ1) (Match.reads-payload 𝓤 H A W Measured.enum Laws.the-laws 0 Path'.refl Path'.refl (λ v. Val.vcons (Laws'13.val Refusal.the-type Laws'9.the-laws (v .0)) Val.vnil) (λ v. Path'.refl) 0 τ1 8 Path'.refl, Path'.refl) Path'.refl (λ ρ m. Make'.tells-row 𝓤 H A W E ρ (Row.out 8 (G18 .locals)) m 7 (Laws'12.Fields (Declared.variants Measured.the-type) (Laws'12.spellss (Measured.enum .parts) Laws.the-laws) (Measured.the-type .to (Known.at Measured.enum 0 (m .1 .1 .1 .1 .1 .1 .1 .0)))) (Known.known-is 𝓤 H A W E Measured.enum 0 Laws.the-laws ρ 7 (m .1 .1 .1 .1 .1 .1 .1 .0))) (λ m k wa. Path'.refl) λ m k wa. k .0) d1
+          d2 = Typed.s-seq 𝓤 H A W 𝓣 E G18 G19 b5 b6 Δ1 (Typed.pass T18 T19 (s16 bs)) (at1 bs) (CopyOut.t-copy-told 𝓤 H A W E 𝓣 (Declared'.row Refusal.the-type) Path'.refl (Laws'13.val Refusal.the-type Laws'9.the-laws) (Laws'13.lawful Refusal.the-type Laws'9.the-laws 𝓤 H A W) (Laws'13.makes Refusal.the-type Laws'9.the-plain 𝓤 H A) G18 8 (RScalar.oFld 7 (List._∷_ (Syntax.variant 0) (List._∷_ (Syntax.field 1) List.[])) τ1 8 λ v. Laws'13.val Refusal.the-type Laws'9.the-laws (v .0)) (λ m. m .1 .1 .1 .1 .1 .1 .1 .0 .0) (λ m. Laws'12.Fields (Declared.variants Measured.the-type) (Laws'12.spellss (Measured.enum .parts) Laws'.the-laws) (Measured.the-type .to (Known.at Measured.enum 0 (m .1 .1 .1 .1 .1 .1 .1 .0)))) (Reads'.room-gone 𝓤 H A τ1) (Match.reads-payload 𝓤 H A W Measured.enum Laws'.the-laws 0 Path'.refl Path'.refl (λ v. Val.vcons (Laws'13.val Refusal.the-type Laws'9.the-laws (v .0)) Val.vnil) (λ v. Path'.refl) 0 τ1 8 Path'.refl, Path'.refl) Path'.refl (λ ρ m. Make'.tells-row 𝓤 H A W E ρ (Row.out 8 (G18 .locals)) m 7 (Laws'12.Fields (Declared.variants Measured.the-type) (Laws'12.spellss (Measured.enum .parts) Laws'.the-laws) (Measured.the-type .to (Known.at Measured.enum 0 (m .1 .1 .1 .1 .1 .1 .1 .0)))) (Known.known-is 𝓤 H A W E Measured.enum 0 Laws'.the-laws ρ 7 (m .1 .1 .1 .1 .1 .1 .1 .0))) (λ m k wa. Path'.refl) λ m k wa. k .0) d1
 
           d3 : Typed.Typed 𝓤 H A 𝓣 E G17 b7 Δ1 (at3 bs)
           d3 = Typed.g-pre 𝓤 H A W 𝓣 E G17 G18 b7 Δ1 (Typed.pass T17 T18 (s15 bs)) (at2 bs) (RScalar.g-room 𝓤 H A W E G17 6 (Syntax.tyArray KeptElem.ty 1024) (AInit.room-arr 𝓤 H A W KeptElem.R 1024 0 1024 Path'.refl)) d2
 
           d4 : Typed.Typed 𝓤 H A 𝓣 E G16 b7 Δ1 (at4 bs)
-          d4 = Typed.g-pre 𝓤 H A W 𝓣 E G16 G17 b7 Δ1 (Typed.give (s14 bs)) (at3 bs) (Known.g-known-told 𝓤 H A W E Measured.enum 0 G16 7 Laws.the-laws (λ x. x) (Reads'.as-is 𝓤 H A (Rows'.whole (Known.Known Measured.enum 0)))) d3
+          d4 = Typed.g-pre 𝓤 H A W 𝓣 E G16 G17 b7 Δ1 (Typed.give (s14 bs)) (at3 bs) (Known.g-known-told 𝓤 H A W E Measured.enum 0 G16 7 Laws'.the-laws (λ x. x) (Reads'.as-is 𝓤 H A (Rows'.whole (Known.Known Measured.enum 0)))) d3
 
           d5 : Typed.Typed 𝓤 H A 𝓣 E G15 b7 Δ1 (at5 bs)
           d5 = Typed.g-pre 𝓤 H A W 𝓣 E G15 G16 b7 Δ1 (Typed.both (s13 bs)) (at4 bs) (Known.g-enum-known 𝓤 H A W E Measured.enum 0 G15 7 (λ x. x) (Reads'.as-is 𝓤 H A (Rows'.whole (Declared.row Measured.the-type)))) d4
 
           d6 : Typed.Typed 𝓤 H A 𝓣 E G44 b16 Δ2 (at6 bs)
-          d6 = Typed.s-typed 𝓤 H A W 𝓣 E G44 b16 Δ2 (λ Ψ. Typed.pass T44 T45 (s41 bs) (Typed.pass T45 T46 (s42 bs) Ψ)) tt (Typed.g-post 𝓤 H A W 𝓣 E G44 G45 G46 b16 (Typed.pass T44 T45 (s41 bs)) (Typed.pass T45 T46 (s42 bs)) (Make.t-enum-make-wt 𝓤 H A W E 𝓣 Answer.the-type Laws'.the-laws Laws'.the-plain tt G44 21 (List._∷_ (RScalar.oInt Syntax.w8 0) (List._∷_ (RScalar.oAt 11 τ1 (Laws'13.val Refusal.the-type Laws'9.the-laws)) List.[])) (λ m. Answer.enum .make (Logic.inl (m .1 .1 .1 .1 .1 .1 .1 .1 .1 .1 .1 .0, tt))) (Reads'.room-gone 𝓤 H A τ3) (tt, ((Reads.reads-struct 𝓤 H A W Refusal.the-type Laws'9.the-laws, Path'.refl), tt)) Path'.refl (λ m wa. Make.made-val Answer.the-type Laws'.the-laws (List._∷_ (Laws'13.val Refusal.the-type Laws'9.the-laws (m .1 .1 .1 .1 .1 .1 .1 .1 .1 .1 .1 .0)) List.[]) (Answer.enum .make (Logic.inl (m .1 .1 .1 .1 .1 .1 .1 .1 .1 .1 .1 .0, tt))) (Signed.made-wt Refusal.the-field Laws'9.the-field-laws (Make'.struct-wt Refusal.the-type Laws'9.the-laws (Make'.u64-wt, (Make'.u64-wt, tt))) (Refusal.the-type .to (m .1 .1 .1 .1 .1 .1 .1 .1 .1 .1 .1 .0)), tt) (wa .1)) λ m wa. Make.made-is Answer.the-type Laws'.the-laws (List._∷_ (Laws'13.val Refusal.the-type Laws'9.the-laws (m .1 .1 .1 .1 .1 .1 .1 .1 .1 .1 .1 .0)) List.[]) (Answer.enum .make (Logic.inl (m .1 .1 .1 .1 .1 .1 .1 .1 .1 .1 .1 .0, tt))) (Signed.made-wt Refusal.the-field Laws'9.the-field-laws (Make'.struct-wt Refusal.the-type Laws'9.the-laws (Make'.u64-wt, (Make'.u64-wt, tt))) (Refusal.the-type .to (m .1 .1 .1 .1 .1 .1 .1 .1 .1 .1 .1 .0)), tt) (wa .1)) (RScalar.g-room 𝓤 H A W E G45 11 τ1 (RLocal.room-whole 𝓤 H A W (Declared'.row Refusal.the-type) τ1 Path'.refl)))
+          d6 = Typed.s-typed 𝓤 H A W 𝓣 E G44 b16 Δ2 (λ Ψ. Typed.pass T44 T45 (s41 bs) (Typed.pass T45 T46 (s42 bs) Ψ)) tt (Typed.g-post 𝓤 H A W 𝓣 E G44 G45 G46 b16 (Typed.pass T44 T45 (s41 bs)) (Typed.pass T45 T46 (s42 bs)) (Make.t-enum-make-wt 𝓤 H A W E 𝓣 Answer.the-type Laws''.the-laws Laws''.the-plain tt G44 21 (List._∷_ (RScalar.oInt Syntax.w8 0) (List._∷_ (RScalar.oAt 11 τ1 (Laws'13.val Refusal.the-type Laws'9.the-laws)) List.[])) (λ m. Answer.enum .make (Logic.inl (m .1 .1 .1 .1 .1 .1 .1 .1 .1 .1 .1 .0, tt))) (Reads'.room-gone 𝓤 H A τ3) (tt, ((Reads.reads-struct 𝓤 H A W Refusal.the-type Laws'9.the-laws, Path'.refl), tt)) Path'.refl (λ m wa. Make.made-val Answer.the-type Laws''.the-laws (List._∷_ (Laws'13.val Refusal.the-type Laws'9.the-laws (m .1 .1 .1 .1 .1 .1 .1 .1 .1 .1 .1 .0)) List.[]) (Answer.enum .make (Logic.inl (m .1 .1 .1 .1 .1 .1 .1 .1 .1 .1 .1 .0, tt))) (Signed.made-wt Refusal.the-field Laws'9.the-field-laws (Make'.struct-wt Refusal.the-type Laws'9.the-laws (Make'.u64-wt, (Make'.u64-wt, tt))) (Refusal.the-type .to (m .1 .1 .1 .1 .1 .1 .1 .1 .1 .1 .1 .0)), tt) (wa .1)) λ m wa. Make.made-is Answer.the-type Laws''.the-laws (List._∷_ (Laws'13.val Refusal.the-type Laws'9.the-laws (m .1 .1 .1 .1 .1 .1 .1 .1 .1 .1 .1 .0)) List.[]) (Answer.enum .make (Logic.inl (m .1 .1 .1 .1 .1 .1 .1 .1 .1 .1 .1 .0, tt))) (Signed.made-wt Refusal.the-field Laws'9.the-field-laws (Make'.struct-wt Refusal.the-type Laws'9.the-laws (Make'.u64-wt, (Make'.u64-wt, tt))) (Refusal.the-type .to (m .1 .1 .1 .1 .1 .1 .1 .1 .1 .1 .1 .0)), tt) (wa .1)) (RScalar.g-room 𝓤 H A W E G45 11 τ1 (RLocal.room-whole 𝓤 H A W (Declared'.row Refusal.the-type) τ1 Path'.refl)))
 
           d7 : Typed.Typed 𝓤 H A 𝓣 E G43 b16 Δ2 (at7 bs)
           d7 = Typed.g-pre 𝓤 H A W 𝓣 E G43 G44 b16 Δ2 (Typed.pass T43 T44 (s40 bs)) (at6 bs) (RScalar.g-room 𝓤 H A W E G43 20 τ4 (RLocal.room-whole 𝓤 H A W (Known.Known Fit.enum 1) τ4 Path'.refl)) d6
 
           d8 : Typed.Typed 𝓤 H A 𝓣 E G42 b17 Δ2 (at8 bs)
-          d8 = Typed.s-seq 𝓤 H A W 𝓣 E G42 G43 b15 b16 Δ2 (Typed.pass T42 T43 (s39 bs)) (at7 bs) (CopyOut.t-copy-told 𝓤 H A W E 𝓣 (Declared'.row Refusal.the-type) Path'.refl (Laws'13.val Refusal.the-type Laws'9.the-laws) (Laws'13.lawful Refusal.the-type Laws'9.the-laws 𝓤 H A W) (Laws'13.makes Refusal.the-type Laws'9.the-plain 𝓤 H A) G42 11 (RScalar.oFld 20 (List._∷_ (Syntax.variant 1) (List._∷_ (Syntax.field 1) List.[])) τ1 8 λ v. Laws'13.val Refusal.the-type Laws'9.the-laws (v .0)) (λ m. m .1 .1 .1 .1 .1 .1 .1 .1 .1 .1 .1 .1 .1 .1 .1 .1 .1 .1 .1 .1 .0 .0) (λ m. Laws'12.Fields (Declared.variants Fit.the-type) (Laws'12.spellss (Fit.enum .parts) Laws''.the-laws) (Fit.the-type .to (Known.at Fit.enum 1 (m .1 .1 .1 .1 .1 .1 .1 .1 .1 .1 .1 .1 .1 .1 .1 .1 .1 .1 .1 .1 .0)))) (Reads'.room-gone 𝓤 H A τ1) (Match.reads-payload 𝓤 H A W Fit.enum Laws''.the-laws 1 Path'.refl Path'.refl (λ v. Val.vcons (Laws'13.val Refusal.the-type Laws'9.the-laws (v .0)) Val.vnil) (λ v. Path'.refl) 0 τ1 8 Path'.refl, Path'.refl) Path'.refl (λ ρ m. Make'.tells-row 𝓤 H A W E ρ (Row.out 11 (G42 .locals)) m 20 (Laws'12.Fields (Declared.variants Fit.the-type) (Laws'12.spellss (Fit.enum .parts) Laws''.the-laws) (Fit.the-type .to (Known.at Fit.enum 1 (m .1 .1 .1 .1 .1 .1 .1 .1 .1 .1 .1 .1 .1 .1 .1 .1 .1 .1 .1 .1 .0)))) (Known.known-is 𝓤 H A W E Fit.enum 1 Laws''.the-laws ρ 20 (m .1 .1 .1 .1 .1 .1 .1 .1 .1 .1 .1 .1 .1 .1 .1 .1 .1 .1 .1 .1 .0))) (λ m k wa. Path'.refl) λ m k wa. k .0) d7
+          d8 = Typed.s-seq 𝓤 H A W 𝓣 E G42 G43 b15 b16 Δ2 (Typed.pass T42 T43 (s39 bs)) (at7 bs) (CopyOut.t-copy-told 𝓤 H A W E 𝓣 (Declared'.row Refusal.the-type) Path'.refl (Laws'13.val Refusal.the-type Laws'9.the-laws) (Laws'13.lawful Refusal.the-type Laws'9.the-laws 𝓤 H A W) (Laws'13.makes Refusal.the-type Laws'9.the-plain 𝓤 H A) G42 11 (RScalar.oFld 20 (List._∷_ (Syntax.variant 1) (List._∷_ (Syntax.field 1) List.[])) τ1 8 λ v. Laws'13.val Refusal.the-type Laws'9.the-laws (v .0)) (λ m. m .1 .1 .1 .1 .1 .1 .1 .1 .1 .1 .1 .1 .1 .1 .1 .1 .1 .1 .1 .1 .0 .0) (λ m. Laws'12.Fields (Declared.variants Fit.the-type) (Laws'12.spellss (Fit.enum .parts) Laws.the-laws) (Fit.the-type .to (Known.at Fit.enum 1 (m .1 .1 .1 .1 .1 .1 .1 .1 .1 .1 .1 .1 .1 .1 .1 .1 .1 .1 .1 .1 .0)))) (Reads'.room-gone 𝓤 H A τ1) (Match.reads-payload 𝓤 H A W Fit.enum Laws.the-laws 1 Path'.refl Path'.refl (λ v. Val.vcons (Laws'13.val Refusal.the-type Laws'9.the-laws (v .0)) Val.vnil) (λ v. Path'.refl) 0 τ1 8 Path'.refl, Path'.refl) Path'.refl (λ ρ m. Make'.tells-row 𝓤 H A W E ρ (Row.out 11 (G42 .locals)) m 20 (Laws'12.Fields (Declared.variants Fit.the-type) (Laws'12.spellss (Fit.enum .parts) Laws.the-laws) (Fit.the-type .to (Known.at Fit.enum 1 (m .1 .1 .1 .1 .1 .1 .1 .1 .1 .1 .1 .1 .1 .1 .1 .1 .1 .1 .1 .1 .0)))) (Known.known-is 𝓤 H A W E Fit.enum 1 Laws.the-laws ρ 20 (m .1 .1 .1 .1 .1 .1 .1 .1 .1 .1 .1 .1 .1 .1 .1 .1 .1 .1 .1 .1 .0))) (λ m k wa. Path'.refl) λ m k wa. k .0) d7
 
           d9 : Typed.Typed 𝓤 H A 𝓣 E G41 b17 Δ2 (at9 bs)
           d9 = Typed.g-pre 𝓤 H A W 𝓣 E G41 G42 b17 Δ2 (Typed.pass T41 T42 (s38 bs)) (at8 bs) (RScalar.g-room 𝓤 H A W E G41 9 τ2 (RLocal.room-whole 𝓤 H A W (Declared'.row Counts.the-type) τ2 Path'.refl)) d8
@@ -1624,13 +1624,13 @@ module _ (claims· : Claims) where
           d10 = Typed.g-pre 𝓤 H A W 𝓣 E G40 G41 b17 Δ2 (Typed.pass T40 T41 (s37 bs)) (at9 bs) (RScalar.g-room 𝓤 H A W E G40 6 (Syntax.tyArray KeptElem.ty 1024) (AInit.room-arr 𝓤 H A W KeptElem.R 1024 0 1024 Path'.refl)) d9
 
           d11 : Typed.Typed 𝓤 H A 𝓣 E G39 b17 Δ2 (at11 bs)
-          d11 = Typed.g-pre 𝓤 H A W 𝓣 E G39 G40 b17 Δ2 (Typed.give (s36 bs)) (at10 bs) (Known.g-known-told 𝓤 H A W E Fit.enum 1 G39 20 Laws''.the-laws (λ x. x) (Reads'.as-is 𝓤 H A (Rows'.whole (Known.Known Fit.enum 1)))) d10
+          d11 = Typed.g-pre 𝓤 H A W 𝓣 E G39 G40 b17 Δ2 (Typed.give (s36 bs)) (at10 bs) (Known.g-known-told 𝓤 H A W E Fit.enum 1 G39 20 Laws.the-laws (λ x. x) (Reads'.as-is 𝓤 H A (Rows'.whole (Known.Known Fit.enum 1)))) d10
 
           d12 : Typed.Typed 𝓤 H A 𝓣 E G38 b17 Δ2 (at12 bs)
           d12 = Typed.g-pre 𝓤 H A W 𝓣 E G38 G39 b17 Δ2 (Typed.both (s35 bs)) (at11 bs) (Known.g-enum-known 𝓤 H A W E Fit.enum 1 G38 20 (λ x. x) (Reads'.as-is 𝓤 H A (Rows'.whole (Declared.row Fit.the-type)))) d11
 
           d13 : Typed.Typed 𝓤 H A 𝓣 E G83 b29 Δ2 (at13 bs)
-          d13 = Typed.s-typed 𝓤 H A W 𝓣 E G83 b29 Δ2 (λ Ψ. Typed.pass T82 T84 (s80 bs) (Typed.pass T84 T85 (s81 bs) Ψ)) tt (Typed.g-post 𝓤 H A W 𝓣 E G83 G84 G85 b29 (Typed.pass T82 T84 (s80 bs)) (Typed.pass T84 T85 (s81 bs)) (Make.t-enum-make-wt 𝓤 H A W E 𝓣 Answer.the-type Laws'.the-laws Laws'.the-plain tt G83 21 (List._∷_ (RScalar.oInt Syntax.w8 1) (List._∷_ (RScalar.oAt 22 τ5 (Laws'13.val Script.the-type Laws'10.the-laws)) List.[])) (λ m. Answer.enum .make (Logic.inr (Logic.inl (m .1 .1 .1 .1 .1 .1 .1 .1 .1 .1 .1 .1 .1 .1 .1 .1 .1 .1 .1 .1 .1 .1 .0, tt)))) (Reads'.room-gone 𝓤 H A τ3) (tt, ((Reads.reads-struct 𝓤 H A W Script.the-type Laws'10.the-laws, Path'.refl), tt)) Path'.refl (λ m wa. Make.made-val Answer.the-type Laws'.the-laws (List._∷_ (Laws'13.val Script.the-type Laws'10.the-laws (m .1 .1 .1 .1 .1 .1 .1 .1 .1 .1 .1 .1 .1 .1 .1 .1 .1 .1 .1 .1 .1 .1 .0)) List.[]) (Answer.enum .make (Logic.inr (Logic.inl (m .1 .1 .1 .1 .1 .1 .1 .1 .1 .1 .1 .1 .1 .1 .1 .1 .1 .1 .1 .1 .1 .1 .0, tt)))) (Signed.made-wt Script.the-field Laws'10.the-field-laws (Make'.struct-wt Script.the-type Laws'10.the-laws (Make'.struct-wt Preamble.the-type Laws'8.the-laws (Make'.struct-wt ProtocolVersion.the-type Laws'11.the-laws (Make'.u16-wt, (Make'.u8-wt, tt)), (Make'.struct-wt Items.the-type Laws'4.the-laws (Make'.u64-wt, (Make'.u64-wt, tt)), (Make'.struct-wt Items.the-type Laws'4.the-laws (Make'.u64-wt, (Make'.u64-wt, tt)), (Whole.enum-wt Maybe.the-type Laws'5.the-laws (tt, ((Make'.struct-wt Place.the-type Laws'7.the-laws (Make'.u64-wt, (Make'.u64-wt, tt)), tt), tt)), (Whole.enum-wt Maybe.the-type Laws'5.the-laws (tt, ((Make'.struct-wt Place.the-type Laws'7.the-laws (Make'.u64-wt, (Make'.u64-wt, tt)), tt), tt)), (Whole.enum-wt MaybeItems.the-type Laws'6.the-laws (tt, ((Make'.struct-wt Items.the-type Laws'4.the-laws (Make'.u64-wt, (Make'.u64-wt, tt)), tt), tt)), tt)))))), (Make'.struct-wt Counts.the-type Laws'3.the-laws (Make'.u64-wt, (Make'.u64-wt, (Make'.u64-wt, (Make'.u64-wt, tt)))), tt))) (Script.the-type .to (m .1 .1 .1 .1 .1 .1 .1 .1 .1 .1 .1 .1 .1 .1 .1 .1 .1 .1 .1 .1 .1 .1 .0)), tt) (wa .1)) λ m wa. Make.made-is Answer.the-type Laws'.the-laws (List._∷_ (Laws'13.val Script.the-type Laws'10.the-laws (m .1 .1 .1 .1 .1 .1 .1 .1 .1 .1 .1 .1 .1 .1 .1 .1 .1 .1 .1 .1 .1 .1 .0)) List.[]) (Answer.enum .make (Logic.inr (Logic.inl (m .1 .1 .1 .1 .1 .1 .1 .1 .1 .1 .1 .1 .1 .1 .1 .1 .1 .1 .1 .1 .1 .1 .0, tt)))) (Signed.made-wt Script.the-field Laws'10.the-field-laws (Make'.struct-wt Script.the-type Laws'10.the-laws (Make'.struct-wt Preamble.the-type Laws'8.the-laws (Make'.struct-wt ProtocolVersion.the-type Laws'11.the-laws (Make'.u16-wt, (Make'.u8-wt, tt)), (Make'.struct-wt Items.the-type Laws'4.the-laws (Make'.u64-wt, (Make'.u64-wt, tt)), (Make'.struct-wt Items.the-type Laws'4.the-laws (Make'.u64-wt, (Make'.u64-wt, tt)), (Whole.enum-wt Maybe.the-type Laws'5.the-laws (tt, ((Make'.struct-wt Place.the-type Laws'7.the-laws (Make'.u64-wt, (Make'.u64-wt, tt)), tt), tt)), (Whole.enum-wt Maybe.the-type Laws'5.the-laws (tt, ((Make'.struct-wt Place.the-type Laws'7.the-laws (Make'.u64-wt, (Make'.u64-wt, tt)), tt), tt)), (Whole.enum-wt MaybeItems.the-type Laws'6.the-laws (tt, ((Make'.struct-wt Items.the-type Laws'4.the-laws (Make'.u64-wt, (Make'.u64-wt, tt)), tt), tt)), tt)))))), (Make'.struct-wt Counts.the-type Laws'3.the-laws (Make'.u64-wt, (Make'.u64-wt, (Make'.u64-wt, (Make'.u64-wt, tt)))), tt))) (Script.the-type .to (m .1 .1 .1 .1 .1 .1 .1 .1 .1 .1 .1 .1 .1 .1 .1 .1 .1 .1 .1 .1 .1 .1 .0)), tt) (wa .1)) (RScalar.g-room 𝓤 H A W E G84 22 τ5 (RLocal.room-whole 𝓤 H A W (Declared'.row Script.the-type) τ5 Path'.refl)))
+          d13 = Typed.s-typed 𝓤 H A W 𝓣 E G83 b29 Δ2 (λ Ψ. Typed.pass T82 T84 (s80 bs) (Typed.pass T84 T85 (s81 bs) Ψ)) tt (Typed.g-post 𝓤 H A W 𝓣 E G83 G84 G85 b29 (Typed.pass T82 T84 (s80 bs)) (Typed.pass T84 T85 (s81 bs)) (Make.t-enum-make-wt 𝓤 H A W E 𝓣 Answer.the-type Laws''.the-laws Laws''.the-plain tt G83 21 (List._∷_ (RScalar.oInt Syntax.w8 1) (List._∷_ (RScalar.oAt 22 τ5 (Laws'13.val Script.the-type Laws'10.the-laws)) List.[])) (λ m. Answer.enum .make (Logic.inr (Logic.inl (m .1 .1 .1 .1 .1 .1 .1 .1 .1 .1 .1 .1 .1 .1 .1 .1 .1 .1 .1 .1 .1 .1 .0, tt)))) (Reads'.room-gone 𝓤 H A τ3) (tt, ((Reads.reads-struct 𝓤 H A W Script.the-type Laws'10.the-laws, Path'.refl), tt)) Path'.refl (λ m wa. Make.made-val Answer.the-type Laws''.the-laws (List._∷_ (Laws'13.val Script.the-type Laws'10.the-laws (m .1 .1 .1 .1 .1 .1 .1 .1 .1 .1 .1 .1 .1 .1 .1 .1 .1 .1 .1 .1 .1 .1 .0)) List.[]) (Answer.enum .make (Logic.inr (Logic.inl (m .1 .1 .1 .1 .1 .1 .1 .1 .1 .1 .1 .1 .1 .1 .1 .1 .1 .1 .1 .1 .1 .1 .0, tt)))) (Signed.made-wt Script.the-field Laws'10.the-field-laws (Make'.struct-wt Script.the-type Laws'10.the-laws (Make'.struct-wt Preamble.the-type Laws'8.the-laws (Make'.struct-wt ProtocolVersion.the-type Laws'11.the-laws (Make'.u16-wt, (Make'.u8-wt, tt)), (Make'.struct-wt Items.the-type Laws'4.the-laws (Make'.u64-wt, (Make'.u64-wt, tt)), (Make'.struct-wt Items.the-type Laws'4.the-laws (Make'.u64-wt, (Make'.u64-wt, tt)), (Whole.enum-wt Maybe.the-type Laws'5.the-laws (tt, ((Make'.struct-wt Place.the-type Laws'7.the-laws (Make'.u64-wt, (Make'.u64-wt, tt)), tt), tt)), (Whole.enum-wt Maybe.the-type Laws'5.the-laws (tt, ((Make'.struct-wt Place.the-type Laws'7.the-laws (Make'.u64-wt, (Make'.u64-wt, tt)), tt), tt)), (Whole.enum-wt MaybeItems.the-type Laws'6.the-laws (tt, ((Make'.struct-wt Items.the-type Laws'4.the-laws (Make'.u64-wt, (Make'.u64-wt, tt)), tt), tt)), tt)))))), (Make'.struct-wt Counts.the-type Laws'3.the-laws (Make'.u64-wt, (Make'.u64-wt, (Make'.u64-wt, (Make'.u64-wt, tt)))), tt))) (Script.the-type .to (m .1 .1 .1 .1 .1 .1 .1 .1 .1 .1 .1 .1 .1 .1 .1 .1 .1 .1 .1 .1 .1 .1 .0)), tt) (wa .1)) λ m wa. Make.made-is Answer.the-type Laws''.the-laws (List._∷_ (Laws'13.val Script.the-type Laws'10.the-laws (m .1 .1 .1 .1 .1 .1 .1 .1 .1 .1 .1 .1 .1 .1 .1 .1 .1 .1 .1 .1 .1 .1 .0)) List.[]) (Answer.enum .make (Logic.inr (Logic.inl (m .1 .1 .1 .1 .1 .1 .1 .1 .1 .1 .1 .1 .1 .1 .1 .1 .1 .1 .1 .1 .1 .1 .0, tt)))) (Signed.made-wt Script.the-field Laws'10.the-field-laws (Make'.struct-wt Script.the-type Laws'10.the-laws (Make'.struct-wt Preamble.the-type Laws'8.the-laws (Make'.struct-wt ProtocolVersion.the-type Laws'11.the-laws (Make'.u16-wt, (Make'.u8-wt, tt)), (Make'.struct-wt Items.the-type Laws'4.the-laws (Make'.u64-wt, (Make'.u64-wt, tt)), (Make'.struct-wt Items.the-type Laws'4.the-laws (Make'.u64-wt, (Make'.u64-wt, tt)), (Whole.enum-wt Maybe.the-type Laws'5.the-laws (tt, ((Make'.struct-wt Place.the-type Laws'7.the-laws (Make'.u64-wt, (Make'.u64-wt, tt)), tt), tt)), (Whole.enum-wt Maybe.the-type Laws'5.the-laws (tt, ((Make'.struct-wt Place.the-type Laws'7.the-laws (Make'.u64-wt, (Make'.u64-wt, tt)), tt), tt)), (Whole.enum-wt MaybeItems.the-type Laws'6.the-laws (tt, ((Make'.struct-wt Items.the-type Laws'4.the-laws (Make'.u64-wt, (Make'.u64-wt, tt)), tt), tt)), tt)))))), (Make'.struct-wt Counts.the-type Laws'3.the-laws (Make'.u64-wt, (Make'.u64-wt, (Make'.u64-wt, (Make'.u64-wt, tt)))), tt))) (Script.the-type .to (m .1 .1 .1 .1 .1 .1 .1 .1 .1 .1 .1 .1 .1 .1 .1 .1 .1 .1 .1 .1 .1 .1 .0)), tt) (wa .1)) (RScalar.g-room 𝓤 H A W E G84 22 τ5 (RLocal.room-whole 𝓤 H A W (Declared'.row Script.the-type) τ5 Path'.refl)))
 
           d14 : Typed.Typed 𝓤 H A 𝓣 E G82 b29 Δ2 (at14 bs)
           d14 = Typed.g-pre 𝓤 H A W 𝓣 E G82 G83 b29 Δ2 (λ Ψ. Ψ) (at13 bs) (Lifetime.g-forget 𝓤 H A W E G82 10 Row.dead Path'.refl) d13
@@ -1690,7 +1690,7 @@ module _ (claims· : Claims) where
           d32 = Typed.g-pre 𝓤 H A W 𝓣 E G64 G65 b29 Δ2 (Typed.pass T64 T65 (s61 bs)) (at31 bs) (RScalar.g-room 𝓤 H A W E G64 24 (Syntax.tyStruct (List._∷_ 38 (List._∷_ 91 (List._∷_ 93 List.[]))) (Syntax.tcons (Syntax.tyRef Syntax.erased Syntax.imm KeptElem.behind) (Syntax.tcons (Syntax.tyInt Syntax.w64) Syntax.tnil))) (SShared.room-sslice 𝓤 H A W KeptElem.R (Syntax.tyRef Syntax.erased Syntax.imm KeptElem.behind) 6)) d31
 
           d33 : Typed.Typed 𝓤 H A 𝓣 E G63 b30 Δ2 (at33 bs)
-          d33 = Typed.s-seq 𝓤 H A W 𝓣 E G63 G64 b28 b29 Δ2 (Typed.both (s60 bs)) (at32 bs) (Plain.t-call-plain 𝓤 H A W 𝓣 6 ps·4 r·4 (claims· .8) (claims· .9) "read::reading::read_script" (known .4) E (λ pos β. β) G63 (record { pos = 1; ty = Syntax.tyRef (Syntax.named 0) Syntax.imm (Syntax.tyInt Syntax.w8); ref = λ x. x }, (record { pos = 24; ty = Syntax.tyRef Syntax.erased Syntax.imm KeptElem.behind; ref = λ x. x }, (record { pos = 9; st = List.[]; d = 0; at = λ x. x }, (record { pos = 26; ty = Syntax.tyRef Syntax.erased Syntax.mut EntryElem.behind; ref = λ x. x }, (record { pos = 28; ty = Syntax.tyRef Syntax.erased Syntax.mut (Syntax.tyArray (Syntax.tyInt Syntax.w64) 2); ref = λ x. x }, (record { pos = 30; ty = Syntax.tyRef Syntax.erased Syntax.mut ExpectationElem.behind; ref = λ x. x }, (record { pos = 32; ty = Syntax.tyRef Syntax.erased Syntax.mut (Syntax.tyInt Syntax.w8); ref = λ x. x }, tt))))))) 22 (List._∷_ 0 (List._∷_ 6 (List._∷_ 7 (List._∷_ 8 (List._∷_ 9 (List._∷_ 10 List.[])))))) (Call.sub-id 𝓤 H A W (G63 .slots)) (ShrSlice.spares-sslice 𝓤 H A W (TReferent.rtF (TReferent.fInt Syntax.w8)) (Syntax.tyRef (Syntax.named 0) Syntax.imm (Syntax.tyInt Syntax.w8)) 0, SShared.reads-sslice 𝓤 H A W (TReferent.rtF (TReferent.fInt Syntax.w8)) (Syntax.tyRef (Syntax.named 0) Syntax.imm (Syntax.tyInt Syntax.w8)) 0, Path'.refl, (ShrSlice.spares-sslice 𝓤 H A W KeptElem.R (Syntax.tyRef Syntax.erased Syntax.imm KeptElem.behind) 6, SShared.reads-sslice 𝓤 H A W KeptElem.R (Syntax.tyRef Syntax.erased Syntax.imm KeptElem.behind) 6, Path'.refl, ((Yields.yields-copy 𝓤 H A W (λ ρ. Unit) (Declared'.row Counts.the-type) Path'.refl (TCopies.cStruct Counts.the-type Laws'3.the-laws Laws'3.the-copy .copy 𝓤 H A W) (Rows'.whole (Declared'.row Counts.the-type)) (λ x. x) (λ x. x) (λ ρ told. RLocal.mem-whole 𝓤 H A W (Declared'.row Counts.the-type) ρ) λ ρ told. RLocal.whole-mem 𝓤 H A W (Declared'.row Counts.the-type) ρ, Path'.refl), (Reads'.as-is 𝓤 H A (Mut.mslice EntryElem.R (Syntax.tyRef Syntax.erased Syntax.mut EntryElem.behind) 7), Mut.reads-mslice 𝓤 H A W EntryElem.R (Syntax.tyRef Syntax.erased Syntax.mut EntryElem.behind) 7, Path'.refl, (Reads'.as-is 𝓤 H A (Mut.mslice (DArray.Array (TReferent.rtF (TReferent.fInt Syntax.w64)) 2) (Syntax.tyRef Syntax.erased Syntax.mut (Syntax.tyArray (Syntax.tyInt Syntax.w64) 2)) 8), Mut.reads-mslice 𝓤 H A W (DArray.Array (TReferent.rtF (TReferent.fInt Syntax.w64)) 2) (Syntax.tyRef Syntax.erased Syntax.mut (Syntax.tyArray (Syntax.tyInt Syntax.w64) 2)) 8, Path'.refl, (Reads'.as-is 𝓤 H A (Mut.mslice ExpectationElem.R (Syntax.tyRef Syntax.erased Syntax.mut ExpectationElem.behind) 9), Mut.reads-mslice 𝓤 H A W ExpectationElem.R (Syntax.tyRef Syntax.erased Syntax.mut ExpectationElem.behind) 9, Path'.refl, (Reads'.as-is 𝓤 H A (Mut.mslice (TReferent.rtF (TReferent.fInt Syntax.w8)) (Syntax.tyRef Syntax.erased Syntax.mut (Syntax.tyInt Syntax.w8)) 10), Mut.reads-mslice 𝓤 H A W (TReferent.rtF (TReferent.fInt Syntax.w8)) (Syntax.tyRef Syntax.erased Syntax.mut (Syntax.tyInt Syntax.w8)) 10, Path'.refl, tt))))))) (Reads'.room-gone 𝓤 H A τ5) (tt, (tt, (tt, (tt, (tt, (tt, tt)))))) Path'.refl) d32
+          d33 = Typed.s-seq 𝓤 H A W 𝓣 E G63 G64 b28 b29 Δ2 (Typed.both (s60 bs)) (at32 bs) (Plain.t-call-plain 𝓤 H A W 𝓣 6 ps·4 r·4 (claims· .8) (claims· .9) "entries::scripts::read_script" (known .4) E (λ pos β. β) G63 (record { pos = 1; ty = Syntax.tyRef (Syntax.named 0) Syntax.imm (Syntax.tyInt Syntax.w8); ref = λ x. x }, (record { pos = 24; ty = Syntax.tyRef Syntax.erased Syntax.imm KeptElem.behind; ref = λ x. x }, (record { pos = 9; st = List.[]; d = 0; at = λ x. x }, (record { pos = 26; ty = Syntax.tyRef Syntax.erased Syntax.mut EntryElem.behind; ref = λ x. x }, (record { pos = 28; ty = Syntax.tyRef Syntax.erased Syntax.mut (Syntax.tyArray (Syntax.tyInt Syntax.w64) 2); ref = λ x. x }, (record { pos = 30; ty = Syntax.tyRef Syntax.erased Syntax.mut ExpectationElem.behind; ref = λ x. x }, (record { pos = 32; ty = Syntax.tyRef Syntax.erased Syntax.mut (Syntax.tyInt Syntax.w8); ref = λ x. x }, tt))))))) 22 (List._∷_ 0 (List._∷_ 6 (List._∷_ 7 (List._∷_ 8 (List._∷_ 9 (List._∷_ 10 List.[])))))) (Call.sub-id 𝓤 H A W (G63 .slots)) (ShrSlice.spares-sslice 𝓤 H A W (TReferent.rtF (TReferent.fInt Syntax.w8)) (Syntax.tyRef (Syntax.named 0) Syntax.imm (Syntax.tyInt Syntax.w8)) 0, SShared.reads-sslice 𝓤 H A W (TReferent.rtF (TReferent.fInt Syntax.w8)) (Syntax.tyRef (Syntax.named 0) Syntax.imm (Syntax.tyInt Syntax.w8)) 0, Path'.refl, (ShrSlice.spares-sslice 𝓤 H A W KeptElem.R (Syntax.tyRef Syntax.erased Syntax.imm KeptElem.behind) 6, SShared.reads-sslice 𝓤 H A W KeptElem.R (Syntax.tyRef Syntax.erased Syntax.imm KeptElem.behind) 6, Path'.refl, ((Yields.yields-copy 𝓤 H A W (λ ρ. Unit) (Declared'.row Counts.the-type) Path'.refl (TCopies.cStruct Counts.the-type Laws'3.the-laws Laws'3.the-copy .copy 𝓤 H A W) (Rows'.whole (Declared'.row Counts.the-type)) (λ x. x) (λ x. x) (λ ρ told. RLocal.mem-whole 𝓤 H A W (Declared'.row Counts.the-type) ρ) λ ρ told. RLocal.whole-mem 𝓤 H A W (Declared'.row Counts.the-type) ρ, Path'.refl), (Reads'.as-is 𝓤 H A (Mut.mslice EntryElem.R (Syntax.tyRef Syntax.erased Syntax.mut EntryElem.behind) 7), Mut.reads-mslice 𝓤 H A W EntryElem.R (Syntax.tyRef Syntax.erased Syntax.mut EntryElem.behind) 7, Path'.refl, (Reads'.as-is 𝓤 H A (Mut.mslice (DArray.Array (TReferent.rtF (TReferent.fInt Syntax.w64)) 2) (Syntax.tyRef Syntax.erased Syntax.mut (Syntax.tyArray (Syntax.tyInt Syntax.w64) 2)) 8), Mut.reads-mslice 𝓤 H A W (DArray.Array (TReferent.rtF (TReferent.fInt Syntax.w64)) 2) (Syntax.tyRef Syntax.erased Syntax.mut (Syntax.tyArray (Syntax.tyInt Syntax.w64) 2)) 8, Path'.refl, (Reads'.as-is 𝓤 H A (Mut.mslice ExpectationElem.R (Syntax.tyRef Syntax.erased Syntax.mut ExpectationElem.behind) 9), Mut.reads-mslice 𝓤 H A W ExpectationElem.R (Syntax.tyRef Syntax.erased Syntax.mut ExpectationElem.behind) 9, Path'.refl, (Reads'.as-is 𝓤 H A (Mut.mslice (TReferent.rtF (TReferent.fInt Syntax.w8)) (Syntax.tyRef Syntax.erased Syntax.mut (Syntax.tyInt Syntax.w8)) 10), Mut.reads-mslice 𝓤 H A W (TReferent.rtF (TReferent.fInt Syntax.w8)) (Syntax.tyRef Syntax.erased Syntax.mut (Syntax.tyInt Syntax.w8)) 10, Path'.refl, tt))))))) (Reads'.room-gone 𝓤 H A τ5) (tt, (tt, (tt, (tt, (tt, (tt, tt)))))) Path'.refl) d32
 
           d34 : Typed.Typed 𝓤 H A 𝓣 E G62 b31 Δ2 (at34 bs)
           d34 = Typed.s-seq 𝓤 H A W 𝓣 E G62 G63 b27 b30 Δ2 (Typed.ask (s59 bs)) (at33 bs) (Relend.t-sl-aggregate 𝓤 H A W E (TReferent.rtF (TReferent.fInt Syntax.w8)) 𝓣 (Relend.asMut (TReferent.rtF (TReferent.fInt Syntax.w8))) G62 31 32 10 (Syntax.tyRef Syntax.erased Syntax.mut (Syntax.tyInt Syntax.w8)) (Syntax.tyRef Syntax.erased Syntax.mut (Syntax.tyInt Syntax.w8)) (λ x. x) (RScalar.oFld 5 (List._∷_ (Syntax.field 1) List.[]) (Syntax.tyInt Syntax.w64) 8 λ v. SShared.lenV (v .0)) (Reads'.as-is 𝓤 H A (Relend.msptr (TReferent.rtF (TReferent.fInt Syntax.w8)) (Syntax.tyRef Syntax.erased Syntax.mut (Syntax.tyInt Syntax.w8)) 10)) (Reads'.room-gone 𝓤 H A τ7) (Relend.reads-owed-len 𝓤 H A W (TReferent.rtF (TReferent.fInt Syntax.w8)) (Syntax.tyRef (Syntax.named 4) Syntax.mut (Syntax.tyInt Syntax.w8)) 4 10 (Row.lease (κs .1 .1 .1 .1 .0) (qs .1 .1 .1 .1 .0)) 8 Path'.refl, Path'.refl) Path'.refl Path'.refl λ b o k. tt) d33
@@ -1744,19 +1744,19 @@ module _ (claims· : Claims) where
           d50 = Typed.g-pre 𝓤 H A W 𝓣 E G38 G47 b40 Δ2 (Typed.both (s43 bs)) (at49 bs) (Known.g-enum-told 𝓤 H A W E Fit.enum 0 G38 20 λ x. x) d49
 
           d51 : Typed.Typed 𝓤 H A 𝓣 E G38 b41 Δ2 (at51 bs)
-          d51 = Switch.t-switch-on 𝓤 H A W E 𝓣 G38 (RScalar.oFld 20 (List._∷_ (Syntax.variant 0) (List._∷_ (Syntax.field 0) List.[])) (Syntax.tyInt Syntax.w8) 0 λ x. Val.vint Syntax.w8 (Declared.tagOf Fit.the-type x)) Syntax.w8 (λ u. Declared.tagOf Fit.the-type (u .1 .1 .1 .1 .1 .1 .1 .1 .1 .1 .1 .1 .1 .1 .1 .1 .1 .1 .1 .1 .0)) (Syntax.arm (List._∷_ 1 List.[]) b17 (Syntax.arm (List._∷_ 0 List.[]) b40 Syntax.noDefault)) Δ2 (at12 bs, (at50 bs, tt)) (Match.reads-tag 𝓤 H A W Fit.the-type Laws''.the-laws (Rows'.whole (Declared.row Fit.the-type)) 0 (λ x. x) (Whole.reads-enum 𝓤 H A W Fit.the-type Laws''.the-laws), Path'.refl) (λ u. Path'.refl) (d12, (d50, tt))
+          d51 = Switch.t-switch-on 𝓤 H A W E 𝓣 G38 (RScalar.oFld 20 (List._∷_ (Syntax.variant 0) (List._∷_ (Syntax.field 0) List.[])) (Syntax.tyInt Syntax.w8) 0 λ x. Val.vint Syntax.w8 (Declared.tagOf Fit.the-type x)) Syntax.w8 (λ u. Declared.tagOf Fit.the-type (u .1 .1 .1 .1 .1 .1 .1 .1 .1 .1 .1 .1 .1 .1 .1 .1 .1 .1 .1 .1 .0)) (Syntax.arm (List._∷_ 1 List.[]) b17 (Syntax.arm (List._∷_ 0 List.[]) b40 Syntax.noDefault)) Δ2 (at12 bs, (at50 bs, tt)) (Match.reads-tag 𝓤 H A W Fit.the-type Laws.the-laws (Rows'.whole (Declared.row Fit.the-type)) 0 (λ x. x) (Whole.reads-enum 𝓤 H A W Fit.the-type Laws.the-laws), Path'.refl) (λ u. Path'.refl) (d12, (d50, tt))
 
           d52 : Typed.Typed 𝓤 H A 𝓣 E G36 b41 Δ2 (at52 bs)
           d52 = Typed.g-pre 𝓤 H A W 𝓣 E G36 G38 b41 Δ2 (Typed.pass T36 T38 (s34 bs)) (at51 bs) (RScalar.g-room 𝓤 H A W E G36 10 τ2 (RLocal.room-whole 𝓤 H A W (Declared'.row Counts.the-type) τ2 Path'.refl)) d51
 
           d53 : Typed.Typed 𝓤 H A 𝓣 E G37 b42 Δ1 (at53 bs)
-          d53 = Typed.s-typed 𝓤 H A W 𝓣 E G37 b42 Δ1 (λ Ψ. Typed.pass T37 T86 (s82 bs) (Typed.pass T86 T87 (s83 bs) Ψ)) tt (Typed.g-post 𝓤 H A W 𝓣 E G37 G86 G87 b42 (Typed.pass T37 T86 (s82 bs)) (Typed.pass T86 T87 (s83 bs)) (LocalCopy.t-val-copy 𝓤 H A W E 𝓣 (λ ρ. Unit) G37 21 15 (Declared.row Answer.the-type) τ3 τ3 (Rows'.whole (Declared.row Answer.the-type)) (Rows'.whole (Declared.row Answer.the-type)) (λ x. x) (λ x. x) (λ x. x) Path'.refl (Own.told-none 𝓤 H A (G37 .slots)) (Yields.yields-copy 𝓤 H A W (λ ρ. Unit) (Declared.row Answer.the-type) Path'.refl (TCopies.cEnum Answer.the-type Laws'.the-laws Laws'.the-copy .copy 𝓤 H A W) (Rows'.whole (Declared.row Answer.the-type)) (λ x. x) (λ x. x) (λ ρ told. RLocal.mem-whole 𝓤 H A W (Declared.row Answer.the-type) ρ) λ ρ told. RLocal.whole-mem 𝓤 H A W (Declared.row Answer.the-type) ρ) (Reads'.room-gone 𝓤 H A τ3) (Yields.makes-mem 𝓤 H A W (λ ρ. Unit) (Declared.row Answer.the-type) Path'.refl (Rows'.whole (Declared.row Answer.the-type)) (λ x. x) λ ρ told. RLocal.whole-mem 𝓤 H A W (Declared.row Answer.the-type) ρ) Path'.refl Path'.refl) (RScalar.g-room 𝓤 H A W E G86 21 τ3 (RLocal.room-whole 𝓤 H A W (Declared.row Answer.the-type) τ3 Path'.refl)))
+          d53 = Typed.s-typed 𝓤 H A W 𝓣 E G37 b42 Δ1 (λ Ψ. Typed.pass T37 T86 (s82 bs) (Typed.pass T86 T87 (s83 bs) Ψ)) tt (Typed.g-post 𝓤 H A W 𝓣 E G37 G86 G87 b42 (Typed.pass T37 T86 (s82 bs)) (Typed.pass T86 T87 (s83 bs)) (LocalCopy.t-val-copy 𝓤 H A W E 𝓣 (λ ρ. Unit) G37 21 15 (Declared.row Answer.the-type) τ3 τ3 (Rows'.whole (Declared.row Answer.the-type)) (Rows'.whole (Declared.row Answer.the-type)) (λ x. x) (λ x. x) (λ x. x) Path'.refl (Own.told-none 𝓤 H A (G37 .slots)) (Yields.yields-copy 𝓤 H A W (λ ρ. Unit) (Declared.row Answer.the-type) Path'.refl (TCopies.cEnum Answer.the-type Laws''.the-laws Laws''.the-copy .copy 𝓤 H A W) (Rows'.whole (Declared.row Answer.the-type)) (λ x. x) (λ x. x) (λ ρ told. RLocal.mem-whole 𝓤 H A W (Declared.row Answer.the-type) ρ) λ ρ told. RLocal.whole-mem 𝓤 H A W (Declared.row Answer.the-type) ρ) (Reads'.room-gone 𝓤 H A τ3) (Yields.makes-mem 𝓤 H A W (λ ρ. Unit) (Declared.row Answer.the-type) Path'.refl (Rows'.whole (Declared.row Answer.the-type)) (λ x. x) λ ρ told. RLocal.whole-mem 𝓤 H A W (Declared.row Answer.the-type) ρ) Path'.refl Path'.refl) (RScalar.g-room 𝓤 H A W E G86 21 τ3 (RLocal.room-whole 𝓤 H A W (Declared.row Answer.the-type) τ3 Path'.refl)))
 
           d54 : Typed.Typed 𝓤 H A 𝓣 E G36 b43 Δ1 (at54 bs)
           d54 = Typed.t-seq 𝓤 H A W 𝓣 E G36 G37 b41 b42 Δ1 (at52 bs) (at53 bs) d52 d53
 
           d55 : Typed.Typed 𝓤 H A 𝓣 E G35 b44 Δ1 (at55 bs)
-          d55 = Typed.s-seq 𝓤 H A W 𝓣 E G35 G36 b14 b43 Δ1 (Typed.both (s33 bs)) (at54 bs) (Plain.t-call-plain 𝓤 H A W 𝓣 0 ps·3 r·3 (claims· .6) (claims· .7) "read::reading::room_for" (known .3) E (λ pos β. β) G35 (record { pos = 9; st = List.[]; d = 0; at = λ x. x }, (record { pos = 10; st = List.[]; d = 0; at = λ x. x }, tt)) 20 List.[] (Call.sub-id 𝓤 H A W (G35 .slots)) ((Yields.yields-copy 𝓤 H A W (λ ρ. Unit) (Declared'.row Counts.the-type) Path'.refl (TCopies.cStruct Counts.the-type Laws'3.the-laws Laws'3.the-copy .copy 𝓤 H A W) (Rows'.whole (Declared'.row Counts.the-type)) (λ x. x) (λ x. x) (λ ρ told. RLocal.mem-whole 𝓤 H A W (Declared'.row Counts.the-type) ρ) λ ρ told. RLocal.whole-mem 𝓤 H A W (Declared'.row Counts.the-type) ρ, Path'.refl), ((Yields.yields-copy 𝓤 H A W (λ ρ. Unit) (Declared'.row Counts.the-type) Path'.refl (TCopies.cStruct Counts.the-type Laws'3.the-laws Laws'3.the-copy .copy 𝓤 H A W) (Rows'.whole (Declared'.row Counts.the-type)) (λ x. x) (λ x. x) (λ ρ told. RLocal.mem-whole 𝓤 H A W (Declared'.row Counts.the-type) ρ) λ ρ told. RLocal.whole-mem 𝓤 H A W (Declared'.row Counts.the-type) ρ, Path'.refl), tt)) (Reads'.room-gone 𝓤 H A τ4) tt Path'.refl) d54
+          d55 = Typed.s-seq 𝓤 H A W 𝓣 E G35 G36 b14 b43 Δ1 (Typed.both (s33 bs)) (at54 bs) (Plain.t-call-plain 𝓤 H A W 𝓣 0 ps·3 r·3 (claims· .6) (claims· .7) "fits::room_for" (known .3) E (λ pos β. β) G35 (record { pos = 9; st = List.[]; d = 0; at = λ x. x }, (record { pos = 10; st = List.[]; d = 0; at = λ x. x }, tt)) 20 List.[] (Call.sub-id 𝓤 H A W (G35 .slots)) ((Yields.yields-copy 𝓤 H A W (λ ρ. Unit) (Declared'.row Counts.the-type) Path'.refl (TCopies.cStruct Counts.the-type Laws'3.the-laws Laws'3.the-copy .copy 𝓤 H A W) (Rows'.whole (Declared'.row Counts.the-type)) (λ x. x) (λ x. x) (λ ρ told. RLocal.mem-whole 𝓤 H A W (Declared'.row Counts.the-type) ρ) λ ρ told. RLocal.whole-mem 𝓤 H A W (Declared'.row Counts.the-type) ρ, Path'.refl), ((Yields.yields-copy 𝓤 H A W (λ ρ. Unit) (Declared'.row Counts.the-type) Path'.refl (TCopies.cStruct Counts.the-type Laws'3.the-laws Laws'3.the-copy .copy 𝓤 H A W) (Rows'.whole (Declared'.row Counts.the-type)) (λ x. x) (λ x. x) (λ ρ told. RLocal.mem-whole 𝓤 H A W (Declared'.row Counts.the-type) ρ) λ ρ told. RLocal.whole-mem 𝓤 H A W (Declared'.row Counts.the-type) ρ, Path'.refl), tt)) (Reads'.room-gone 𝓤 H A τ4) tt Path'.refl) d54
 
           d56 : Typed.Typed 𝓤 H A 𝓣 E G34 b44 Δ1 (at56 bs)
           d56 = Typed.g-pre 𝓤 H A W 𝓣 E G34 G35 b44 Δ1 (Typed.pass T34 T35 (s32 bs)) (at55 bs) (RScalar.g-room 𝓤 H A W E G34 19 (Syntax.tyInt Syntax.w64) (RScalar.room-sc 𝓤 H A W (Row.sInt Syntax.w64))) d55
@@ -1771,7 +1771,7 @@ module _ (claims· : Claims) where
           d59 = Typed.g-pre 𝓤 H A W 𝓣 E G31 G32 b44 Δ1 (Typed.pass T31 T32 (s29 bs)) (at58 bs) (RScalar.g-room 𝓤 H A W E G31 16 (Syntax.tyInt Syntax.w64) (RScalar.room-sc 𝓤 H A W (Row.sInt Syntax.w64))) d58
 
           d60 : Typed.Typed 𝓤 H A 𝓣 E G30 b45 Δ1 (at60 bs)
-          d60 = Typed.s-seq 𝓤 H A W 𝓣 E G30 G31 b13 b44 Δ1 (Typed.both (s28 bs)) (at59 bs) (Plain.t-call-plain 𝓤 H A W 𝓣 0 ps·2 r·2 (claims· .4) (claims· .5) "read::reading::lent_of" (known .2) E (λ pos β. β) G30 (Num.vAt 16 λ x. x, (Num.vAt 17 λ x. x, (Num.vAt 18 λ x. x, (Num.vAt 19 λ x. x, tt)))) 10 List.[] (Call.sub-id 𝓤 H A W (G30 .slots)) ((RScalar.reads-sc 𝓤 H A W (Row.sInt Syntax.w64), Path'.refl), ((RScalar.reads-sc 𝓤 H A W (Row.sInt Syntax.w64), Path'.refl), ((RScalar.reads-sc 𝓤 H A W (Row.sInt Syntax.w64), Path'.refl), ((RScalar.reads-sc 𝓤 H A W (Row.sInt Syntax.w64), Path'.refl), tt)))) (Reads'.room-gone 𝓤 H A τ2) tt Path'.refl) d59
+          d60 = Typed.s-seq 𝓤 H A W 𝓣 E G30 G31 b13 b44 Δ1 (Typed.both (s28 bs)) (at59 bs) (Plain.t-call-plain 𝓤 H A W 𝓣 0 ps·2 r·2 (claims· .4) (claims· .5) "fits::lent_of" (known .2) E (λ pos β. β) G30 (Num.vAt 16 λ x. x, (Num.vAt 17 λ x. x, (Num.vAt 18 λ x. x, (Num.vAt 19 λ x. x, tt)))) 10 List.[] (Call.sub-id 𝓤 H A W (G30 .slots)) ((RScalar.reads-sc 𝓤 H A W (Row.sInt Syntax.w64), Path'.refl), ((RScalar.reads-sc 𝓤 H A W (Row.sInt Syntax.w64), Path'.refl), ((RScalar.reads-sc 𝓤 H A W (Row.sInt Syntax.w64), Path'.refl), ((RScalar.reads-sc 𝓤 H A W (Row.sInt Syntax.w64), Path'.refl), tt)))) (Reads'.room-gone 𝓤 H A τ2) tt Path'.refl) d59
 
           d61 : Typed.Typed 𝓤 H A 𝓣 E G29 b46 Δ1 (at61 bs)
           d61 = Typed.s-seq 𝓤 H A W 𝓣 E G29 G30 b12 b45 Δ1 (Typed.pass T29 T30 (s27 bs)) (at60 bs) (RScalar.t-use 𝓤 H A W E 𝓣 G29 (RScalar.oFld 5 (List._∷_ (Syntax.field 1) List.[]) (Syntax.tyInt Syntax.w64) 8 SShared.lenV) 19 (Rows'.sc-here (Row.sInt Syntax.w64)) (Syntax.tyInt Syntax.w64) (Row.valS (Row.sInt Syntax.w64)) (Row.sInt Syntax.w64 .of) (Mut.reads-mslice-len 𝓤 H A W (TReferent.rtF (TReferent.fInt Syntax.w8)) (Syntax.tyRef (Syntax.named 4) Syntax.mut (Syntax.tyInt Syntax.w8)) 4 8 Path'.refl, Path'.refl) (Reads'.room-gone 𝓤 H A (Syntax.tyInt Syntax.w64)) (RScalar.holds-sc 𝓤 H A W (Row.sInt Syntax.w64)) Path'.refl (λ u. Path'.refl) λ u. tt) d60
@@ -1789,16 +1789,16 @@ module _ (claims· : Claims) where
           d65 = Typed.g-pre 𝓤 H A W 𝓣 E G25 G26 b49 Δ1 (Typed.pass T25 T26 (s23 bs)) (at64 bs) (RScalar.g-room 𝓤 H A W E G25 7 τ0 (RLocal.room-whole 𝓤 H A W (Known.Known Measured.enum 1) τ0 Path'.refl)) d64
 
           d66 : Typed.Typed 𝓤 H A 𝓣 E G24 b50 Δ1 (at66 bs)
-          d66 = Typed.s-seq 𝓤 H A W 𝓣 E G24 G25 b8 b49 Δ1 (Typed.pass T24 T25 (s22 bs)) (at65 bs) (CopyOut.t-copy-told 𝓤 H A W E 𝓣 (Declared'.row Counts.the-type) Path'.refl (Laws'13.val Counts.the-type Laws'3.the-laws) (Laws'13.lawful Counts.the-type Laws'3.the-laws 𝓤 H A W) (Laws'13.makes Counts.the-type Laws'3.the-plain 𝓤 H A) G24 9 (RScalar.oFld 7 (List._∷_ (Syntax.variant 1) (List._∷_ (Syntax.field 1) List.[])) τ2 8 λ v. Laws'13.val Counts.the-type Laws'3.the-laws (v .0)) (λ m. m .1 .1 .1 .1 .1 .1 .1 .0 .0) (λ m. Laws'12.Fields (Declared.variants Measured.the-type) (Laws'12.spellss (Measured.enum .parts) Laws.the-laws) (Measured.the-type .to (Known.at Measured.enum 1 (m .1 .1 .1 .1 .1 .1 .1 .0)))) (Reads'.room-gone 𝓤 H A τ2) (Match.reads-payload 𝓤 H A W Measured.enum Laws.the-laws 1 Path'.refl Path'.refl (λ v. Val.vcons (Laws'13.val Counts.the-type Laws'3.the-laws (v .0)) Val.vnil) (λ v. Path'.refl) 0 τ2 8 Path'.refl, Path'.refl) Path'.refl (λ ρ m. Make'.tells-row 𝓤 H A W E ρ (Row.out 9 (G24 .locals)) m 7 (Laws'12.Fields (Declared.variants Measured.the-type) (Laws'12.spellss (Measured.enum .parts) Laws.the-laws) (Measured.the-type .to (Known.at Measured.enum 1 (m .1 .1 .1 .1 .1 .1 .1 .0)))) (Known.known-is 𝓤 H A W E Measured.enum 1 Laws.the-laws ρ 7 (m .1 .1 .1 .1 .1 .1 .1 .0))) (λ m k wa. Path'.refl) λ m k wa. k .0) d65
+          d66 = Typed.s-seq 𝓤 H A W 𝓣 E G24 G25 b8 b49 Δ1 (Typed.pass T24 T25 (s22 bs)) (at65 bs) (CopyOut.t-copy-told 𝓤 H A W E 𝓣 (Declared'.row Counts.the-type) Path'.refl (Laws'13.val Counts.the-type Laws'3.the-laws) (Laws'13.lawful Counts.the-type Laws'3.the-laws 𝓤 H A W) (Laws'13.makes Counts.the-type Laws'3.the-plain 𝓤 H A) G24 9 (RScalar.oFld 7 (List._∷_ (Syntax.variant 1) (List._∷_ (Syntax.field 1) List.[])) τ2 8 λ v. Laws'13.val Counts.the-type Laws'3.the-laws (v .0)) (λ m. m .1 .1 .1 .1 .1 .1 .1 .0 .0) (λ m. Laws'12.Fields (Declared.variants Measured.the-type) (Laws'12.spellss (Measured.enum .parts) Laws'.the-laws) (Measured.the-type .to (Known.at Measured.enum 1 (m .1 .1 .1 .1 .1 .1 .1 .0)))) (Reads'.room-gone 𝓤 H A τ2) (Match.reads-payload 𝓤 H A W Measured.enum Laws'.the-laws 1 Path'.refl Path'.refl (λ v. Val.vcons (Laws'13.val Counts.the-type Laws'3.the-laws (v .0)) Val.vnil) (λ v. Path'.refl) 0 τ2 8 Path'.refl, Path'.refl) Path'.refl (λ ρ m. Make'.tells-row 𝓤 H A W E ρ (Row.out 9 (G24 .locals)) m 7 (Laws'12.Fields (Declared.variants Measured.the-type) (Laws'12.spellss (Measured.enum .parts) Laws'.the-laws) (Measured.the-type .to (Known.at Measured.enum 1 (m .1 .1 .1 .1 .1 .1 .1 .0)))) (Known.known-is 𝓤 H A W E Measured.enum 1 Laws'.the-laws ρ 7 (m .1 .1 .1 .1 .1 .1 .1 .0))) (λ m k wa. Path'.refl) λ m k wa. k .0) d65
 
           d67 : Typed.Typed 𝓤 H A 𝓣 E G23 b50 Δ1 (at67 bs)
-          d67 = Typed.g-pre 𝓤 H A W 𝓣 E G23 G24 b50 Δ1 (Typed.give (s21 bs)) (at66 bs) (Known.g-known-told 𝓤 H A W E Measured.enum 1 G23 7 Laws.the-laws (λ x. x) (Reads'.as-is 𝓤 H A (Rows'.whole (Known.Known Measured.enum 1)))) d66
+          d67 = Typed.g-pre 𝓤 H A W 𝓣 E G23 G24 b50 Δ1 (Typed.give (s21 bs)) (at66 bs) (Known.g-known-told 𝓤 H A W E Measured.enum 1 G23 7 Laws'.the-laws (λ x. x) (Reads'.as-is 𝓤 H A (Rows'.whole (Known.Known Measured.enum 1)))) d66
 
           d68 : Typed.Typed 𝓤 H A 𝓣 E G15 b50 Δ1 (at68 bs)
           d68 = Typed.g-pre 𝓤 H A W 𝓣 E G15 G23 b50 Δ1 (Typed.both (s20 bs)) (at67 bs) (Known.g-enum-known 𝓤 H A W E Measured.enum 1 G15 7 (λ x. x) (Reads'.as-is 𝓤 H A (Rows'.whole (Declared.row Measured.the-type)))) d67
 
           d69 : Typed.Typed 𝓤 H A 𝓣 E G15 b51 Δ1 (at69 bs)
-          d69 = Switch.t-switch-on 𝓤 H A W E 𝓣 G15 (RScalar.oFld 7 (List._∷_ (Syntax.variant 0) (List._∷_ (Syntax.field 0) List.[])) (Syntax.tyInt Syntax.w8) 0 λ x. Val.vint Syntax.w8 (Declared.tagOf Measured.the-type x)) Syntax.w8 (λ u. Declared.tagOf Measured.the-type (u .1 .1 .1 .1 .1 .1 .1 .0)) (Syntax.arm (List._∷_ 0 List.[]) b7 (Syntax.arm (List._∷_ 1 List.[]) b50 Syntax.noDefault)) Δ1 (at5 bs, (at68 bs, tt)) (Match.reads-tag 𝓤 H A W Measured.the-type Laws.the-laws (Rows'.whole (Declared.row Measured.the-type)) 0 (λ x. x) (Whole.reads-enum 𝓤 H A W Measured.the-type Laws.the-laws), Path'.refl) (λ u. Path'.refl) (d5, (d68, tt))
+          d69 = Switch.t-switch-on 𝓤 H A W E 𝓣 G15 (RScalar.oFld 7 (List._∷_ (Syntax.variant 0) (List._∷_ (Syntax.field 0) List.[])) (Syntax.tyInt Syntax.w8) 0 λ x. Val.vint Syntax.w8 (Declared.tagOf Measured.the-type x)) Syntax.w8 (λ u. Declared.tagOf Measured.the-type (u .1 .1 .1 .1 .1 .1 .1 .0)) (Syntax.arm (List._∷_ 0 List.[]) b7 (Syntax.arm (List._∷_ 1 List.[]) b50 Syntax.noDefault)) Δ1 (at5 bs, (at68 bs, tt)) (Match.reads-tag 𝓤 H A W Measured.the-type Laws'.the-laws (Rows'.whole (Declared.row Measured.the-type)) 0 (λ x. x) (Whole.reads-enum 𝓤 H A W Measured.the-type Laws'.the-laws), Path'.refl) (λ u. Path'.refl) (d5, (d68, tt))
 
           d70 : Typed.Typed 𝓤 H A 𝓣 E G14 b51 Δ1 (at70 bs)
           d70 = Typed.g-pre 𝓤 H A W 𝓣 E G14 G15 b51 Δ1 (λ Ψ. Ψ) (at69 bs) (Lifetime.g-forget 𝓤 H A W E G14 5 Row.dead Path'.refl) d69
@@ -1816,7 +1816,7 @@ module _ (claims· : Claims) where
           d74 = Typed.g-pre 𝓤 H A W 𝓣 E G88 G89 b53 Δ0 (Typed.pass T88 T89 (s85 bs)) (at73 bs) (RScalar.g-room 𝓤 H A W E G88 15 τ3 (RLocal.room-whole 𝓤 H A W (Declared.row Answer.the-type) τ3 Path'.refl)) d73
 
           d75 : Typed.Typed 𝓤 H A 𝓣 E G12 b54 Δ0 (at75 bs)
-          d75 = Typed.s-seq 𝓤 H A W 𝓣 E G12 G88 b52 b53 Δ0 (Typed.pass T12 T88 (s84 bs)) (at74 bs) (LocalCopy.t-val-copy 𝓤 H A W E 𝓣 (λ ρ. Unit) G12 15 0 (Declared.row Answer.the-type) τ3 τ3 (Rows'.whole (Declared.row Answer.the-type)) (Rows'.whole (Declared.row Answer.the-type)) (λ x. x) (λ x. x) (λ x. x) Path'.refl (Own.told-none 𝓤 H A (G12 .slots)) (Yields.yields-copy 𝓤 H A W (λ ρ. Unit) (Declared.row Answer.the-type) Path'.refl (TCopies.cEnum Answer.the-type Laws'.the-laws Laws'.the-copy .copy 𝓤 H A W) (Rows'.whole (Declared.row Answer.the-type)) (λ x. x) (λ x. x) (λ ρ told. RLocal.mem-whole 𝓤 H A W (Declared.row Answer.the-type) ρ) λ ρ told. RLocal.whole-mem 𝓤 H A W (Declared.row Answer.the-type) ρ) (Reads'.room-gone 𝓤 H A τ3) (Yields.makes-mem 𝓤 H A W (λ ρ. Unit) (Declared.row Answer.the-type) Path'.refl (Rows'.whole (Declared.row Answer.the-type)) (λ x. x) λ ρ told. RLocal.whole-mem 𝓤 H A W (Declared.row Answer.the-type) ρ) Path'.refl Path'.refl) d74
+          d75 = Typed.s-seq 𝓤 H A W 𝓣 E G12 G88 b52 b53 Δ0 (Typed.pass T12 T88 (s84 bs)) (at74 bs) (LocalCopy.t-val-copy 𝓤 H A W E 𝓣 (λ ρ. Unit) G12 15 0 (Declared.row Answer.the-type) τ3 τ3 (Rows'.whole (Declared.row Answer.the-type)) (Rows'.whole (Declared.row Answer.the-type)) (λ x. x) (λ x. x) (λ x. x) Path'.refl (Own.told-none 𝓤 H A (G12 .slots)) (Yields.yields-copy 𝓤 H A W (λ ρ. Unit) (Declared.row Answer.the-type) Path'.refl (TCopies.cEnum Answer.the-type Laws''.the-laws Laws''.the-copy .copy 𝓤 H A W) (Rows'.whole (Declared.row Answer.the-type)) (λ x. x) (λ x. x) (λ ρ told. RLocal.mem-whole 𝓤 H A W (Declared.row Answer.the-type) ρ) λ ρ told. RLocal.whole-mem 𝓤 H A W (Declared.row Answer.the-type) ρ) (Reads'.room-gone 𝓤 H A τ3) (Yields.makes-mem 𝓤 H A W (λ ρ. Unit) (Declared.row Answer.the-type) Path'.refl (Rows'.whole (Declared.row Answer.the-type)) (λ x. x) λ ρ told. RLocal.whole-mem 𝓤 H A W (Declared.row Answer.the-type) ρ) Path'.refl Path'.refl) d74
 
           d76 : Typed.Typed 𝓤 H A 𝓣 E G11 b55 Δ0 (at76 bs)
           d76 = Typed.t-seq 𝓤 H A W 𝓣 E G11 G12 b51 b54 Δ0 (at72 bs) (at75 bs) d72 d75
@@ -2453,6 +2453,6 @@ module _ (claims· : Claims) where
           pub asked : (a : Kinds.Dens κs ps) → (good : Kinds.GoodsP κs ps a) → (pre : Pre· κs a) → (bs : List.List Nat.ℕ) → Φ bs (Any.wantQ 5 ps r xs m κs qs a (Post· κs a)) (Function.init 5 ps r xs m κs qs a)
           asked = λ a good pre bs. laid record { κs = κs; args = record { text = a .0; entries = a .1 .0; items = a .1 .1 .0; expectations = a .1 .1 .1 .0; store = a .1 .1 .1 .1 .0 }; blocks = bs; good = good; pre = pre }
 
-        module _ {M : Type 1} (𝓤 : URA.URA M) (H : Wp.Heap 𝓤) (A : Atoms.Atoms 𝓤) (W : Kit.Given 𝓤 H A) (𝓣 : Wp.Tables 𝓤 H) (known0 : Plain.Known 𝓤 H A W 𝓣 0 ps·0 r·0 (claims· .0) (claims· .1) "kept::blank") (known1 : Plain.Known 𝓤 H A W 𝓣 2 ps·1 r·1 (claims· .2) (claims· .3) "parse::measure::measure_keeping") (known2 : Plain.Known 𝓤 H A W 𝓣 0 ps·2 r·2 (claims· .4) (claims· .5) "read::reading::lent_of") (known3 : Plain.Known 𝓤 H A W 𝓣 0 ps·3 r·3 (claims· .6) (claims· .7) "read::reading::room_for") (known4 : Plain.Known 𝓤 H A W 𝓣 6 ps·4 r·4 (claims· .8) (claims· .9) "read::reading::read_script") where
+        module _ {M : Type 1} (𝓤 : URA.URA M) (H : Wp.Heap 𝓤) (A : Atoms.Atoms 𝓤) (W : Kit.Given 𝓤 H A) (𝓣 : Wp.Tables 𝓤 H) (known0 : Plain.Known 𝓤 H A W 𝓣 0 ps·0 r·0 (claims· .0) (claims· .1) "kept::blank") (known1 : Plain.Known 𝓤 H A W 𝓣 2 ps·1 r·1 (claims· .2) (claims· .3) "parse::measure::measure_keeping") (known2 : Plain.Known 𝓤 H A W 𝓣 0 ps·2 r·2 (claims· .4) (claims· .5) "fits::lent_of") (known3 : Plain.Known 𝓤 H A W 𝓣 0 ps·3 r·3 (claims· .6) (claims· .7) "fits::room_for") (known4 : Plain.Known 𝓤 H A W 𝓣 6 ps·4 r·4 (claims· .8) (claims· .9) "entries::scripts::read_script") where
           pub spec : Statement.Triple 𝓤 (Wp.WpFn 𝓤 H (𝓣 .C) (𝓣 .Λ) (Function.fnOf 5 ps r xs m hs body)) (Function.plainOf 𝓤 H A 5 ps r Pre· Post·)
           spec = Plain.t-fn-plain 𝓤 H A W 𝓣 5 ps r xs m hs body (λ κs qs bs. Φ bs) (λ κs qs bs bd. typed κs qs 𝓤 H A W 𝓣 (known0, known1, known2, known3, known4) bs bd) Pre· Post· asked

@@ -24,7 +24,7 @@ takes-pairs-requires c κs = search needs
 read-lines-requires : tie.Need-read-lines-requires
 unfolding entryAt entryOf
 read-lines-requires c κs =
-    let S = c .before .before .before .before .before .before .before .before .before in
+    let S = c .before .before .before .before .before .before .before .before .before .before in
     let text = S .args .text .now in
     let a = S .args .a in
     let i = S .args .i in
@@ -65,7 +65,7 @@ slice-aggregate-put-values-2 c = search needs
 put-values-requires : tie.Need-put-values-requires
 unfolding entryAt entryOf
 put-values-requires c κs =
-    let S = c .before .before .before .before .before .before .before .before .before .before .before .before .before .before .before .before .before .before in
+    let S = c .before .before .before .before .before .before .before .before .before .before .before .before .before .before .before .before .before .before .before in
     let text = S .args .text .now in
     let a = S .args .a in
     let i = S .args .i in
@@ -85,7 +85,7 @@ slice-aggregate-entry-of-2 c = search needs
 entry-of-requires : tie.Need-entry-of-requires
 unfolding entryAt entryOf
 entry-of-requires c κs =
-    let S = c .before .before .before .before .before .before .before .before .before .before .before .before .before .before .before .before .before .before .before .before .before .before .before .before in
+    let S = c .before .before .before .before .before .before .before .before .before .before .before .before .before .before .before .before .before .before .before .before .before .before .before .before .before in
     let text = S .args .text .now in
     let a = S .args .a in
     let i = S .args .i in
@@ -99,12 +99,12 @@ entry-of-requires c κs =
 
 put-entry-requires : tie.Need-put-entry-requires
 unfolding entryAt entryOf
-put-entry-requires c κs = c .before .before .before .before .before .before .before .before .before .before .before .before .before .before .before .before .before .before .before .before .before .before .before .before .before .before .pre .1 .1 .1 .1 .1 .0
+put-entry-requires c κs = c .before .before .before .before .before .before .before .before .before .before .before .before .before .before .before .before .before .before .before .before .before .before .before .before .before .before .before .pre .1 .1 .1 .1 .1 .0
 
 advanced-requires : tie.Need-advanced-requires
 unfolding entryAt entryOf
 advanced-requires c κs =
-    let S = c .before .before .before .before .before .before .before .before .before .before .before .before .before .before .before .before .before .before .before .before .before .before .before .before .before .before .before .before in
+    let S = c .before .before .before .before .before .before .before .before .before .before .before .before .before .before .before .before .before .before .before .before .before .before .before .before .before .before .before .before .before in
     let text = S .args .text .now in
     let a = S .args .a in
     let i = S .args .i in
@@ -122,7 +122,7 @@ same-length c = search needs
 same-length-2 : tie.Need-same-length-2
 unfolding entryAt entryOf
 same-length-2 c =
-    let S = c .before .before .before .before .before .before .before .before .before .before .before .before .before .before .before .before .before .before .before .before .before .before .before .before .before .before .before .before .before in
+    let S = c .before .before .before .before .before .before .before .before .before .before .before .before .before .before .before .before .before .before .before .before .before .before .before .before .before .before .before .before .before .before in
     let text = S .args .text .now in
     let a = S .args .a in
     let i = S .args .i in
@@ -138,7 +138,7 @@ same-length-2 c =
 same-length-3 : tie.Need-same-length-3
 unfolding entryAt entryOf
 same-length-3 c =
-    let S = c .before .before .before .before .before .before .before .before .before .before .before .before .before .before .before .before .before .before .before .before .before .before .before .before .before .before .before .before .before in
+    let S = c .before .before .before .before .before .before .before .before .before .before .before .before .before .before .before .before .before .before .before .before .before .before .before .before .before .before .before .before .before .before in
     let text = S .args .text .now in
     let a = S .args .a in
     let i = S .args .i in
@@ -156,7 +156,7 @@ same-length-4 c = search needs
 returns : tie.Need-returns
 unfolding entryAt entryOf
 returns c =
-    let S = c .before .before .before .before .before .before .before .before .before .before .before .before .before .before .before .before .before .before .before .before .before .before .before .before .before .before .before .before .before in
+    let S = c .before .before .before .before .before .before .before .before .before .before .before .before .before .before .before .before .before .before .before .before .before .before .before .before .before .before .before .before .before .before in
     let text = S .args .text .now in
     let a = S .args .a in
     let i = S .args .i in

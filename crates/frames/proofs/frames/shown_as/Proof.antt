@@ -5,15 +5,16 @@ use lib.IntN.{ℤ}
 use mir.Syntax.{w64}
 use mir.ValLaws.{toZ-ofZ}
 use Rattle.frames.specs.Frames.{between, shownAs}
-use Rattle.frames.specs.declared.words.Word.{Word}
-use Rattle.frames.specs.declared.words.Word.the-variants as words
+use Rattle.frames.specs.declared.words.Middle.{Middle}
+use Rattle.frames.specs.declared.words.Middle.the-variants as middles
 use Rattle.frames.specs.declared.frames.Piece.the-variants as pieces
+use Rattle.frames.specs.declared.frames.Ending.the-variants as endings
 use Rattle.frames.specs.declared.frames.Shown.{Shown}
 use Rattle.frames.proofs.frames.shown_as.Statement.{statement}
 use Rattle.frames.proofs.frames.shown_as.Tie as tie
 
-abbrev numbered : Word → ℤ → Shown
-numbered before n = between before (pieces.Number n) words.Got
+abbrev numbered : Middle → ℤ → Shown
+numbered before n = between before (pieces.Number n) endings.Got
 
 enum-known-m : tie.Need-enum-known-m
 enum-known-m c = search needs
@@ -43,19 +44,19 @@ returns-2 c = ap shownAs (sym (c .before .m2 .given .1))
 
 returns-3 : tie.Need-returns-3
 unfolding shownAs
-returns-3 c = ap (numbered words.ExpectedAbove) (toZ-ofZ w64 (c .before .m3 .given .0 .0) (search needs)) ∙ ap shownAs (sym (c .before .m3 .given .1))
+returns-3 c = ap (numbered middles.ExpectedAbove) (toZ-ofZ w64 (c .before .m3 .given .0 .0) (search needs)) ∙ ap shownAs (sym (c .before .m3 .given .1))
 
 returns-4 : tie.Need-returns-4
 unfolding shownAs
-returns-4 c = ap (numbered words.ExpectedBelow) (toZ-ofZ w64 (c .before .m4 .given .0 .0) (search needs)) ∙ ap shownAs (sym (c .before .m4 .given .1))
+returns-4 c = ap (numbered middles.ExpectedBelow) (toZ-ofZ w64 (c .before .m4 .given .0 .0) (search needs)) ∙ ap shownAs (sym (c .before .m4 .given .1))
 
 returns-5 : tie.Need-returns-5
 unfolding shownAs
-returns-5 c = ap (numbered words.ExpectedAtLeast) (toZ-ofZ w64 (c .before .m5 .given .0 .0) (search needs)) ∙ ap shownAs (sym (c .before .m5 .given .1))
+returns-5 c = ap (numbered middles.ExpectedAtLeast) (toZ-ofZ w64 (c .before .m5 .given .0 .0) (search needs)) ∙ ap shownAs (sym (c .before .m5 .given .1))
 
 returns-6 : tie.Need-returns-6
 unfolding shownAs
-returns-6 c = ap (numbered words.ExpectedAtMost) (toZ-ofZ w64 (c .before .m6 .given .0 .0) (search needs)) ∙ ap shownAs (sym (c .before .m6 .given .1))
+returns-6 c = ap (numbered middles.ExpectedAtMost) (toZ-ofZ w64 (c .before .m6 .given .0 .0) (search needs)) ∙ ap shownAs (sym (c .before .m6 .given .1))
 
 pub shown-as-spec : {M : Type 1} → statement M
 shown-as-spec =

@@ -25,15 +25,15 @@ undecided-frame-requires c κs = search needs
 
 returns : tie.Need-returns
 unfolding failedFrame valuedFrame
-returns c = c .word-frame .ensures ∙ ap (valuedFrame (c .before .before .before .args .h) (c .before .before .before .args .m)) (sym (c .before .enum-told .given .1))
+returns c = c .word-frame .ensures ∙ ap (valuedFrame (c .before .before .before .before .args .h) (c .before .before .before .before .args .m)) (sym (c .before .enum-told .given .1))
 
 returns-2 : tie.Need-returns-2
 unfolding failedFrame valuedFrame
-returns-2 c = ap (failedFrame (c .before .before .before .args .h)) (c .shown-as .ensures) ∙ ap (valuedFrame (c .before .before .before .args .h) (c .before .before .before .args .m)) (sym (c .before .enum-told2 .given .1))
+returns-2 c = ap (failedFrame (c .before .before .before .before .args .h)) (c .shown-as .ensures) ∙ ap (valuedFrame (c .before .before .before .before .args .h) (c .before .before .before .before .args .m)) (sym (c .before .enum-told2 .given .1))
 
 returns-3 : tie.Need-returns-3
 unfolding failedFrame valuedFrame
-returns-3 c = c .undecided-frame .ensures ∙ ap (valuedFrame (c .before .before .before .args .h) (c .before .before .before .args .m)) (sym (c .before .enum-told3 .given .1))
+returns-3 c = c .undecided-frame .ensures ∙ ap (valuedFrame (c .before .before .before .before .args .h) (c .before .before .before .before .args .m)) (sym (c .before .enum-told3 .given .1))
 
 pub valued-frame-spec : {M : Type 1} → statement M
 valued-frame-spec =

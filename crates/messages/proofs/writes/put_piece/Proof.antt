@@ -1,14 +1,13 @@
 -- `messages::writes::put_piece` meets its contract: each arm is its case of the definition. Assumes nothing.
 use borrow.Author.Needs.{needs}
 use mathlib.Core.Path.{sym, ap, _∙_}
-use mathlib.Core.List.{[]}
 use native.Mathlib.Omega.{arith}
 use lib.ListN.{length}
 use mir.Syntax.{w64}
 use mir.ValLaws.{toZ-ofZ}
 use Rattle.verdicts.specs.Messages.{integer}
 use Rattle.frames.specs.Frames.{pieceBytes}
-use Rattle.messages.proofs.MessageLaws.{same-wrote, wrote-none}
+use Rattle.writing.proofs.PutLaws.{wrote-same, wrote-none}
 use Rattle.messages.proofs.writes.put_piece.Statement.{statement}
 use Rattle.messages.proofs.writes.put_piece.Tie as tie
 
@@ -53,9 +52,7 @@ returns : tie.Need-returns
 unfolding pieceBytes
 returns c =
     let a = c .before .before .before .before .before .before .args in
-    same-wrote (a .at) [] (pieceBytes (a .text .now) (a .bytes .now) (a .value .now) (a .p)) (a .out .now) (a .out .now) (a .at)
-    (ap (pieceBytes (c .before .before .before .before .before .before .args .text .now) (c .before .before .before .before .before .before .args .bytes .now) (c .before .before .before .before .before .before .args .value .now)) (sym (c .enum-told .given .1)))
-    (wrote-none (a .at) (a .out .now) (omega arith))
+    wrote-none (pieceBytes (a .text .now) (a .bytes .now) (a .value .now) (a .p)) (sym (ap (pieceBytes (c .before .before .before .before .before .before .args .text .now) (c .before .before .before .before .before .before .args .bytes .now) (c .before .before .before .before .before .before .args .value .now)) (sym (c .enum-told .given .1)))) (a .at) (a .out .now) (omega arith)
 
 same-length : tie.Need-same-length
 same-length c = search needs
@@ -65,9 +62,7 @@ unfolding pieceBytes
 returns-2 c =
     let a = c .before .before .before .before .before .before .before .before .before .before .before .before .args in
     let w = c .before .before .put-word in
-    same-wrote (a .at) _ (pieceBytes (a .text .now) (a .bytes .now) (a .value .now) (a .p)) (a .out .now) (w .last .1 .0) (w .result)
-    (c .before .before .before .before .text-at .ensures ∙ ap (pieceBytes (c .before .before .before .before .before .before .before .before .before .before .before .before .args .text .now) (c .before .before .before .before .before .before .before .before .before .before .before .before .args .bytes .now) (c .before .before .before .before .before .before .before .before .before .before .before .before .args .value .now)) (sym (c .before .before .before .before .before .before .p .given .1)))
-    (w .ensures .0, w .ensures .1)
+    wrote-same (pieceBytes (a .text .now) (a .bytes .now) (a .value .now) (a .p)) _ (sym (c .before .before .before .before .text-at .ensures ∙ ap (pieceBytes (c .before .before .before .before .before .before .before .before .before .before .before .before .args .text .now) (c .before .before .before .before .before .before .before .before .before .before .before .before .args .bytes .now) (c .before .before .before .before .before .before .before .before .before .before .before .before .args .value .now)) (sym (c .before .before .before .before .before .before .p .given .1)))) (a .at) (a .out .now) (w .last .1 .0) (w .result) (w .ensures .0, w .ensures .1)
 
 same-length-2 : tie.Need-same-length-2
 same-length-2 c = search needs
@@ -77,9 +72,7 @@ unfolding pieceBytes
 returns-3 c =
     let a = c .before .before .before .before .before .before .before .before .before .before .before .before .args in
     let w = c .before .before .put-word2 in
-    same-wrote (a .at) _ (pieceBytes (a .text .now) (a .bytes .now) (a .value .now) (a .p)) (a .out .now) (w .last .1 .0) (w .result)
-    (c .before .before .before .before .text-at2 .ensures ∙ ap (pieceBytes (c .before .before .before .before .before .before .before .before .before .before .before .before .args .text .now) (c .before .before .before .before .before .before .before .before .before .before .before .before .args .bytes .now) (c .before .before .before .before .before .before .before .before .before .before .before .before .args .value .now)) (sym (c .before .before .before .before .before .before .p2 .given .1)))
-    (w .ensures .0, w .ensures .1)
+    wrote-same (pieceBytes (a .text .now) (a .bytes .now) (a .value .now) (a .p)) _ (sym (c .before .before .before .before .text-at2 .ensures ∙ ap (pieceBytes (c .before .before .before .before .before .before .before .before .before .before .before .before .args .text .now) (c .before .before .before .before .before .before .before .before .before .before .before .before .args .bytes .now) (c .before .before .before .before .before .before .before .before .before .before .before .before .args .value .now)) (sym (c .before .before .before .before .before .before .p2 .given .1)))) (a .at) (a .out .now) (w .last .1 .0) (w .result) (w .ensures .0, w .ensures .1)
 
 same-length-3 : tie.Need-same-length-3
 same-length-3 c = search needs
@@ -89,9 +82,7 @@ unfolding pieceBytes
 returns-4 c =
     let a = c .before .before .before .before .before .before .before .before .before .before .args in
     let w = c .before .before .put-word3 in
-    same-wrote (a .at) _ (pieceBytes (a .text .now) (a .bytes .now) (a .value .now) (a .p)) (a .out .now) (w .last .1 .0) (w .result)
-    (ap (pieceBytes (c .before .before .before .before .before .before .before .before .before .before .args .text .now) (c .before .before .before .before .before .before .before .before .before .before .args .bytes .now) (c .before .before .before .before .before .before .before .before .before .before .args .value .now)) (sym (c .before .before .before .before .enum-told2 .given .1)))
-    (w .ensures .0, w .ensures .1)
+    wrote-same (pieceBytes (a .text .now) (a .bytes .now) (a .value .now) (a .p)) _ (sym (ap (pieceBytes (c .before .before .before .before .before .before .before .before .before .before .args .text .now) (c .before .before .before .before .before .before .before .before .before .before .args .bytes .now) (c .before .before .before .before .before .before .before .before .before .before .args .value .now)) (sym (c .before .before .before .before .enum-told2 .given .1)))) (a .at) (a .out .now) (w .last .1 .0) (w .result) (w .ensures .0, w .ensures .1)
 
 same-length-4 : tie.Need-same-length-4
 same-length-4 c = search needs
@@ -101,9 +92,7 @@ unfolding pieceBytes
 returns-5 c =
     let a = c .before .before .before .before .before .before .before .before .before .before .before .args in
     let w = c .before .before .put-integer in
-    same-wrote (a .at) _ (pieceBytes (a .text .now) (a .bytes .now) (a .value .now) (a .p)) (a .out .now) (w .last .1 .0) (w .result)
-    (ap integer (toZ-ofZ w64 (c .before .before .before .before .before .p3 .given .0 .0) (search needs)) ∙ ap (pieceBytes (c .before .before .before .before .before .before .before .before .before .before .before .args .text .now) (c .before .before .before .before .before .before .before .before .before .before .before .args .bytes .now) (c .before .before .before .before .before .before .before .before .before .before .before .args .value .now)) (sym (c .before .before .before .before .before .p3 .given .1)))
-    (w .ensures .0, w .ensures .1)
+    wrote-same (pieceBytes (a .text .now) (a .bytes .now) (a .value .now) (a .p)) _ (sym (ap integer (toZ-ofZ w64 (c .before .before .before .before .before .p3 .given .0 .0) (search needs)) ∙ ap (pieceBytes (c .before .before .before .before .before .before .before .before .before .before .before .args .text .now) (c .before .before .before .before .before .before .before .before .before .before .before .args .bytes .now) (c .before .before .before .before .before .before .before .before .before .before .before .args .value .now)) (sym (c .before .before .before .before .before .p3 .given .1)))) (a .at) (a .out .now) (w .last .1 .0) (w .result) (w .ensures .0, w .ensures .1)
 
 pub put-piece-spec : {M : Type 1} → statement M
 put-piece-spec =

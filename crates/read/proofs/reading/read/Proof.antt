@@ -2,10 +2,10 @@
 mod Tie
 use mathlib.Core.Path.{_≡_}
 use Rattle.kept.proofs.KeptLaws.{blank-memo}
-use Rattle.read.specs.declared.reading.Fit.the-variants.{Enough}
+use Rattle.fits.specs.declared.Fit.the-variants.{Enough}
 use Rattle.read.specs.Read.{lentOf}
-use Rattle.read.specs.ReadWalk.{readingOf}
-use Rattle.read.proofs.ScriptLaws.{written-kept, places-kept}
+use Rattle.entries.specs.Whole.{readingOf}
+use Rattle.entries.proofs.ScriptLaws.{written-kept, places-kept}
 use Rattle.read.proofs.ReadLaws.{measure-refuses, short-refuses, enough-reads, text-short, counts-are, entries-there, entries-few, items-there, items-few, expectations-there, expectations-few, store-there, refused-answer, entries-as-was, items-as-was, expectations-as-was, store-as-was, read-answer, entries-read, items-read, expectations-read, store-read}
 use borrow.Author.Needs.{needs}
 use Rattle.read.proofs.reading.read.Statement.{statement}

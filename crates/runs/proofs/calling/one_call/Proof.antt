@@ -4,7 +4,8 @@ use mathlib.Core.Path.{sym}
 use lib.Seq.{length-take-le}
 use borrow.Author.Needs.{needs}
 use Rattle.rows.specs.Rows.{at}
-use Rattle.judge.specs.Judge.{Lent, JudgeState}
+use Rattle.judging.specs.Judge.{Lent, JudgeState}
+use Rattle.judge.specs.Tally.{stateOf}
 use Rattle.runs.proofs.CallingLaws.{closed, handshaken, entered}
 use Rattle.runs.proofs.calling.one_call.Statement.{statement}
 use Rattle.runs.proofs.calling.one_call.Proof.Tie as tie
@@ -20,7 +21,7 @@ unfolding at
 returns c =
     let S = c .before .before .before .before .before .before .args in
     let k : Lent = record { text = S .text .now; script = S .script; entries = S .entries .now; expectations = S .expectations .now } in
-    let s : JudgeState = record { tally = S .t; verdicts = S .verdicts .now } in
+    let s : JudgeState = stateOf (S .t) (S .verdicts .now) in
     closed k s (S .bytes .now) (S .lists .now) (S .t6) (S .scratch .now) (c .close .result) (c .before .if1 .taken) (c .close .ensures)
 
 array-read-number : tie.Need-array-read-number
@@ -54,7 +55,7 @@ unfolding at
 returns-2 c =
     let S = c .before .before .before .before .before .before .before .before .before .before .before .before .before .before .args in
     let k : Lent = record { text = S .text .now; script = S .script; entries = S .entries .now; expectations = S .expectations .now } in
-    let s : JudgeState = record { tally = S .t; verdicts = S .verdicts .now } in
+    let s : JudgeState = stateOf (S .t) (S .verdicts .now) in
     let H = c .before .before .before .before .handshake in
     handshaken (S .text .now) (S .script) (S .entries .now) (S .expectations .now) s (S .bytes .now) (S .lists .now) (S .t6) (S .scratch .now) (c .before .before .before .before .before .before .before .before .before .before .before .before .before .before .pre) (H .result) (H .last .1 .1 .1 .1 .1 .1 .1 .1 .0) (H .last .1 .1 .1 .1 .1 .1 .1 .1 .1 .0) (c .before .before .before .before .before .before .before .before .before .if1 .left) (c .before .before .before .before .before .before .before .before .if2 .taken) (c .before .before .before .before .before .before .before .info-in .result) (c .before .before .before .before .before .before .before .info-in .ensures) (H .ensures .0) (H .ensures .1)
 
@@ -83,7 +84,7 @@ unfolding at
 returns-3 c =
     let S = c .before .before .before .before .before .before .before .before .before .before .before .before .before .before .args in
     let k : Lent = record { text = S .text .now; script = S .script; entries = S .entries .now; expectations = S .expectations .now } in
-    let s : JudgeState = record { tally = S .t; verdicts = S .verdicts .now } in
+    let s : JudgeState = stateOf (S .t) (S .verdicts .now) in
     let H = c .before .before .before .before .entry in
     entered k s (S .bytes .now) (S .lists .now) (S .t6) (S .scratch .now) (c .before .before .before .before .before .before .before .before .before .before .before .before .before .before .pre) (H .result) (H .last .1 .1 .1 .1 .1 .1 .1 .1 .1 .0) (H .last .1 .1 .1 .1 .1 .1 .1 .1 .1 .1 .0) (c .before .before .before .before .before .before .before .before .before .if1 .left) (c .before .before .before .before .before .before .before .before .if2 .left) (c .before .before .before .before .before .before .before .response-in .result) (c .before .before .before .before .before .before .before .response-in .ensures) (H .ensures .0) (H .ensures .1)
 

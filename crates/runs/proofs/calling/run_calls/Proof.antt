@@ -4,7 +4,7 @@ use Prim.Native.Nat.{_-_}
 use mathlib.Core.Path.{_≡_, refl, _∙_}
 use lib.ListN.{length, length-set}
 use borrow.Author.Needs.{needs}
-use Rattle.judge.specs.Judge.{Lent}
+use Rattle.judging.specs.Judge.{Lent}
 use Rattle.runs.proofs.RunLaws.{Going, going-begun, answer-place, part-lent, going-on, all-left, all-answered, all-written}
 use Rattle.runs.proofs.calling.run_calls.Statement.{statement}
 use Rattle.runs.proofs.calling.run_calls.Proof.Tie as tie

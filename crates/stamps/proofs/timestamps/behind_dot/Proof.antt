@@ -6,7 +6,7 @@ use native.Mathlib.Omega.{arith}
 use lib.ListN.{length, getD, drop}
 use borrow.Author.Tests.{eq-eqb, ne-eqb}
 use Rattle.text.proofs.Scan.{rest-more, rest-none}
-use Rattle.wire.specs.Version.{DOT}
+use Rattle.version.specs.Version.{DOT}
 use Rattle.script.specs.Timestamps.{digitRun, fraction}
 use Rattle.stamps.proofs.TimeLaws.{Stopped}
 use borrow.Author.Needs.{needs}

@@ -50,10 +50,10 @@ use denote.Triple.Walked.{Stays, stay-ref, walkOf, goes-ref, Walks, ends-at, wal
 use Rattle.text.specs.declared.lines.Line.{Line}
 use Rattle.text.proofs.lines.Line as N
 use Rattle.text.proofs.lines.Line.Laws as N′
-use Rattle.text.proofs.lines.line_at as line-at
-use Rattle.text.proofs.lines.line_at.Symbol as line-at-def
-use Rattle.text.proofs.lines.line_at.Symbol.{name as #text·line-at}
-use Rattle.text.proofs.lines.line_at.Met as line-at-thm
+use Rattle.lines.proofs.lines.line_at as line-at
+use Rattle.lines.proofs.lines.line_at.Symbol as line-at-def
+use Rattle.lines.proofs.lines.line_at.Symbol.{name as #lines·line-at}
+use Rattle.lines.proofs.lines.line_at.Met as line-at-thm
 use Rattle.walker.specs.Walk.{left, hasMore, lineHere, past}
 use Rattle.walker.specs.declared.Lines.{Lines}
 use Rattle.walker.proofs.Facts.{says-both, needs-both}
@@ -168,7 +168,7 @@ module _ {M : Type 1} (𝓤 : URA M) (H : Heap 𝓤) (A : Atoms 𝓤) (W : Given
   sum-fits : l .number + 1 < 2 ^ 64
   sum-fits = subst (λ (n : ℕ). n + 1 < 2 ^ 64) (sym (here h m .called)) ok
 
-  module _ (C : Calls 𝓤 H) (Λ : Loops 𝓤 H) (fm : FmC 𝓤 H (W .laws) C) (known : Triple 𝓤 (C #text·line-at) (LineAt 𝓤 H A at-mem run)) where
+  module _ (C : Calls 𝓤 H) (Λ : Loops 𝓤 H) (fm : FmC 𝓤 H (W .laws) C) (known : Triple 𝓤 (C #lines·line-at) (LineAt 𝓤 H A at-mem run)) where
     walk : ent 𝓤 (onEntry 𝓤 H A next.signature (κ, (κ′, tt)) (q, (q′, tt)) x (vptr b o ∷ [], tt)) (WpFn 𝓤 H C Λ code.function (vptr b o ∷ []) Post)
     walk =
         qed W ((‵ (flft κ q) ⊛ ‵ (flft κ′ q′) ⊛ ‵ ftrue) ∷ ‵ (owns (MutRef (named 0) κ R ∷ []) x (vptr b o ∷ [], tt)) ∷ []) ∵ enter ! C Λ code.function (vptr b o ∷ []) _ $
@@ -207,11 +207,11 @@ module _ {M : Type 1} (𝓤 : URA M) (H : Heap 𝓤) (A : Atoms 𝓤) (W : Given
         keep ! (0 ∷ 1 ∷ 2 ∷ 4 ∷ 3 ∷ []) $ by ! exits))))))))))))
 
 module _ {M : Type 1} (𝓤 : URA M) (H : Heap 𝓤) (A : Atoms 𝓤) (W : Given 𝓤 H A) (mem : Memory → SProp 𝓤) (run : Routine → Fun 𝓤) where
-  next-walks : (C : Calls 𝓤 H) (Λ : Loops 𝓤 H) → FmC 𝓤 H (W .laws) C → Triple 𝓤 (C #text·line-at) (LineAt 𝓤 H A mem run) → Walks 𝓤 H A next.ended stayed (WpFn 𝓤 H C Λ code.function) (next.clauses 𝓤 H A mem run)
+  next-walks : (C : Calls 𝓤 H) (Λ : Loops 𝓤 H) → FmC 𝓤 H (W .laws) C → Triple 𝓤 (C #lines·line-at) (LineAt 𝓤 H A mem run) → Walks 𝓤 H A next.ended stayed (WpFn 𝓤 H C Λ code.function) (next.clauses 𝓤 H A mem run)
   next-walks C Λ fm known = walked 𝓤 H A next.ended stayed (next.clauses 𝓤 H A mem run) (WpFn 𝓤 H C Λ code.function) (λ κs. (ptr-vals, tt)) (λ κs. (mut-tells (named 0) (κs .0) (T.the-row (namedLft 2 1 tt κs)), tt))
       (λ κs qs bounds a _ are. needs-both 𝓤 _ _ _ (λ m ok. walk 𝓤 H A W mem run (κs .0) (κs .1 .0) (qs .0) (qs .1 .0) bounds (a .0 .ptr .0) (a .0 .ptr .1) (a .0 .name) (a .0 .now) m ok C Λ fm known))
 
-next-meets : {M : Type 1} (𝓤 : URA M) (H : Heap 𝓤) (A : Atoms 𝓤) → Given 𝓤 H A → (mem : Memory → SProp 𝓤) (run : Routine → Fun 𝓤) (𝓣 : Tables 𝓤 H) → Triple 𝓤 (𝓣 .C #text·line-at) (LineAt 𝓤 H A mem run)
+next-meets : {M : Type 1} (𝓤 : URA M) (H : Heap 𝓤) (A : Atoms 𝓤) → Given 𝓤 H A → (mem : Memory → SProp 𝓤) (run : Routine → Fun 𝓤) (𝓣 : Tables 𝓤 H) → Triple 𝓤 (𝓣 .C #lines·line-at) (LineAt 𝓤 H A mem run)
     → Meets 𝓤 H A next.signature (WpFn 𝓤 H (𝓣 .C) (𝓣 .Λ) code.function) (next.spec 𝓤 H A mem run)
 next-meets 𝓤 H A W mem run 𝓣 known =
     walk-meets 𝓤 H A next.ended stayed W (goes-ref 𝓤 H A W 2 0 tt behind, tt) (next.clauses 𝓤 H A mem run)
@@ -223,4 +223,4 @@ next-line-spec 𝓤 H 𝓜 𝓖 𝓡 =
     entered 𝓤 H (tripleOf 𝓤 H (𝓖 .A) next.signature (next.spec 𝓤 H (𝓖 .A) (𝓜 .mem) (𝓡 .run)))
     (tables 𝓤 H 𝓜 𝓡 code.env .C) (tables 𝓤 H 𝓜 𝓡 code.env .Λ) #walker·next-line code.function (code.unfolded 𝓤 H 𝓜 𝓡)
     (next-meets 𝓤 H (𝓖 .A) (givenOf 𝓤 H 𝓜 𝓖) (𝓜 .mem) (𝓡 .run) (tablesOf 𝓤 H 𝓜 (tables 𝓤 H 𝓜 𝓡 code.env))
-    (cited 𝓤 H (LineAt 𝓤 H (𝓖 .A) (𝓜 .mem) (𝓡 .run)) 𝓜 𝓡 code.env #text·line-at line-at-def.routine code.calls-text·lines·line-at (line-at-thm.met 𝓤 H 𝓜 𝓖 𝓡)))
+    (cited 𝓤 H (LineAt 𝓤 H (𝓖 .A) (𝓜 .mem) (𝓡 .run)) 𝓜 𝓡 code.env #lines·line-at line-at-def.routine code.calls-lines·lines·line-at (line-at-thm.met 𝓤 H 𝓜 𝓖 𝓡)))

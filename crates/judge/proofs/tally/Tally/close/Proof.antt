@@ -1,5 +1,7 @@
 -- `Tally::close` meets its contract. Assumes nothing.
+use mathlib.Core.Path.{ap}
 use borrow.Author.Needs.{needs}
+use Rattle.judging.specs.declared.calls.Answer.{Answer}
 use Rattle.judge.proofs.tally.Tally.close.Statement.{statement}
 use Rattle.judge.proofs.tally.Tally.close.Tie as tie
 
@@ -7,7 +9,7 @@ close-answer-requires : tie.Need-close-answer-requires
 close-answer-requires c κs = search needs
 
 returns : tie.Need-returns
-returns c = cc
+returns c = ap (λ (a : Answer). record { tally = c .before .before .args .self; answer = a }) (c .close-answer .ensures)
 
 pub close-spec : {M : Type 1} → statement M
 close-spec = tie.close (tie.spec close-answer-requires returns)

@@ -1,7 +1,7 @@
 -- `judge::tally::Tally::handshake` meets its contract. Assumes nothing.
 mod Tie
 use Rattle.expect.proofs.TellLaws.{few}
-use Rattle.judge.proofs.StepLaws.{handshake-leaves}
+use Rattle.judge.proofs.TallyLaws.{handshake-leaves}
 use borrow.Author.Needs.{needs}
 use Rattle.judge.proofs.tally.Tally.handshake.Statement.{statement}
 use Rattle.judge.proofs.tally.Tally.handshake.Proof.Tie as tie
@@ -21,8 +21,11 @@ same-length c = search needs
 same-length-2 : tie.Need-same-length-2
 same-length-2 c = search needs
 
+turn-of-requires : tie.Need-turn-of-requires
+turn-of-requires c κs = search needs
+
 returns : tie.Need-returns
-returns c = let s = c .before .before .before .before .before .before .before .before .before .before .before .before .before .args in let q = c .before .before .before .before .before .before .before .counted-of in let r = c .before .before .before .before .before .before .before .before .handshake-range in let j = c .before .before .before .before .judge-on in handshake-leaves (s .self) (s .text .now) (s .script) (s .expectations .now) (s .number) (s .bytes .now) (s .lists .now) (q .result .now) (q .ensures) (s .verdicts .now) (s .scratch .now) _ _ (j .result) (s .i) (r .result) (r .ensures) (j .ensures .0) (j .ensures .1)
+returns c = let s = c .before .before .before .before .before .before .before .before .before .before .before .before .before .before .args in let q = c .before .before .before .before .before .before .before .before .counted-of in let r = c .before .before .before .before .before .before .before .before .before .handshake-range in let j = c .before .before .before .before .before .judge-on in handshake-leaves (s .self .next) (s .self .counts) (s .text .now) (s .script) (s .expectations .now) (s .number) (s .bytes .now) (s .lists .now) (q .result .now) (q .ensures) (s .verdicts .now) (s .scratch .now) _ _ (j .result) (c .turn-of .result) (c .turn-of .ensures) (s .i) (r .result) (r .ensures) (j .ensures .0) (j .ensures .1)
 
 pub handshake-spec : {M : Type 1} → statement M
 handshake-spec =
@@ -31,6 +34,7 @@ handshake-spec =
     handshake-range-requires
     counted-of-requires
     judge-on-requires
+    turn-of-requires
     same-length
     same-length-2
     returns)

@@ -15,9 +15,9 @@ use Rattle.roles.proofs.steps.same_place.Symbol as Symbol'
 use Rattle.roles.proofs.steps.step.Met as Met''
 use Rattle.roles.proofs.steps.step.Reads as Reads'3
 use Rattle.roles.proofs.steps.step.Symbol as Symbol''
-use Rattle.text.proofs.lines.line_at.Met as Met'3
-use Rattle.text.proofs.lines.line_at.Reads as Reads'4
-use Rattle.text.proofs.lines.line_at.Symbol as Symbol'3
+use Rattle.lines.proofs.lines.line_at.Met as Met'3
+use Rattle.lines.proofs.lines.line_at.Reads as Reads'4
+use Rattle.lines.proofs.lines.line_at.Symbol as Symbol'3
 use Rattle.totals.proofs.begin.Met as Met'4
 use Rattle.totals.proofs.begin.Reads as Reads'5
 use Rattle.totals.proofs.begin.Symbol as Symbol'4
@@ -211,4 +211,4 @@ module _ {M : Type 1} where
 
   pub close : Lts.Closed (Reads'5.Asked, Reads'5.Learnt, Reads'4.Asked, Reads'4.Learnt, Reads'3.Asked, Reads'3.Learnt, Reads.Asked, Reads.Learnt, Reads'9.Asked, Reads'9.Learnt, Reads'7.Asked, Reads'7.Learnt, Reads'8.Asked, Reads'8.Learnt, Reads''.Asked, Reads''.Learnt, Reads'6.Asked, Reads'6.Learnt) Reads'.Pre Reads'.Post M → Statement.statement M
   unfolding Code.routine Running.tablesOf
-  close = λ closed 𝓤 H 𝓜 𝓖 𝓡. Written.close 2 Kinds.ps Kinds.r Reads'.Ghost Reads'.requires Reads'.ensures Reads'.pre-read Reads'.Pinned Reads'.Owned Reads'.post-read record { M = M; 𝓤 = 𝓤; H = H; 𝓜 = 𝓜; 𝓖 = 𝓖; 𝓡 = 𝓡 } Code.env Key.name Code.function (Code.unfolded 𝓤 H 𝓜 𝓡) (λ κs a g. tt) (λ κs. Reads'.owns κs record { M = M; 𝓤 = 𝓤; H = H; 𝓜 = 𝓜; 𝓖 = 𝓖; 𝓡 = 𝓡 }) (Reads'.passes record { M = M; 𝓤 = 𝓤; H = H; 𝓜 = 𝓜; 𝓖 = 𝓖; 𝓡 = 𝓡 }) λ g. closed 𝓤 H (𝓖 .A) (Running.givenOf 𝓤 H 𝓜 𝓖) (Run.Over 𝓤 H 𝓜 𝓖 𝓡 Code.env) (Reads'5.known record { M = M; 𝓤 = 𝓤; H = H; 𝓜 = 𝓜; 𝓖 = 𝓖; 𝓡 = 𝓡 } Code.env Symbol'4.name Symbol'4.routine Code.calls-totals·begin (Met'4.met 𝓤 H 𝓜 𝓖 𝓡)) (Reads'4.known record { M = M; 𝓤 = 𝓤; H = H; 𝓜 = 𝓜; 𝓖 = 𝓖; 𝓡 = 𝓡 } Code.env Symbol'3.name Symbol'3.routine Code.calls-text·lines·line-at (Met'3.met 𝓤 H 𝓜 𝓖 𝓡)) (Reads'3.known record { M = M; 𝓤 = 𝓤; H = H; 𝓜 = 𝓜; 𝓖 = 𝓖; 𝓡 = 𝓡 } Code.env Symbol''.name Symbol''.routine Code.calls-roles·steps·step (Met''.met 𝓤 H 𝓜 𝓖 𝓡)) (Reads.known record { M = M; 𝓤 = 𝓤; H = H; 𝓜 = 𝓜; 𝓖 = 𝓖; 𝓡 = 𝓡 } Code.env Symbol.name Symbol.routine Code.calls-kept·keep (Met.met 𝓤 H 𝓜 𝓖 𝓡)) (Reads'9.known record { M = M; 𝓤 = 𝓤; H = H; 𝓜 = 𝓜; 𝓖 = 𝓖; 𝓡 = 𝓡 } Code.env Symbol'8.name Symbol'8.routine Code.calls-totals·say-on (Met'8.met 𝓤 H 𝓜 𝓖 𝓡)) (Reads'7.known record { M = M; 𝓤 = 𝓤; H = H; 𝓜 = 𝓜; 𝓖 = 𝓖; 𝓡 = 𝓡 } Code.env Symbol'6.name Symbol'6.routine Code.calls-totals·enter (Met'6.met 𝓤 H 𝓜 𝓖 𝓡)) (Reads'8.known record { M = M; 𝓤 = 𝓤; H = H; 𝓜 = 𝓜; 𝓖 = 𝓖; 𝓡 = 𝓡 } Code.env Symbol'7.name Symbol'7.routine Code.calls-totals·open-entry (Met'7.met 𝓤 H 𝓜 𝓖 𝓡)) (Reads''.known record { M = M; 𝓤 = 𝓤; H = H; 𝓜 = 𝓜; 𝓖 = 𝓖; 𝓡 = 𝓡 } Code.env Symbol'.name Symbol'.routine Code.calls-roles·steps·same-place (Met'.met 𝓤 H 𝓜 𝓖 𝓡)) (Reads'6.known record { M = M; 𝓤 = 𝓤; H = H; 𝓜 = 𝓜; 𝓖 = 𝓖; 𝓡 = 𝓡 } Code.env Symbol'5.name Symbol'5.routine Code.calls-totals·close-on (Met'5.met 𝓤 H 𝓜 𝓖 𝓡))
+  close = λ closed 𝓤 H 𝓜 𝓖 𝓡. Written.close 2 Kinds.ps Kinds.r Reads'.Ghost Reads'.requires Reads'.ensures Reads'.pre-read Reads'.Pinned Reads'.Owned Reads'.post-read record { M = M; 𝓤 = 𝓤; H = H; 𝓜 = 𝓜; 𝓖 = 𝓖; 𝓡 = 𝓡 } Code.env Key.name Code.function (Code.unfolded 𝓤 H 𝓜 𝓡) (λ κs a g. tt) (λ κs. Reads'.owns κs record { M = M; 𝓤 = 𝓤; H = H; 𝓜 = 𝓜; 𝓖 = 𝓖; 𝓡 = 𝓡 }) (Reads'.passes record { M = M; 𝓤 = 𝓤; H = H; 𝓜 = 𝓜; 𝓖 = 𝓖; 𝓡 = 𝓡 }) λ g. closed 𝓤 H (𝓖 .A) (Running.givenOf 𝓤 H 𝓜 𝓖) (Run.Over 𝓤 H 𝓜 𝓖 𝓡 Code.env) (Reads'5.known record { M = M; 𝓤 = 𝓤; H = H; 𝓜 = 𝓜; 𝓖 = 𝓖; 𝓡 = 𝓡 } Code.env Symbol'4.name Symbol'4.routine Code.calls-totals·begin (Met'4.met 𝓤 H 𝓜 𝓖 𝓡)) (Reads'4.known record { M = M; 𝓤 = 𝓤; H = H; 𝓜 = 𝓜; 𝓖 = 𝓖; 𝓡 = 𝓡 } Code.env Symbol'3.name Symbol'3.routine Code.calls-lines·lines·line-at (Met'3.met 𝓤 H 𝓜 𝓖 𝓡)) (Reads'3.known record { M = M; 𝓤 = 𝓤; H = H; 𝓜 = 𝓜; 𝓖 = 𝓖; 𝓡 = 𝓡 } Code.env Symbol''.name Symbol''.routine Code.calls-roles·steps·step (Met''.met 𝓤 H 𝓜 𝓖 𝓡)) (Reads.known record { M = M; 𝓤 = 𝓤; H = H; 𝓜 = 𝓜; 𝓖 = 𝓖; 𝓡 = 𝓡 } Code.env Symbol.name Symbol.routine Code.calls-kept·keep (Met.met 𝓤 H 𝓜 𝓖 𝓡)) (Reads'9.known record { M = M; 𝓤 = 𝓤; H = H; 𝓜 = 𝓜; 𝓖 = 𝓖; 𝓡 = 𝓡 } Code.env Symbol'8.name Symbol'8.routine Code.calls-totals·say-on (Met'8.met 𝓤 H 𝓜 𝓖 𝓡)) (Reads'7.known record { M = M; 𝓤 = 𝓤; H = H; 𝓜 = 𝓜; 𝓖 = 𝓖; 𝓡 = 𝓡 } Code.env Symbol'6.name Symbol'6.routine Code.calls-totals·enter (Met'6.met 𝓤 H 𝓜 𝓖 𝓡)) (Reads'8.known record { M = M; 𝓤 = 𝓤; H = H; 𝓜 = 𝓜; 𝓖 = 𝓖; 𝓡 = 𝓡 } Code.env Symbol'7.name Symbol'7.routine Code.calls-totals·open-entry (Met'7.met 𝓤 H 𝓜 𝓖 𝓡)) (Reads''.known record { M = M; 𝓤 = 𝓤; H = H; 𝓜 = 𝓜; 𝓖 = 𝓖; 𝓡 = 𝓡 } Code.env Symbol'.name Symbol'.routine Code.calls-roles·steps·same-place (Met'.met 𝓤 H 𝓜 𝓖 𝓡)) (Reads'6.known record { M = M; 𝓤 = 𝓤; H = H; 𝓜 = 𝓜; 𝓖 = 𝓖; 𝓡 = 𝓡 } Code.env Symbol'5.name Symbol'5.routine Code.calls-totals·close-on (Met'5.met 𝓤 H 𝓜 𝓖 𝓡))

@@ -1,0 +1,12 @@
+pub mod Counting
+pub mod Orders
+pub mod Refusals
+pub mod CloseLaws
+pub mod ScratchLaws
+pub mod Slots
+pub mod Lines
+pub mod History
+pub mod Ours
+pub mod LentRead
+pub mod DemandThree
+pub mod JudgeExamples

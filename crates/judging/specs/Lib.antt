@@ -1,0 +1,6 @@
+pub mod Tally
+pub mod Calls
+pub mod Judge
+pub mod Scratch
+pub mod PlainJudge
+pub mod Claim

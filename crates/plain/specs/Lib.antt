@@ -1,2 +1,0 @@
-pub mod PlainJudge
-pub mod Claim

@@ -1,0 +1,6 @@
+pub mod JudgeLaws
+pub mod RangeLaws
+pub mod EveryLaws
+pub mod CheckLaws
+pub mod StepLaws
+pub mod Made

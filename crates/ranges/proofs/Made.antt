@@ -1,0 +1,19 @@
+-- What tools/walk.py made: derivations of the functions over slices of records. Assumes nothing.
+pub mod EachAllFitKinds
+pub mod EachAllFitLts
+pub mod EachAllFitReads
+pub mod EachAllInKinds
+pub mod EachAllInLts
+pub mod EachAllInReads
+pub mod EachJudgeRangeKinds
+pub mod EachJudgeRangeLts
+pub mod EachJudgeRangeReads
+pub mod StepsEntryRangeKinds
+pub mod StepsEntryRangeLts
+pub mod StepsEntryRangeReads
+pub mod StepsJudgeOnKinds
+pub mod StepsJudgeOnLts
+pub mod StepsJudgeOnReads
+pub mod StepsRefusalOfKinds
+pub mod StepsRefusalOfLts
+pub mod StepsRefusalOfReads
