@@ -15,6 +15,24 @@ use Rattle.text.proofs.LiteralLaws.{other-length}
 use Rattle.text.proofs.Scan.{rest-more, rest-none}
 use Rattle.joined.specs.Pieces.{row, rowFrom, opens}
 
+-- ---- a value and its front
+
+pub front-short : (p s : List ℕ) → length s < length p → false ≡ startsWith p s
+unfolding startsWith
+front-short [] s h = absurd (omega arith)
+front-short (b ∷ p) [] h = refl
+front-short (b ∷ p) (x ∷ s) h = front-false (eqb x b) (startsWith p s) (front-short p s (omega arith))
+  where
+    front-false : (c d : Bool) → false ≡ d → false ≡ c & d
+    front-false true d e = e
+    front-false false d e = refl
+
+pub front-same : (p s : List ℕ) → length p ≤ length s → sameBytes (take (length p) s) p ≡ startsWith p s
+unfolding startsWith sameBytes
+front-same [] s h = refl
+front-same (b ∷ p) [] h = absurd (omega arith)
+front-same (b ∷ p) (x ∷ s) h = ap (λ (c : Bool). eqb x b & c) (front-same p s (omega arith))
+
 -- ---- a row
 
 pub row-more : (ps : List (List ℕ)) (k : ℕ) → k < length ps → row (drop k ps) ≡ getD ps k [] ++ row (drop (k + 1) ps)

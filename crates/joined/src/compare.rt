@@ -3,11 +3,25 @@ ghost use mathlib.Core.Path.{_≡_};
 ghost use mathlib.Core.List.{[]};
 ghost use Prim.Native.Nat.{_+_, _≤_, _<_};
 ghost use lib.ListN.{length, getD};
-ghost use Rattle.text.specs.Parts.{sameBytes};
+ghost use Rattle.text.specs.Parts.{startsWith, sameBytes};
 ghost use Rattle.verdicts.specs.Held.{textsIn};
 ghost use Rattle.joined.specs.Lists.{listText};
 ghost use Rattle.joined.specs.Pieces.{piecesOf, pieceCount, rowFrom, opens};
 use script::records::Items;
+
+// Whether a value begins with these bytes, which may be many: sixteen at a time.
+fn begins(value: &[u8], front: &[u8]) -> bool
+    ensures { λ r. ⌜ r ≡ startsWith (now (front .entry)) (now (value .entry)) ⌝ }
+{
+    let n = front.len();
+    if n < 16 {
+        return text::parts::starts_with(value, front);
+    }
+    if value.len() < n {
+        return false;
+    }
+    finding::equal::same_value(&value[..n], front)
+}
 
 // Whether the list, from the byte at o of its piece at j on, is the pattern, or only begins with it.
 pub fn opens_at<'a>(
@@ -42,7 +56,7 @@ pub fn opens_at<'a>(
             }
             return text::parts::starts_with(here, left);
         }
-        if text::parts::starts_with(left, here) {
+        if begins(left, here) {
             p += here.len();
             k += 1;
             from = 0;

@@ -58,8 +58,8 @@ starts-with-requires c κs = search needs
 returns-2 : tie.Need-returns-2 Inv-loop μ-loop
 returns-2 c = search (needs, list-turns)
 
-starts-with-requires-2 : tie.Need-starts-with-requires-2 Inv-loop μ-loop
-starts-with-requires-2 c κs = search needs
+begins-requires : tie.Need-begins-requires Inv-loop μ-loop
+begins-requires c κs = search needs
 
 add-p : tie.Need-add-p Inv-loop μ-loop
 add-p c = search needs
@@ -97,7 +97,7 @@ opens-at-spec =
     returns
     starts-with-requires
     returns-2
-    starts-with-requires-2
+    begins-requires
     add-p
     add-k
     loop-less
