@@ -38,7 +38,7 @@ use Rattle.script.specs.Contents.{givenBytes, givenData, unquotedOf, hexOf, dat
 use Rattle.script.specs.Layout.{storedOf}
 use Rattle.script.specs.Inside.{In}
 use Rattle.tables.proofs.ItemLaws.{items-by, end-fits}
-use Rattle.tables.proofs.ValueLaws.{no-quotes}
+use Rattle.storing.proofs.ValueLaws.{no-quotes}
 use Rattle.tables.specs.SetRead.{itemsOr, bracedItems, itemsBy}
 use Rattle.openings.specs.OpeningRead.{halves, setPlace}
 use Rattle.openings.specs.declared.Halves.{Halves}

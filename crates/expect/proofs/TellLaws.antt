@@ -31,9 +31,9 @@ use Rattle.frames.specs.declared.frames.Frame.{Frame}
 use Rattle.frames.proofs.FrameLaws.{entry-says, handshake-says}
 use Rattle.messages.specs.Lengths.{frameLength}
 use Rattle.messages.proofs.MessageLaws.{frame-length}
-use Rattle.lookups.specs.Values.{valueBytes, valueText}
-use Rattle.lookups.specs.declared.value.Value.{Value}
-use Rattle.lookups.specs.declared.value.Value.the-variants as Value
+use Rattle.sought.specs.Values.{valueBytes, valueText}
+use Rattle.sought.specs.declared.value.Value.{Value}
+use Rattle.sought.specs.declared.value.Value.the-variants as Value
 use Rattle.expect.specs.Told.{counted, framedAs, toldOf, unlessRefused}
 use Rattle.expect.specs.ExpectRead.{noValue}
 use Rattle.expect.specs.declared.message.Told.{Told}

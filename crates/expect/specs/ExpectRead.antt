@@ -1,7 +1,7 @@
 -- What only the code of Message needs. Assumes nothing.
 use mathlib.Core.Bool.{Bool, true, false}
-use Rattle.lookups.specs.declared.value.Value.{Value}
-use Rattle.lookups.specs.declared.value.Value.the-variants as Value
+use Rattle.sought.specs.declared.value.Value.{Value}
+use Rattle.sought.specs.declared.value.Value.the-variants as Value
 
 unfoldable pub noValue : Value → Bool
 noValue Value.Missing = true

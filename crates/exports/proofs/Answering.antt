@@ -3,7 +3,7 @@ use mathlib.Core.Path.{_≡_, sym, ap, _∙_}
 use Rattle.script.specs.Reading.{Parsed, refusedAt, read}
 use Rattle.script.specs.declared.records.Counts.{Counts}
 use Rattle.script.specs.declared.records.Refusal.{Refusal}
-use Rattle.totals.specs.Measure.{zeros}
+use Rattle.measuring.specs.Measure.{zeros}
 use Rattle.parse.specs.MeasureRead.{measuredOf}
 use Rattle.parse.specs.declared.measure.Measured.{Measured}
 use Rattle.parse.specs.declared.measure.Measured.the-variants.{Refused, Read}

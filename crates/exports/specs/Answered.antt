@@ -3,7 +3,7 @@
 use Prim.Native.Nat.{ℕ}
 use Rattle.script.specs.Reading.{Parsed, refusedAt, read}
 use Rattle.script.specs.declared.records.Counts.{Counts}
-use Rattle.totals.specs.Measure.{zeros}
+use Rattle.measuring.specs.Measure.{zeros}
 
 unfoldable pub refusedAs : {A : Type 0} → Parsed A → ℕ
 refusedAs (refusedAt r) = r .number

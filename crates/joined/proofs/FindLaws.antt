@@ -13,8 +13,8 @@ use Rattle.text.proofs.Scan.{never}
 use Rattle.text.specs.Skip.{Without}
 use Rattle.verdicts.specs.Decisions.{contains}
 use Rattle.finding.proofs.SearchLaws.{none-left, tried, stands, passed}
-use Rattle.joined.specs.Pieces.{row, rowFrom, opens}
-use Rattle.joined.proofs.OpenLaws.{row-more, row-none}
+use Rattle.list_pieces.specs.Pieces.{row, rowFrom, opens}
+use Rattle.list_pieces.proofs.OpenLaws.{row-more, row-none}
 
 -- ---- in a value with more behind it
 

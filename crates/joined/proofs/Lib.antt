@@ -1,3 +1,1 @@
 pub mod FindLaws
-pub mod OpenLaws
-pub mod PieceLaws

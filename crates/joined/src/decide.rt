@@ -5,7 +5,7 @@ ghost use lib.ListN.{length};
 ghost use Rattle.verdicts.specs.Decisions.{decides};
 ghost use Rattle.verdicts.specs.Expected as expected;
 ghost use Rattle.verdicts.specs.Held.{matchingOf, textsIn};
-ghost use Rattle.joined.specs.Lists.{listText};
+ghost use Rattle.list_pieces.specs.Lists.{listText};
 use script::records::Items;
 use script::records::Matcher;
 use verdicts::Verdict;
@@ -15,7 +15,7 @@ fn exact(text: &[u8], braces: bool, r: Items, bytes: &[u8], lists: &[[usize; 2]]
     requires { ⌜ r .count ≤ 0x8000 ⌝ }
     ensures { λ v. ⌜ v ≡ decides (expected.exact (now (text .entry))) (listText braces (textsIn (now (bytes .entry)) (now (lists .entry)) r)) ⌝ }
 {
-    decisions::passed_if(crate::compare::same(text, braces, r, bytes, lists))
+    decisions::passed_if(list_pieces::compare::same(text, braces, r, bytes, lists))
 }
 
 fn regex(pattern: &[u8], braces: bool, r: Items, bytes: &[u8], lists: &[[usize; 2]]) -> Verdict

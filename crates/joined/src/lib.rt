@@ -1,5 +1,3 @@
 // What a matcher decides of a joined list, without writing it: the list is looked at piece by piece.
-mod compare;
 pub mod decide;
-mod pieces;
 mod search;

@@ -5,8 +5,8 @@ ghost use lib.ListN.{length, drop};
 ghost use Rattle.text.specs.Base.{_or_};
 ghost use Rattle.verdicts.specs.Decisions as decisions;
 ghost use Rattle.verdicts.specs.Held.{textsIn};
-ghost use Rattle.joined.specs.Lists.{listText};
-ghost use Rattle.joined.specs.Pieces.{piecesOf, pieceCount, row};
+ghost use Rattle.list_pieces.specs.Lists.{listText};
+ghost use Rattle.list_pieces.specs.Pieces.{piecesOf, pieceCount, row};
 use script::records::Items;
 
 // The first place of a piece of len bytes from which a pattern of n bytes would go on in the pieces behind.
@@ -39,7 +39,7 @@ pub fn found_in<'a>(
     requires { ⌜ 0 < length (now pattern) ⌝ }
     ensures { λ b. ⌜ decisions.contains (now (pattern .entry)) (row (drop j (piecesOf (now (bytes .entry)) (now (lists .entry)) (now (signs .entry)) n r))) ≡ b or decisions.contains (now (pattern .entry)) (row (drop (j + 1) (piecesOf (now (bytes .entry)) (now (lists .entry)) (now (signs .entry)) n r))) ⌝ }
 {
-    let piece = crate::pieces::piece_at(bytes, lists, signs, n, r, j);
+    let piece = list_pieces::pieces::piece_at(bytes, lists, signs, n, r, j);
     if finding::search::contains(piece, pattern) {
         return true;
     }
@@ -48,7 +48,7 @@ pub fn found_in<'a>(
     let mut i = text::skip::skip_others(piece, first, from);
     while i < piece.len() {
         if piece[i] == first {
-            if crate::compare::opens_at(bytes, lists, signs, n, r, j, i, pattern, false) {
+            if list_pieces::compare::opens_at(bytes, lists, signs, n, r, j, i, pattern, false) {
                 return true;
             }
         }
@@ -74,7 +74,7 @@ pub fn found<'a>(
     if pattern.len() == 0 {
         return true;
     }
-    let end = crate::pieces::piece_count(r.count);
+    let end = list_pieces::pieces::piece_count(r.count);
     let mut j: usize = 0;
     while j < end {
         if found_in(bytes, lists, signs, n, r, j, pattern) {

@@ -1,21 +1,21 @@
 // Which value an expectation looks up.
-ghost use Rattle.lookups.specs.Values.{Means};
+ghost use Rattle.sought.specs.Values.{Means};
 ghost use Rattle.text.specs.Literal.{utf8};
 ghost use Rattle.verdicts.specs.Held.{expectedOf, responseOf, infoOf, textGiven, numberGiven};
 ghost use Rattle.verdicts.specs.Lookup.{lookedIn, toldIn, trustOf};
 ghost use Prim.Native.Nat.{ℕ};
 ghost use mathlib.Core.List.{List};
 ghost use mathlib.Core.Option.{some, Option·map, Option·getD};
-use crate::fields::field_value;
-use crate::value::Value;
-use crate::value::text_value;
-use crate::value::whole_value;
 use places::texts::text_at;
 use script::records::Expect;
 use script::records::Maybe;
 use script::response::DaemonResponse;
 use script::response::HandshakeInfo;
 use script::response::MaybeNumber;
+use sought::fields::field_value;
+use sought::value::Value;
+use sought::value::text_value;
+use sought::value::whole_value;
 
 // In a response; the field's name is a part of the text.
 pub fn looked_entry(e: Expect, text: &[u8], r: DaemonResponse) -> Value

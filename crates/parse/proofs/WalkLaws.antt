@@ -25,11 +25,11 @@ use Rattle.script.proofs.RolesInside.{role-in}
 use Rattle.kept.specs.Kept.{keptOf, Memo}
 use Rattle.kept.specs.declared.Kept.{Kept}
 use Rattle.kept.proofs.KeptLaws.{keep-memo, found-step, found-next}
-use Rattle.totals.specs.declared.What.the-variants.{ThePreamble}
-use Rattle.totals.specs.declared.Open.{Open}
+use Rattle.measuring.specs.declared.What.the-variants.{ThePreamble}
+use Rattle.measuring.specs.declared.Open.{Open}
 use Rattle.parse.specs.declared.measure.Measured.the-variants.{Refused, Read}
 use Rattle.totals.specs.Bounds.{Small, Few}
-use Rattle.totals.specs.Measure.{begun, preambleOpen, zeros, onward, counts, closeOn, entered, countOn, opened, sayOn, openOn, walkFrom}
+use Rattle.measuring.specs.Measure.{begun, preambleOpen, zeros, onward, counts, closeOn, entered, countOn, opened, sayOn, openOn, walkFrom}
 use Rattle.parse.specs.MeasureRead.{measuredOf}
 use Rattle.totals.proofs.BoundLaws.{begun-small, grown, said-small, opened-small, more-few, entered-few}
 

@@ -6,14 +6,14 @@ ghost use Rattle.text.specs.Lines.{lines};
 ghost use Rattle.kept.specs.Kept.{Memo};
 ghost use Rattle.script.specs.Reading.{measured};
 ghost use Rattle.script.specs.declared.roles.Where.the-variants as Stands;
-ghost use Rattle.totals.specs.Measure.{preambleOpen, zeros, walkFrom};
+ghost use Rattle.measuring.specs.Measure.{preambleOpen, zeros, walkFrom};
 ghost use Rattle.parse.specs.MeasureRead.{measuredOf};
 use kept::Kept;
+use measuring::What;
 use script::records::Counts;
 use script::records::Refusal;
 use script::roles::Role;
 use script::roles::Where;
-use totals::What;
 
 // What Measure answers.
 pub enum Measured {

@@ -1,4 +1,3 @@
-pub mod AskLaws
 pub mod CallingLaws
 pub mod RunLaws
 pub mod Made

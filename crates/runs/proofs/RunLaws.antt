@@ -15,8 +15,9 @@ use Rattle.judge.specs.Tally.{freshTally, stateOf}
 use Rattle.judging.specs.Calls.{Call, run}
 use Rattle.judging.specs.Judge.{Lent, JudgeState, judgeStart, judgeStep}
 use Rattle.calls.specs.CallRows.{callOf, callsOf, answerCode}
-use Rattle.runs.specs.Runs.{scratchCall, scratchRun, asksMore}
-use Rattle.runs.proofs.AskLaws.{rows-from, lent-here, lent-later}
+use Rattle.runs.specs.Runs.{scratchCall, scratchRun}
+use Rattle.asking.specs.Asking.{asksMore}
+use Rattle.asking.proofs.AskLaws.{rows-from, lent-here, lent-later}
 
 -- ---- a run
 

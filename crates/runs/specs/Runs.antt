@@ -1,11 +1,7 @@
 -- A list of calls on lent tables: the scratch after each call, and after all of them. Assumes nothing.
 use Prim.Native.Nat.{ℕ}
-use mathlib.Core.Bool.{Bool, false}
 use mathlib.Core.List.{List, [], _∷_, _++_}
 use lib.ListN.{take, drop}
-use lib.Dec.{ltb}
-use Rattle.text.specs.Base.{_or_}
-use Rattle.rows.specs.Rows.{at}
 use Rattle.judging.specs.declared.calls.Answer.{Answer}
 use Rattle.judging.specs.Calls.{Call, judge, close}
 use Rattle.judging.specs.Judge.{Lent, JudgeState}
@@ -24,8 +20,3 @@ scratchCall k s close scratch = scratch
 unfoldable pub scratchRun : {State : Type 0} → (step : State → Call → Answer × State) → (writes : State → Call → List ℕ → List ℕ) → State → List Call → (scratch : List ℕ) → List ℕ
 scratchRun step writes s [] scratch = scratch
 scratchRun step writes s (c ∷ cs) scratch = scratchRun step writes (step s c .1) cs (writes s c scratch)
-
--- a row asks for more bytes of the scratch than are lent
-unfoldable pub asksMore : (lent : ℕ) → (rows : List (List ℕ)) → Bool
-asksMore lent [] = false
-asksMore lent (row ∷ rows) = ltb lent (at row 2) or asksMore lent rows

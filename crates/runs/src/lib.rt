@@ -1,3 +1,2 @@
 // A list of calls, one after another, on the tables of a script.
-pub mod asking;
 pub mod calling;

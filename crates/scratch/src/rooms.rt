@@ -2,11 +2,11 @@
 ghost use mathlib.Core.Path.{_≡_};
 ghost use lib.ListN.{length};
 ghost use Rattle.writing.specs.Room.{left};
-ghost use Rattle.lookups.specs.Values.{valueText};
+ghost use Rattle.sought.specs.Values.{valueText};
 use lists::items::items_at;
 use lists::list_rooms::joined_room;
-use lookups::value::Value;
 use places::texts::text_at;
+use sought::value::Value;
 use writing::decimal::decimal_len;
 use writing::room::Room;
 use writing::room::less;

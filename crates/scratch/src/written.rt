@@ -4,12 +4,12 @@ ghost use Prim.Native.Nat.{_+_, _≤_};
 ghost use lib.ListN.{length};
 ghost use Rattle.text.specs.Base.{overlaid};
 ghost use Rattle.tables.specs.Written.{writtenAt};
-ghost use Rattle.lookups.specs.Values.{valueText};
+ghost use Rattle.sought.specs.Values.{valueText};
 use lists::items::items_at;
 use lists::joined::put_braced;
 use lists::joined::put_bracketed;
-use lookups::value::Value;
 use places::texts::text_at;
+use sought::value::Value;
 use writing::decimal::put_decimal;
 use writing::words::put_word;
 

@@ -24,7 +24,8 @@ use Rattle.judging.specs.PlainJudge.{plainRun}
 use Rattle.judging.proofs.LentRead.{read-agrees}
 use Rattle.judge.specs.Tally.{stateOf, tallyOf}
 use Rattle.calls.specs.CallRows.{callsOf, answerCode}
-use Rattle.runs.specs.Runs.{scratchCall, scratchRun, asksMore}
+use Rattle.runs.specs.Runs.{scratchCall, scratchRun}
+use Rattle.asking.specs.Asking.{asksMore}
 use Rattle.runs.proofs.RunLaws.{written-nothing}
 use Rattle.script_run.specs.Ran.{plainLeft, plainScratch, ranAs, ranOf, ifDone}
 use Rattle.script_run.specs.declared.running.Ran.{Ran}

@@ -13,7 +13,8 @@ use Rattle.judging.specs.Judge.{JudgeState}
 use Rattle.judging.specs.Scratch.{overwrittenOr}
 use Rattle.judging.specs.PlainJudge.{belonging, ownedLines, PlainState, plainStart, plainRefusal, plainCall, plainRun}
 use Rattle.judging.specs.Claim.{stateOver}
-use Rattle.runs.specs.Runs.{onFront, scratchRun, asksMore}
+use Rattle.runs.specs.Runs.{onFront, scratchRun}
+use Rattle.asking.specs.Asking.{asksMore}
 use Rattle.script_run.specs.declared.running.Ran.{Ran}
 use Rattle.script_run.specs.declared.running.Ran.the-variants.{FewAnswers, MuchScratch, Refused, Done}
 

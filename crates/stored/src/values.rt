@@ -100,7 +100,7 @@ fn put_unquoted_of(
 {
     match said::said::value_of(starts, ends, k) {
         Piece::Absent => 0,
-        Piece::Is(v) => tables::stored::put_unquoted(text, v, store, at),
+        Piece::Is(v) => storing::put_unquoted(text, v, store, at),
     }
 }
 
@@ -113,7 +113,7 @@ fn put_data_of(text: &[u8], starts: &[usize], ends: &[usize], store: &mut [u8], 
 {
     match said::said::value_of(starts, ends, Key::Data) {
         Piece::Absent => 0,
-        Piece::Is(v) => tables::stored::put_data(text, v, store, at),
+        Piece::Is(v) => storing::put_data(text, v, store, at),
     }
 }
 
@@ -126,7 +126,7 @@ fn put_raw_of(text: &[u8], starts: &[usize], ends: &[usize], store: &mut [u8], a
 {
     match said::said::value_of(starts, ends, Key::Raw) {
         Piece::Absent => 0,
-        Piece::Is(v) => tables::stored::put_hex(text, v, store, at),
+        Piece::Is(v) => storing::put_hex(text, v, store, at),
     }
 }
 

@@ -1,3 +1,2 @@
 pub mod ItemLaws
-pub mod ValueLaws
 pub mod WrittenLaws

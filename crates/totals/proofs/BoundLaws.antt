@@ -17,12 +17,12 @@ use Rattle.script.specs.declared.roles.Key.{Key}
 use Rattle.script.specs.declared.roles.Key.the-variants as Key
 use Rattle.script.specs.declared.roles.Saying.{Saying}
 use Rattle.script.specs.declared.roles.Saying.the-variants.{Known, Pair, NoColon, Unknown, NoPair, NoRaw}
-use Rattle.totals.specs.declared.What.{What}
-use Rattle.totals.specs.declared.What.the-variants.{ThePreamble, AnEntry}
-use Rattle.totals.specs.declared.Open.{Open}
+use Rattle.measuring.specs.declared.What.{What}
+use Rattle.measuring.specs.declared.What.the-variants.{ThePreamble, AnEntry}
+use Rattle.measuring.specs.declared.Open.{Open}
 use Rattle.totals.specs.Bounds.{Small, Few}
 use Rattle.counts.specs.Counts.{setCount, quotedCount, dataCount, rawCount, featureCount}
-use Rattle.totals.specs.Measure.{begun, told, pairsOn, entryItems, entryStore, itemsOf, storeOf, closedItems, closedStore, closeOn, entered, opened, sayOn}
+use Rattle.measuring.specs.Measure.{begun, told, pairsOn, entryItems, entryStore, itemsOf, storeOf, closedItems, closedStore, closeOn, entered, opened, sayOn}
 use Rattle.counts.proofs.CountLaws.{set-fits, quoted-fit, data-fit, raw-fit, features-fit, inline-fits, fits-text}
 
 -- ---- what is closed

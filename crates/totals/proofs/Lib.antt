@@ -1,3 +1,2 @@
 pub mod BoundLaws
-pub mod MeasureLaws
 pub mod OpenLaws

@@ -12,11 +12,11 @@ use Rattle.script.specs.declared.roles.Saying.{Saying}
 use Rattle.script.specs.declared.roles.Saying.the-variants.{Known, Pair}
 use Rattle.script.specs.declared.records.Counts.{Counts}
 use Rattle.script.specs.declared.roles.Opening.{Opening}
-use Rattle.totals.specs.declared.What.{What}
-use Rattle.totals.specs.declared.What.the-variants.{ThePreamble, AnEntry}
-use Rattle.totals.specs.declared.Open.{Open}
+use Rattle.measuring.specs.declared.What.{What}
+use Rattle.measuring.specs.declared.What.the-variants.{ThePreamble, AnEntry}
+use Rattle.measuring.specs.declared.Open.{Open}
 use Rattle.counts.specs.Counts.{setCount, quotedCount, dataCount, rawCount, featureCount, inlineItems}
-use Rattle.totals.specs.Measure.{begun, told, pairsOn, sayOn, opened, entryItems, entryStore, itemsOf, storeOf, closedItems, closedStore, counts, closeOn, entered}
+use Rattle.measuring.specs.Measure.{begun, told, pairsOn, sayOn, opened, entryItems, entryStore, itemsOf, storeOf, closedItems, closedStore, counts, closeOn, entered}
 
 abbrev pub opens : (what : What) → (inline pairs paths refs suffix text name cam-str contents raw features server-features : ℕ) → Open
 opens what inline pairs paths refs suffix text name cam-str contents raw features server-features = record {

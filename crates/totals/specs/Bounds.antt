@@ -1,7 +1,7 @@
 -- What the code relies on while it walks: numbers so small that no sum of them overflows. Assumes nothing.
 use Prim.Native.Nat.{ℕ, _≤_}
 use Rattle.script.specs.declared.records.Counts.{Counts}
-use Rattle.totals.specs.declared.Open.{Open}
+use Rattle.measuring.specs.declared.Open.{Open}
 
 -- each number of what is open is at most m
 pub record Small (m : ℕ) (o : Open) : Type 0 where

@@ -3,38 +3,16 @@ ghost use mathlib.Core.Path.{_≡_};
 ghost use Rattle.script.specs.Inside.{In, SayingIn};
 ghost use Rattle.script.specs.Operations.{formOf};
 ghost use Rattle.script.specs.declared.roles.Saying.the-variants as Said;
-ghost use Rattle.totals.specs.Measure.{begun, entryItems, entryStore, closedItems, closedStore, closeOn, entered, opened, sayOn};
+ghost use Rattle.measuring.specs.Measure.{begun, entryItems, entryStore, closedItems, closedStore, closeOn, entered, opened, sayOn};
 ghost use Rattle.totals.specs.Bounds.{Small, Few};
+use measuring::Open;
+use measuring::What;
 use script::records::Counts;
 use script::roles::Key;
 use script::roles::Opening;
 use script::roles::Saying;
 use text::parts::Span;
 use wire::ops::Op;
-
-// The preamble, or an entry of that operation.
-pub enum What {
-    ThePreamble,
-    AnEntry(Op),
-}
-
-// What is open while the lines are walked: `inline`, the items on its opening line; `pairs`, the items of its override pairs; and for each key whose
-// value takes items or bytes of the store how many the last value takes.
-pub struct Open {
-    pub what: What,
-    pub inline: usize,
-    pub pairs: usize,
-    pub paths: usize,
-    pub refs: usize,
-    pub suffix: usize,
-    pub text: usize,
-    pub name: usize,
-    pub cam_str: usize,
-    pub data: usize,
-    pub raw: usize,
-    pub features: usize,
-    pub server_features: usize,
-}
 
 // So many items on the opening line, and nothing said below it.
 pub fn begin(what: What, inline: usize) -> Open

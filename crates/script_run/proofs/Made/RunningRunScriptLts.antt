@@ -187,7 +187,7 @@ abbrev b8 : Syntax.Body
 b8 = Syntax.assign (Syntax.place 15 List.[]) (Syntax.rvOpd (Syntax.copy (Syntax.place 10 (List._∷_ (Syntax.field 1) List.[]))))
 
 abbrev b9 : Syntax.Body
-b9 = Syntax.call "runs::asking::asks_more" (List._∷_ (Syntax.copy (Syntax.place 6 List.[])) (List._∷_ (Syntax.copy (Syntax.place 15 List.[])) List.[])) (Syntax.place 18 List.[])
+b9 = Syntax.call "asking::asks_more" (List._∷_ (Syntax.copy (Syntax.place 6 List.[])) (List._∷_ (Syntax.copy (Syntax.place 15 List.[])) List.[])) (Syntax.place 18 List.[])
 
 abbrev b10 : Syntax.Body
 b10 = Syntax.assign (Syntax.place 0 List.[]) (Syntax.aggregate (List._∷_ (Syntax.int Syntax.w8 1) List.[]))
@@ -1027,7 +1027,7 @@ module _ (claims· : Claims) where
   module _ (Pre· : (κs : Lifetimes.Lfts 11) → Kinds.Dens κs ps → Type 0) (Post· : (κs : Lifetimes.Lfts 11) → (a : Kinds.Dens κs ps) → Kinds.Plain 11 ps r κs) where
     module _ (M : Type 1) where
       abbrev pub Closed : Type 2
-      Closed = (𝓤 : URA.URA M) (H : Wp.Heap 𝓤) (A : Atoms.Atoms 𝓤) (W : Kit.Given 𝓤 H A) (𝓣 : Wp.Tables 𝓤 H) (known0 : Plain.Known 𝓤 H A W 𝓣 1 ps·0 r·0 (claims· .0) (claims· .1) "runs::asking::asks_more") (known1 : Plain.Known 𝓤 H A W 𝓣 5 ps·1 r·1 (claims· .2) (claims· .3) "read::reading::read") (known2 : Plain.Known 𝓤 H A W 𝓣 9 ps·2 r·2 (claims· .4) (claims· .5) "runs::calling::run_calls") → Statement.Triple 𝓤 (Wp.WpFn 𝓤 H (𝓣 .C) (𝓣 .Λ) (Function.fnOf 11 ps r xs m hs body)) (Function.plainOf 𝓤 H A 11 ps r Pre· Post·)
+      Closed = (𝓤 : URA.URA M) (H : Wp.Heap 𝓤) (A : Atoms.Atoms 𝓤) (W : Kit.Given 𝓤 H A) (𝓣 : Wp.Tables 𝓤 H) (known0 : Plain.Known 𝓤 H A W 𝓣 1 ps·0 r·0 (claims· .0) (claims· .1) "asking::asks_more") (known1 : Plain.Known 𝓤 H A W 𝓣 5 ps·1 r·1 (claims· .2) (claims· .3) "read::reading::read") (known2 : Plain.Known 𝓤 H A W 𝓣 9 ps·2 r·2 (claims· .4) (claims· .5) "runs::calling::run_calls") → Statement.Triple 𝓤 (Wp.WpFn 𝓤 H (𝓣 .C) (𝓣 .Λ) (Function.fnOf 11 ps r xs m hs body)) (Function.plainOf 𝓤 H A 11 ps r Pre· Post·)
 
     module _ where
       abbrev at0 : Typed.TF T15 O1
@@ -1353,7 +1353,7 @@ module _ (claims· : Claims) where
 
       module _ {M : Type 1} (𝓤 : URA.URA M) (H : Wp.Heap 𝓤) (A : Atoms.Atoms 𝓤) (W : Kit.Given 𝓤 H A) (𝓣 : Wp.Tables 𝓤 H) where
         abbrev Knowns : Type 1
-        Knowns = Plain.Known 𝓤 H A W 𝓣 1 ps·0 r·0 (claims· .0) (claims· .1) "runs::asking::asks_more" × Plain.Known 𝓤 H A W 𝓣 5 ps·1 r·1 (claims· .2) (claims· .3) "read::reading::read" × Plain.Known 𝓤 H A W 𝓣 9 ps·2 r·2 (claims· .4) (claims· .5) "runs::calling::run_calls"
+        Knowns = Plain.Known 𝓤 H A W 𝓣 1 ps·0 r·0 (claims· .0) (claims· .1) "asking::asks_more" × Plain.Known 𝓤 H A W 𝓣 5 ps·1 r·1 (claims· .2) (claims· .3) "read::reading::read" × Plain.Known 𝓤 H A W 𝓣 9 ps·2 r·2 (claims· .4) (claims· .5) "runs::calling::run_calls"
 
       module _ (κs : Lifetimes.Lfts 11) (qs : Lifetimes.Shares 11) where
         abbrev g9 : List.List Row.Entry
@@ -2015,7 +2015,7 @@ module _ (claims· : Claims) where
           d93 = Typed.t-seq 𝓤 H A W 𝓣 E G18 G19 b14 b65 Δ0 at14 at92 d14 d92
 
           d94 : Typed.Typed 𝓤 H A 𝓣 E G17 b67 Δ0 at94
-          d94 = Typed.s-seq 𝓤 H A W 𝓣 E G17 G18 b9 b66 Δ0 (Typed.both s15) at93 (Plain.t-call-plain 𝓤 H A W 𝓣 1 ps·0 r·0 (claims· .0) (claims· .1) "runs::asking::asks_more" (known .0) E (λ pos β. β) G17 (record { pos = 6; ty = Syntax.tyRef (Syntax.named 5) Syntax.imm (Syntax.tyArray (Syntax.tyInt Syntax.w64) 22); ref = λ x. x }, (Num.vAt 15 λ x. x, tt)) 18 (List._∷_ 5 List.[]) (Call.sub-id 𝓤 H A W (G17 .slots)) (ShrSlice.spares-sslice 𝓤 H A W (DArray.Array (TReferent.rtF (TReferent.fInt Syntax.w64)) 22) (Syntax.tyRef (Syntax.named 5) Syntax.imm (Syntax.tyArray (Syntax.tyInt Syntax.w64) 22)) 5, SShared.reads-sslice 𝓤 H A W (DArray.Array (TReferent.rtF (TReferent.fInt Syntax.w64)) 22) (Syntax.tyRef (Syntax.named 5) Syntax.imm (Syntax.tyArray (Syntax.tyInt Syntax.w64) 22)) 5, Path'.refl, ((RScalar.reads-sc 𝓤 H A W (Row.sInt Syntax.w64), Path'.refl), tt)) (Reads'.room-gone 𝓤 H A Syntax.tyBool) (tt, tt) Path'.refl) d93
+          d94 = Typed.s-seq 𝓤 H A W 𝓣 E G17 G18 b9 b66 Δ0 (Typed.both s15) at93 (Plain.t-call-plain 𝓤 H A W 𝓣 1 ps·0 r·0 (claims· .0) (claims· .1) "asking::asks_more" (known .0) E (λ pos β. β) G17 (record { pos = 6; ty = Syntax.tyRef (Syntax.named 5) Syntax.imm (Syntax.tyArray (Syntax.tyInt Syntax.w64) 22); ref = λ x. x }, (Num.vAt 15 λ x. x, tt)) 18 (List._∷_ 5 List.[]) (Call.sub-id 𝓤 H A W (G17 .slots)) (ShrSlice.spares-sslice 𝓤 H A W (DArray.Array (TReferent.rtF (TReferent.fInt Syntax.w64)) 22) (Syntax.tyRef (Syntax.named 5) Syntax.imm (Syntax.tyArray (Syntax.tyInt Syntax.w64) 22)) 5, SShared.reads-sslice 𝓤 H A W (DArray.Array (TReferent.rtF (TReferent.fInt Syntax.w64)) 22) (Syntax.tyRef (Syntax.named 5) Syntax.imm (Syntax.tyArray (Syntax.tyInt Syntax.w64) 22)) 5, Path'.refl, ((RScalar.reads-sc 𝓤 H A W (Row.sInt Syntax.w64), Path'.refl), tt)) (Reads'.room-gone 𝓤 H A Syntax.tyBool) (tt, tt) Path'.refl) d93
 
           d95 : Typed.Typed 𝓤 H A 𝓣 E G11 b68 Δ0 at95
           d95 = Typed.s-seq 𝓤 H A W 𝓣 E G11 G17 b8 b67 Δ0 (Typed.pass T11 T17 s14) at94 (RScalar.t-use 𝓤 H A W E 𝓣 G11 (RScalar.oFld 10 (List._∷_ (Syntax.field 1) List.[]) (Syntax.tyInt Syntax.w64) 8 SShared.lenV) 15 (Rows.sc-here (Row.sInt Syntax.w64)) (Syntax.tyInt Syntax.w64) (Row.valS (Row.sInt Syntax.w64)) (Row.sInt Syntax.w64 .of) (Mut.reads-mslice-len 𝓤 H A W (TReferent.rtF (TReferent.fInt Syntax.w8)) (Syntax.tyRef (Syntax.named 9) Syntax.mut (Syntax.tyInt Syntax.w8)) 9 8 Path'.refl, Path'.refl) (Reads'.room-gone 𝓤 H A (Syntax.tyInt Syntax.w64)) (RScalar.holds-sc 𝓤 H A W (Row.sInt Syntax.w64)) Path'.refl (λ u. Path'.refl) λ u. tt) d94
@@ -2726,6 +2726,6 @@ module _ (claims· : Claims) where
           pub asked : (a : Kinds.Dens κs ps) → (good : Kinds.GoodsP κs ps a) → (pre : Pre· κs a) → (bs : List.List Nat.ℕ) → Φ (Any.wantQ 11 ps r xs m κs qs a (Post· κs a)) (Function.init 11 ps r xs m κs qs a)
           asked = λ a good pre bs. laid record { κs = κs; args = record { text = a .0; entries = a .1 .0; items = a .1 .1 .0; expectations = a .1 .1 .1 .0; store = a .1 .1 .1 .1 .0; calls = a .1 .1 .1 .1 .1 .0; bytes = a .1 .1 .1 .1 .1 .1 .0; lists = a .1 .1 .1 .1 .1 .1 .1 .0; verdicts = a .1 .1 .1 .1 .1 .1 .1 .1 .0; scratch = a .1 .1 .1 .1 .1 .1 .1 .1 .1 .0; answers = a .1 .1 .1 .1 .1 .1 .1 .1 .1 .1 .0 }; good = good; pre = pre }
 
-        module _ {M : Type 1} (𝓤 : URA.URA M) (H : Wp.Heap 𝓤) (A : Atoms.Atoms 𝓤) (W : Kit.Given 𝓤 H A) (𝓣 : Wp.Tables 𝓤 H) (known0 : Plain.Known 𝓤 H A W 𝓣 1 ps·0 r·0 (claims· .0) (claims· .1) "runs::asking::asks_more") (known1 : Plain.Known 𝓤 H A W 𝓣 5 ps·1 r·1 (claims· .2) (claims· .3) "read::reading::read") (known2 : Plain.Known 𝓤 H A W 𝓣 9 ps·2 r·2 (claims· .4) (claims· .5) "runs::calling::run_calls") where
+        module _ {M : Type 1} (𝓤 : URA.URA M) (H : Wp.Heap 𝓤) (A : Atoms.Atoms 𝓤) (W : Kit.Given 𝓤 H A) (𝓣 : Wp.Tables 𝓤 H) (known0 : Plain.Known 𝓤 H A W 𝓣 1 ps·0 r·0 (claims· .0) (claims· .1) "asking::asks_more") (known1 : Plain.Known 𝓤 H A W 𝓣 5 ps·1 r·1 (claims· .2) (claims· .3) "read::reading::read") (known2 : Plain.Known 𝓤 H A W 𝓣 9 ps·2 r·2 (claims· .4) (claims· .5) "runs::calling::run_calls") where
           pub spec : Statement.Triple 𝓤 (Wp.WpFn 𝓤 H (𝓣 .C) (𝓣 .Λ) (Function.fnOf 11 ps r xs m hs body)) (Function.plainOf 𝓤 H A 11 ps r Pre· Post·)
           spec = Plain.t-fn-plain 𝓤 H A W 𝓣 11 ps r xs m hs body (λ κs qs bs. Φ) (λ κs qs bs bd. typed κs qs 𝓤 H A W 𝓣 (known0, known1, known2) bs bd) Pre· Post· asked

@@ -1,5 +1,5 @@
 -- `totals::begin` meets its contract. Assumes nothing.
-use Rattle.totals.specs.Measure.{begun}
+use Rattle.measuring.specs.Measure.{begun}
 use borrow.Author.Needs.{needs}
 use Rattle.totals.proofs.begin.Statement.{statement}
 use Rattle.totals.proofs.begin.Tie as tie

@@ -10,8 +10,8 @@ use Rattle.script.specs.declared.roles.Key.{Key}
 use Rattle.script.specs.declared.roles.Key.the-variants as Key
 use Rattle.script.specs.declared.roles.Saying.the-variants.{Known}
 use Rattle.script.proofs.roles.Key.{the-type}
-use Rattle.totals.specs.declared.Open.{Open}
-use Rattle.totals.specs.Measure.{told, pairsOn, sayOn}
+use Rattle.measuring.specs.declared.Open.{Open}
+use Rattle.measuring.specs.Measure.{told, pairsOn, sayOn}
 use Rattle.totals.proofs.OpenLaws.{known-laws}
 use borrow.Author.Needs.{needs}
 use Rattle.totals.proofs.known_on.Statement.{statement}

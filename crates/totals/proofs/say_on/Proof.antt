@@ -7,8 +7,8 @@ use denote.Enum.Declared.{tagOf}
 use Rattle.script.specs.declared.roles.Saying.{Saying}
 use Rattle.script.specs.declared.roles.Saying.the-variants.{Known, Pair, NoColon, Unknown, NoPair, NoRaw}
 use Rattle.script.proofs.roles.Saying.{the-type}
-use Rattle.totals.specs.declared.Open.{Open}
-use Rattle.totals.specs.Measure.{told, pairsOn, sayOn}
+use Rattle.measuring.specs.declared.Open.{Open}
+use Rattle.measuring.specs.Measure.{told, pairsOn, sayOn}
 use Rattle.totals.proofs.OpenLaws.{said-laws}
 use borrow.Author.Needs.{needs}
 use Rattle.totals.proofs.say_on.Statement.{statement}

@@ -3,7 +3,7 @@ use borrow.Author.Needs.{needs}
 use mathlib.Core.Path.{refl, ap, _∙_}
 use Prim.Native.Nat.{ℕ}
 use mathlib.Core.List.{List, map}
-use Rattle.joined.specs.Lists.{listText}
+use Rattle.list_pieces.specs.Lists.{listText}
 use Rattle.verdicts.specs.Decisions.{decides}
 use Rattle.verdicts.specs.Held.{itemText, textsIn, matchingOf}
 use Rattle.verdict_of.proofs.list_verdict.Statement.{statement}

@@ -3,12 +3,12 @@ use borrow.Author.Needs.{needs}
 use mathlib.Core.Path.{sym, ap, _∙_}
 use Rattle.text.specs.Unicode.{encoded}
 use Rattle.text.specs.Literal.{utf8}
-use Rattle.joined.specs.Lists.{listText}
+use Rattle.list_pieces.specs.Lists.{listText}
 use Rattle.verdicts.specs.Decisions.{decides}
 use Rattle.verdicts.specs.Verdicts.{valued}
 use Rattle.verdicts.specs.Held.{matchingOf}
-use Rattle.lookups.specs.Values.{valueBytes}
-use Rattle.lookups.specs.declared.value.Value.{Value}
+use Rattle.sought.specs.Values.{valueBytes}
+use Rattle.sought.specs.declared.value.Value.{Value}
 use Rattle.verdict_of.proofs.value_verdict.Statement.{statement}
 use Rattle.verdict_of.proofs.value_verdict.Tie as tie
 

@@ -9,8 +9,8 @@ use Rattle.script.specs.declared.records.Matcher.the-variants.{GreaterThan, Les
 use Rattle.verdicts.specs.Decisions.{ordered, decides}
 use Rattle.verdicts.specs.Held.{matchingOf}
 use Rattle.verdicts.specs.declared.Verdict.the-variants.{Failed}
-use Rattle.joined.specs.Lists.{listText}
-use Rattle.joined.proofs.PieceLaws.{no-number}
+use Rattle.list_pieces.specs.Lists.{listText}
+use Rattle.list_pieces.proofs.PieceLaws.{no-number}
 use borrow.Author.Needs.{needs}
 use Rattle.joined.proofs.decide.decide_list.Statement.{statement}
 use Rattle.joined.proofs.decide.decide_list.Tie as tie

@@ -4,7 +4,7 @@ use mathlib.Core.Path.{ap, _∙_}
 use mathlib.Core.List.{List}
 use Rattle.verdicts.specs.Decisions as decisions
 use Rattle.verdicts.specs.Held.{textsIn}
-use Rattle.joined.proofs.PieceLaws.{in-brackets, in-braces}
+use Rattle.list_pieces.proofs.PieceLaws.{in-brackets, in-braces}
 use borrow.Author.Needs.{needs}
 use Rattle.joined.proofs.search.contains.Statement.{statement}
 use Rattle.joined.proofs.search.contains.Tie as tie

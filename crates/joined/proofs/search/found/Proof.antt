@@ -6,8 +6,8 @@ use lib.ListN.{length, drop}
 use borrow.Author.Needs.{needs}
 use Rattle.verdicts.specs.Decisions.{contains}
 use Rattle.finding.proofs.SearchLaws.{empty-in}
-use Rattle.joined.specs.Pieces.{piecesOf, row}
-use Rattle.joined.proofs.PieceLaws.{count-is}
+use Rattle.list_pieces.specs.Pieces.{piecesOf, row}
+use Rattle.list_pieces.proofs.PieceLaws.{count-is}
 use Rattle.joined.proofs.FindLaws.{list-search}
 use Rattle.joined.proofs.search.found.Statement.{statement}
 use Rattle.joined.proofs.search.found.Tie as tie

@@ -7,8 +7,8 @@ use lib.ListN.{length, getD, drop}
 use mathlib.Core.Logic.{⊎-elim}
 use borrow.Author.Needs.{needs}
 use Rattle.verdicts.specs.Decisions.{contains}
-use Rattle.joined.specs.Pieces.{piecesOf, row, rowFrom}
-use Rattle.joined.proofs.PieceLaws.{in-count}
+use Rattle.list_pieces.specs.Pieces.{piecesOf, row, rowFrom}
+use Rattle.list_pieces.proofs.PieceLaws.{in-count}
 use Rattle.joined.proofs.FindLaws.{piece-begun, piece-later, piece-other, piece-turns}
 use Rattle.joined.proofs.search.found_in.Statement.{statement}
 use Rattle.joined.proofs.search.found_in.Tie as tie

@@ -1,7 +1,7 @@
 -- `lookups::looked::daemon_value` meets its contract. Assumes nothing.
 use mathlib.Core.Path.{sym, ap}
 use mathlib.Core.Option.{some, Option·getD}
-use Rattle.lookups.specs.Values.{valueBytes}
+use Rattle.sought.specs.Values.{valueBytes}
 use Rattle.text.specs.Literal.{utf8}
 use Rattle.script.specs.declared.records.Maybe.{Maybe}
 use Rattle.verdicts.specs.Held.{textGiven}

@@ -2,7 +2,7 @@
 use Prim.Native.Nat.{ℕ}
 use mathlib.Core.Path.{sym, ap, _∙_}
 use mathlib.Core.List.{List}
-use Rattle.lookups.specs.Values.{valueBytes}
+use Rattle.sought.specs.Values.{valueBytes}
 use Rattle.script.specs.declared.records.Expect.{Expect}
 use Rattle.verdicts.specs.Held.{expectedOf, resultOf, responseOf}
 use Rattle.verdicts.specs.Lookup.{fields, valueIn, lookedIn}

@@ -1,6 +1,6 @@
 -- `lookups::looked::looked_handshake` meets its contract. Assumes nothing.
 use mathlib.Core.Path.{sym, ap, _∙_}
-use Rattle.lookups.specs.Values.{valueBytes}
+use Rattle.sought.specs.Values.{valueBytes}
 use Rattle.script.specs.declared.records.Expect.{Expect}
 use Rattle.verdicts.specs.Held.{expectedOf, infoOf}
 use Rattle.verdicts.specs.Lookup.{daemonText, trustText, featuresText, toldIn}

@@ -1,12 +1,12 @@
 -- `lookups::looked::trust_value` meets its contract. Assumes nothing.
 use mathlib.Core.Path.{sym, ap, _∙_}
 use mathlib.Core.Option.{some, Option·map, Option·getD}
-use Rattle.lookups.specs.Values.{valueBytes}
+use Rattle.sought.specs.Values.{valueBytes}
 use Rattle.text.specs.Literal.{utf8}
 use Rattle.script.specs.declared.response.MaybeNumber.{MaybeNumber}
 use Rattle.verdicts.specs.Held.{numberGiven}
 use Rattle.verdicts.specs.Lookup.{trustOf}
-use Rattle.lookups.proofs.ValueLaws.{trust-one, trust-two, trust-other}
+use Rattle.sought.proofs.ValueLaws.{trust-one, trust-two, trust-other}
 use borrow.Author.Needs.{needs}
 use Rattle.lookups.proofs.looked.trust_value.Statement.{statement}
 use Rattle.lookups.proofs.looked.trust_value.Tie as tie

@@ -12,9 +12,9 @@ use Rattle.script.specs.Reading.{refusal, measured}
 use Rattle.script.specs.declared.roles.Where.the-variants.{InPreamble}
 use Rattle.parse.specs.declared.measure.Measured.{Measured}
 use Rattle.parse.specs.declared.measure.Measured.the-variants.{Refused}
-use Rattle.totals.specs.Measure.{zeros, preambleOpen, walkFrom, measuredBy}
+use Rattle.measuring.specs.Measure.{zeros, preambleOpen, walkFrom, measuredBy}
 use Rattle.parse.specs.MeasureRead.{measuredOf}
-use Rattle.totals.proofs.MeasureLaws.{measured-is}
+use Rattle.measuring.proofs.MeasureLaws.{measured-is}
 use borrow.Author.Needs.{needs}
 use Rattle.parse.proofs.measure.measure_keeping.Statement.{statement}
 use Rattle.parse.proofs.measure.measure_keeping.Proof.Tie as tie

@@ -8,7 +8,7 @@ use Rattle.text.specs.Lines.{lines}
 use Rattle.text.proofs.LineLaws.{linesAt, line-steps}
 use Rattle.script.specs.declared.roles.Where.the-variants.{InPreamble}
 use Rattle.kept.specs.Kept.{Memo}
-use Rattle.totals.specs.Measure.{zeros, preambleOpen, walkFrom}
+use Rattle.measuring.specs.Measure.{zeros, preambleOpen, walkFrom}
 use Rattle.parse.proofs.WalkLaws.{walk-laws, walk-bad, says-in, args-in, small-now, Turn, turn-nothing, turn-says, turn-expects, turn-opens, small-first, walk-first, kept-on}
 use borrow.Author.Needs.{needs}
 use Rattle.parse.proofs.measure.walk.Statement.{statement}

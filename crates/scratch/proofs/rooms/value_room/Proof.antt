@@ -10,8 +10,8 @@ use Rattle.verdicts.specs.Lookup.{joined}
 use Rattle.writing.specs.Room.{left, lessBy}
 use Rattle.writing.proofs.RoomLaws.{left-none}
 use Rattle.lists.specs.Lists.{itemTexts}
-use Rattle.lookups.specs.Values.{valueBytes, valueText}
-use Rattle.lookups.specs.declared.value.Value.{Value}
+use Rattle.sought.specs.Values.{valueBytes, valueText}
+use Rattle.sought.specs.declared.value.Value.{Value}
 use Rattle.lists.proofs.JoinedLaws.{bracketed-room, braced-room}
 use borrow.Author.Needs.{needs}
 use Rattle.scratch.proofs.rooms.value_room.Statement.{statement}

@@ -10,7 +10,7 @@ use Rattle.verdicts.specs.Held.{textsIn}
 use Rattle.verdicts.specs.Lookup.{bracketed, braced}
 use Rattle.writing.proofs.PutLaws.{wrote-same, wrote-none}
 use Rattle.lists.specs.Lists.{itemTexts}
-use Rattle.lookups.specs.Values.{valueBytes, valueText}
+use Rattle.sought.specs.Values.{valueBytes, valueText}
 use borrow.Author.Needs.{needs}
 use Rattle.scratch.proofs.written.write_value_at.Statement.{statement}
 use Rattle.scratch.proofs.written.write_value_at.Tie as tie
