@@ -1,7 +1,7 @@
 -- The first table that is too short. Assumes nothing.
 use Prim.Native.Nat.{ℕ, _≤_, _<_}
-use mathlib.Core.Path.{_≡_, sym}
-use native.Mathlib.Nat.{min-le-left, min-le-right, min-eq-left, min-eq-right, le-of-lt, le-trans}
+use mathlib.Core.Path.{_≡_}
+use native.Mathlib.Nat.{min-le-left, min-le-right, le-trans}
 use borrow.Author.Tests.{lt-ltb, le-ltb}
 use Rattle.script.specs.Reading.{refusal, room}
 use Rattle.script.specs.declared.records.Counts.{Counts}
@@ -9,14 +9,6 @@ use Rattle.fits.specs.declared.Fit.the-variants.{Enough, Short}
 use Rattle.fits.specs.Fits.{shortage, fitOf}
 
 -- ---- Only the first 32,768 records count
-
-pub room-small : (n : ℕ) → n < 0x8000 → n ≡ room n
-unfolding room
-room-small n h = sym (min-eq-right (le-of-lt h))
-
-pub room-large : (n : ℕ) → 0x8000 ≤ n → 0x8000 ≡ room n
-unfolding room
-room-large n h = sym (min-eq-left h)
 
 pub room-within : (n m : ℕ) → m ≤ room n → m ≤ n
 unfolding room

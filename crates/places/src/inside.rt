@@ -4,8 +4,8 @@ ghost use Prim.Native.Nat.{_+_, _≤_};
 ghost use Rattle.text.specs.Base.{_&_};
 ghost use lib.ListN.{length, take, drop};
 ghost use Rattle.verdicts.specs.Held as Held;
-ghost use Rattle.script.specs.Reading as Reading;
 ghost use Rattle.script.specs.declared.response.ResultData.the-variants.{PathInfo};
+use fits::room;
 use script::records::Expect;
 use script::records::Items;
 use script::records::Matcher;
@@ -107,16 +107,6 @@ pub fn list_in(n: usize, lists: &[[usize; 2]], r: Items) -> bool
         return items_in(n, lists, r.first, r.count);
     }
     false
-}
-
-// Only the first 32,768 records of a table count.
-fn room(n: usize) -> usize
-    ensures { λ r. ⌜ r ≡ Reading.room n ⌝ }
-{
-    if n < 0x8000 {
-        return n;
-    }
-    0x8000
 }
 
 pub fn maybe_list_in(n: usize, lists: &[[usize; 2]], m: MaybeItems) -> bool

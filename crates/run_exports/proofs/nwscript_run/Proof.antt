@@ -1,4 +1,4 @@
--- `exports::running::nwscript_run` meets its contract. Assumes nothing.
+-- `run_exports::nwscript_run` meets its contract. Assumes nothing.
 use mathlib.Core.Path.{ap, _∙_}
 use mathlib.Core.List.{List, map}
 use lib.ListN.{length}

@@ -1,4 +1,4 @@
--- `exports::running::ran_line` meets its contract. Assumes nothing.
+-- `run_exports::ran_line` meets its contract. Assumes nothing.
 use mathlib.Core.Path.{sym, ap}
 use Rattle.run_exports.specs.Running.{ranLine}
 use borrow.Author.Needs.{needs}

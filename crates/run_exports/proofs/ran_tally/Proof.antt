@@ -1,4 +1,4 @@
--- `exports::running::ran_tally` meets its contract. Assumes nothing.
+-- `run_exports::ran_tally` meets its contract. Assumes nothing.
 use mathlib.Core.Path.{sym, ap, _∙_}
 use Rattle.run_exports.specs.Running.{ranTally}
 use borrow.Author.Needs.{needs}

@@ -1,4 +1,4 @@
--- `exports::running::status_of` meets its contract. Assumes nothing.
+-- `run_exports::status_of` meets its contract. Assumes nothing.
 use mathlib.Core.Path.{sym, ap}
 use Rattle.run_exports.specs.Running.{statusOf}
 use borrow.Author.Needs.{needs}
