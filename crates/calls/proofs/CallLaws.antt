@@ -9,9 +9,9 @@ use lib.Dec.{eqb}
 use borrow.Author.Tests.{ne-eqb}
 use Rattle.text.specs.Base.{if_then_else_}
 use Rattle.script.specs.Reading.{refusal}
-use Rattle.judging.specs.declared.tally.Outcome.the-variants.{Failed, Undecided, NothingChecked, Passed}
-use Rattle.judging.specs.declared.calls.Answer.{Answer}
-use Rattle.judging.specs.declared.calls.Answer.the-variants.{Refused, Judged, Closed}
+use Rattle.tallies.specs.declared.tally.Outcome.the-variants.{Failed, Undecided, NothingChecked, Passed}
+use Rattle.tallies.specs.declared.calls.Answer.{Answer}
+use Rattle.tallies.specs.declared.calls.Answer.the-variants.{Refused, Judged, Closed}
 use Rattle.calls.specs.CallRows.{outcomeCode, answerCode}
 
 -- the part of a row from a place to its end

@@ -8,12 +8,12 @@ use lib.Dec.{eqb}
 use Rattle.text.specs.Base.{if_then_else_}
 use Rattle.expect.specs.Told.{counted}
 use Rattle.rows.specs.Rows.{at, infoRow, responseRow}
-use Rattle.judging.specs.declared.tally.Outcome.{Outcome}
-use Rattle.judging.specs.declared.tally.Outcome.the-variants.{Failed, Undecided, NothingChecked, Passed}
-use Rattle.subjects.specs.declared.handed.Handed.{Handed}
-use Rattle.subjects.specs.declared.handed.Handed.the-variants.{Info, Response}
-use Rattle.judging.specs.declared.calls.Answer.{Answer}
-use Rattle.judging.specs.declared.calls.Answer.the-variants.{Refused, Judged, Closed}
+use Rattle.tallies.specs.declared.tally.Outcome.{Outcome}
+use Rattle.tallies.specs.declared.tally.Outcome.the-variants.{Failed, Undecided, NothingChecked, Passed}
+use Rattle.verdicts.specs.declared.handed.Handed.{Handed}
+use Rattle.verdicts.specs.declared.handed.Handed.the-variants.{Info, Response}
+use Rattle.tallies.specs.declared.calls.Answer.{Answer}
+use Rattle.tallies.specs.declared.calls.Answer.the-variants.{Refused, Judged, Closed}
 use Rattle.judging.specs.Calls.{Judging, Call, judge, close}
 
 -- ---- a call

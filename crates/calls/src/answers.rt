@@ -1,8 +1,8 @@
 // An answer as one number.
 ghost use mathlib.Core.Path.{_≡_};
 ghost use Rattle.calls.specs.CallRows.{outcomeCode, answerCode};
-use judging::calls::Answer;
-use judging::tally::Outcome;
+use tallies::calls::Answer;
+use tallies::tally::Outcome;
 
 fn outcome_code(o: Outcome) -> u64
     ensures { λ r. ⌜ r ≡ outcomeCode o ⌝ }

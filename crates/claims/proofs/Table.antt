@@ -36,7 +36,8 @@ use Rattle.verdicts.specs.Decisions as verdicts-Decisions
 use Rattle.verdicts.specs.Held as verdicts-Held
 use Rattle.verdicts.specs.Lookup as verdicts-Lookup
 use Rattle.judging.specs.Calls as judge-Calls
-use Rattle.judging.specs.Tally as judge-Tally
+use Rattle.tallies.specs.Tally as judge-Tally
+use Rattle.tallies.specs.Answers as judge-Answers
 use Rattle.judging.specs.PlainJudge as plain-PlainJudge
 use Rattle.values.specs.Hex.{hexDecoded}
 use Rattle.values.specs.Unquote.{unquoted}
@@ -56,12 +57,12 @@ use Rattle.verdicts.specs.Decisions.{decides}
 use Rattle.verdicts.specs.Verdicts.{verdict}
 use Rattle.verdicts.specs.declared.Verdict.the-variants.{Passed, Failed}
 use Rattle.verdicts.proofs.VerdictExamples as verdicts
-use Rattle.subjects.specs.Subjects.{partsIn}
-use Rattle.subjects.specs.declared.handed.Handed.the-variants.{Info}
+use Rattle.verdicts.specs.Subjects.{partsIn}
+use Rattle.verdicts.specs.declared.handed.Handed.the-variants.{Info}
 use Rattle.judging.specs.Calls.{Call, judge, close, said}
-use Rattle.judging.specs.declared.calls.Answer.{Answer}
-use Rattle.judging.specs.declared.calls.Answer.the-variants.{Judged, Closed}
-use Rattle.judging.specs.declared.tally.Outcome.the-variants.{NothingChecked}
+use Rattle.tallies.specs.declared.calls.Answer.{Answer}
+use Rattle.tallies.specs.declared.calls.Answer.the-variants.{Judged, Closed}
+use Rattle.tallies.specs.declared.tally.Outcome.the-variants.{NothingChecked}
 use Rattle.judging.specs.PlainJudge.{plainRun}
 
 -- ---- what a text is read as
@@ -132,7 +133,7 @@ inFull i bytes lists scratch = judge (record { number = 0; handed = Info i; byte
 
 -- what the plain judge answers, every definition open
 abbrev pub answers : (text : String) → List Call → List Answer
-unfolding text-Literal.utf8 text-Lines.linesFrom text-Lines.lines script-Plain.plainFrom script-Plain.plainLines script-Plain.opened script-Plain.expectationLines script-Plain.owners judge-Tally.addedAll judge-Tally.outcomeOf judge-Calls.wrongNumber judge-Calls.partOutside judge-Calls.tooLong judge-Calls.refusedIf judge-Calls.firstRefusal judge-Calls.judgedOr judge-Calls.closedOr judge-Calls.run plain-PlainJudge.owned plain-PlainJudge.belonging plain-PlainJudge.entryCount plain-PlainJudge.ownedLines plain-PlainJudge.filled plain-PlainJudge.plainStart plain-PlainJudge.plainRefusal plain-PlainJudge.plainJudged plain-PlainJudge.plainClosing plain-PlainJudge.plainCall plain-PlainJudge.plainRun
+unfolding text-Literal.utf8 text-Lines.linesFrom text-Lines.lines script-Plain.plainFrom script-Plain.plainLines script-Plain.opened script-Plain.expectationLines script-Plain.owners judge-Tally.addedAll judge-Tally.outcomeOf judge-Calls.wrongNumber judge-Calls.partOutside judge-Calls.tooLong judge-Answers.refusedIf judge-Answers.firstRefusal judge-Calls.judgedOr judge-Answers.closedOr judge-Calls.run plain-PlainJudge.owned plain-PlainJudge.belonging plain-PlainJudge.entryCount plain-PlainJudge.ownedLines plain-PlainJudge.filled plain-PlainJudge.plainStart plain-PlainJudge.plainRefusal plain-PlainJudge.plainJudged plain-PlainJudge.plainClosing plain-PlainJudge.plainCall plain-PlainJudge.plainRun
 answers text calls = plainRun (utf8 text) 0 calls .0
 
 -- an empty pattern stands in any value

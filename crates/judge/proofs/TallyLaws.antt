@@ -17,8 +17,8 @@ use Rattle.script.specs.declared.response.HandshakeInfo.{HandshakeInfo}
 use Rattle.script.specs.declared.response.DaemonResponse.{DaemonResponse}
 use Rattle.slots.specs.Blank.{blankEntry}
 use Rattle.expect.specs.Told.{counted}
-use Rattle.subjects.specs.declared.handed.Handed.the-variants.{Info, Response}
-use Rattle.judging.specs.declared.tally.Counts.{Counts}
+use Rattle.verdicts.specs.declared.handed.Handed.the-variants.{Info, Response}
+use Rattle.tallies.specs.declared.tally.Counts.{Counts}
 use Rattle.judging.specs.Calls.{judge, wrongNumber}
 use Rattle.judging.specs.Judge.{Lent, JudgeState, rangeFor, recordsIn, saidBy, pastEntries, rangeOutside, outOfReach, fewSlots, rangeRefusals, refusalOn, judgedBy, judgedOn, judged, judgeStep}
 use Rattle.judging.specs.Scratch.{scratchOn, scratchAfter}

@@ -1,8 +1,8 @@
 -- The tally beside the state that the definitions of Judge and Close speak of: its next number and counts. Assumes nothing.
 use Prim.Native.Nat.{ℕ}
 use mathlib.Core.List.{List}
-use Rattle.judging.specs.declared.calls.Answer.{Answer}
-use Rattle.judging.specs.Tally.{noCounts}
+use Rattle.tallies.specs.declared.calls.Answer.{Answer}
+use Rattle.tallies.specs.Tally.{noCounts}
 use Rattle.judging.specs.Judge.{JudgeState}
 use Rattle.ranges.specs.declared.steps.Step.{Step}
 use Rattle.judge.specs.declared.tally.Tally.{Tally}

@@ -2,8 +2,8 @@
 ghost use mathlib.Core.Path.{_≡_};
 ghost use Rattle.judge.specs.Tally.{turnOf};
 use crate::tally::Tally;
-use judging::calls::Answer;
 use ranges::steps::Step;
+use tallies::calls::Answer;
 
 // What a call answered, and the next tally.
 pub struct Turn {

@@ -1,10 +1,10 @@
 // Close: what the tally says of the whole script.
 ghost use mathlib.Core.Path.{_≡_};
-ghost use Rattle.judging.specs.Judge.{closeAnswer};
+ghost use Rattle.tallies.specs.Answers.{closeAnswer};
 use crate::calls::Turn;
 use crate::tally::Tally;
-use judging::close::close_answer;
 use script::records::Script;
+use tallies::close::close_answer;
 
 impl Tally {
     // Gives the same tally back.

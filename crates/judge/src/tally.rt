@@ -3,7 +3,7 @@ ghost use mathlib.Core.Path.{_≡_};
 ghost use mathlib.Core.List.{[]};
 ghost use lib.ListN.{length};
 ghost use Rattle.expect.specs.Told.{counted};
-ghost use Rattle.subjects.specs.declared.handed.Handed.the-variants.{Info, Response};
+ghost use Rattle.verdicts.specs.declared.handed.Handed.the-variants.{Info, Response};
 ghost use Rattle.judging.specs.Calls.{judge};
 ghost use Rattle.judging.specs.Judge.{judgeStep};
 ghost use Rattle.judging.specs.Scratch.{scratchAfter};
@@ -12,7 +12,6 @@ ghost use Rattle.judge.specs.Tally.{freshTally, stateOf, turned};
 use crate::calls::Turn;
 use crate::calls::turn_of;
 use expect::message::counted_of;
-use judging::tally::Counts;
 use ranges::checks::counting;
 use ranges::steps::entry_range;
 use ranges::steps::handshake_range;
@@ -22,7 +21,8 @@ use script::records::Expectation;
 use script::records::Script;
 use script::response::DaemonResponse;
 use script::response::HandshakeInfo;
-use subjects::handed::Handed;
+use tallies::tally::Counts;
+use verdicts::handed::Handed;
 
 // The number that is judged next (0 is the handshake, entries are from 1 on), and the verdicts so far.
 pub struct Tally {

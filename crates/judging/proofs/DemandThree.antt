@@ -22,9 +22,10 @@ use Rattle.script.specs.declared.records.Expectation.{Expectation}
 use Rattle.verdicts.specs.Told.{Subject}
 use Rattle.verdicts.specs.declared.Verdict.{Verdict}
 use Rattle.verdicts.proofs.CodeLaws.{decode-code}
-use Rattle.judging.specs.declared.calls.Answer.{Answer}
-use Rattle.judging.specs.Tally.{outcomeOf}
-use Rattle.judging.specs.Calls.{Call, close, refusedIf, closedOr, run}
+use Rattle.tallies.specs.declared.calls.Answer.{Answer}
+use Rattle.tallies.specs.Tally.{outcomeOf}
+use Rattle.tallies.specs.Answers.{refusedIf, closedOr}
+use Rattle.judging.specs.Calls.{Call, close, run}
 use Rattle.judging.specs.PlainJudge.{Owned, own, saidOn, entryCount, ownedLines, plainClosing, plainCall, plainRun}
 use Rattle.judging.specs.Judge.{Lent, JudgeState, judgeStart, judgeStep}
 use Rattle.judging.specs.Claim.{AsRead, slotsOver, stateOver, ourRun, accepted, verdictBy, lineVerdict, lineVerdicts, counted, InWords}

@@ -16,16 +16,16 @@ use Rattle.verdicts.specs.Expected.{Expected}
 use Rattle.verdicts.specs.Told.{Subject}
 use Rattle.verdicts.specs.Verdicts.{verdict}
 use Rattle.verdicts.specs.declared.Verdict.{Verdict}
-use Rattle.judging.specs.declared.tally.Counts.{Counts}
-use Rattle.subjects.specs.declared.handed.Handed.{Handed}
-use Rattle.subjects.specs.declared.handed.Handed.the-variants.{Info, Response}
-use Rattle.judging.specs.declared.calls.Answer.{Answer}
-use Rattle.judging.specs.Tally.{noCounts, added, addedAll}
+use Rattle.tallies.specs.declared.tally.Counts.{Counts}
+use Rattle.verdicts.specs.declared.handed.Handed.{Handed}
+use Rattle.verdicts.specs.declared.handed.Handed.the-variants.{Info, Response}
+use Rattle.tallies.specs.declared.calls.Answer.{Answer}
+use Rattle.tallies.specs.Tally.{noCounts, added, addedAll}
 use Rattle.judging.specs.Calls.{Judging, Call, judge, close, subjectOf, wrongNumber, partOutside, judgedOr, run}
 use Rattle.judging.specs.PlainJudge.{Owned, own, belonging, entryCount, ownedLines, PlainState, filled, plainStart, plainRefusal, plainJudged, plainClosing, plainCall}
 use Rattle.judging.specs.Claim.{acceptedBy, accepted, verdictBy, counted}
 use Rattle.judging.proofs.Slots.{slot-stays}
-use Rattle.judging.proofs.Refusals.{passed-by}
+use Rattle.tallies.proofs.Refusals.{passed-by}
 use Rattle.judging.proofs.Orders.{neither, Order, less, same, more, order}
 
 -- ---- one judge shown by another

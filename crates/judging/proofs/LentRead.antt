@@ -37,8 +37,8 @@ use Rattle.verdicts.specs.Held.{expectedOf, inside, placeIn, matcherIn, expectI
 use Rattle.tables.specs.Written.{writtenAt}
 use Rattle.tables.proofs.WrittenLaws.{written-length}
 use Rattle.slots.specs.Blank.{blankEntry}
-use Rattle.subjects.specs.declared.handed.Handed.{Handed}
-use Rattle.subjects.specs.declared.handed.Handed.the-variants.{Info, Response}
+use Rattle.verdicts.specs.declared.handed.Handed.{Handed}
+use Rattle.verdicts.specs.declared.handed.Handed.the-variants.{Info, Response}
 use Rattle.judging.specs.Calls.{said}
 use Rattle.judging.specs.PlainJudge.{owned, saidOn, belonging, entryCount, ownedLines}
 use Rattle.judging.specs.Judge.{Lent, allIn, rangeFor}

@@ -1,7 +1,4 @@
-pub mod Counting
 pub mod Orders
-pub mod Refusals
-pub mod CloseLaws
 pub mod ScratchLaws
 pub mod Slots
 pub mod Lines

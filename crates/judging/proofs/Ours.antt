@@ -22,14 +22,16 @@ use Rattle.verdicts.specs.Verdicts.{verdict, code}
 use Rattle.verdicts.specs.Held.{expectedOf, expectIn, inside}
 use Rattle.verdicts.specs.declared.Verdict.{Verdict}
 use Rattle.tables.specs.Written.{writtenAt}
-use Rattle.subjects.specs.declared.handed.Handed.{Handed}
-use Rattle.judging.specs.Tally.{outcomeOf, overLimit}
-use Rattle.judging.specs.Calls.{Judging, Call, judge, close, subjectOf, said, wrongNumber, judgedOr, closedOr}
+use Rattle.verdicts.specs.declared.handed.Handed.{Handed}
+use Rattle.tallies.specs.Tally.{outcomeOf, overLimit}
+use Rattle.tallies.specs.Answers.{closedOr}
+use Rattle.judging.specs.Calls.{Judging, Call, judge, close, subjectOf, said, wrongNumber, judgedOr}
 use Rattle.judging.specs.PlainJudge.{Owned, own, belonging, entryCount, ownedLines, plainRefusal, plainClosing}
-use Rattle.judging.specs.Judge.{Lent, JudgeState, allIn, rangeFor, recordsIn, saidBy, pastEntries, rangeOutside, outOfReach, fewSlots, rangeRefusals, judgedBy, judged, closeRefusal, closeAnswer, judgeStep, refusalOn, judgedOn}
+use Rattle.tallies.specs.Answers.{closeRefusal, closeAnswer}
+use Rattle.judging.specs.Judge.{Lent, JudgeState, allIn, rangeFor, recordsIn, saidBy, pastEntries, rangeOutside, outOfReach, fewSlots, rangeRefusals, judgedBy, judged, judgeStep, refusalOn, judgedOn}
 use Rattle.judging.specs.Claim.{saidOf, slotOver, slotsOver, stateOver, verdictBy}
 use Rattle.judging.proofs.Slots.{few-counted}
-use Rattle.judging.proofs.Refusals.{pass, alone, agree}
+use Rattle.tallies.proofs.Refusals.{pass, alone, agree}
 use Rattle.judging.proofs.Orders.{Order, less, same, more, order}
 use Rattle.judging.proofs.Lines.{Rising, earlier, earlier-none, belonging-none, belonging-fit, belonging-cut}
 use Rattle.judging.proofs.History.{only, length-snoc, slotIn, slotsIn, countsIn, slot-snoc, count-slots, Fits, right-number, plainOf, historyCall, Unrefused, unrefused}

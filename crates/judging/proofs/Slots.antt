@@ -10,9 +10,9 @@ use native.Mathlib.Numerals.{add-one}
 use lib.ListN.{length, replicate}
 use Rattle.verdicts.specs.declared.Verdict.{Verdict}
 use Rattle.verdicts.specs.declared.Verdict.the-variants.{Passed, Failed, Undecided}
-use Rattle.judging.specs.declared.tally.Outcome.the-variants as Outcome
-use Rattle.judging.specs.Tally.{noCounts, added, addedAll, outcomeOf, overLimit}
-use Rattle.judging.proofs.Counting.{count, unit, count-added, within-limit, all-added, says-passed, outcome-passed}
+use Rattle.tallies.specs.declared.tally.Outcome.the-variants as Outcome
+use Rattle.tallies.specs.Tally.{noCounts, added, addedAll, outcomeOf, overLimit}
+use Rattle.tallies.proofs.Counting.{count, unit, count-added, within-limit, all-added, says-passed, outcome-passed}
 use Rattle.judging.specs.Claim.{verdictsIn, counted}
 
 -- ---- all passed

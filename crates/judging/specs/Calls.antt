@@ -6,19 +6,17 @@ use mathlib.Core.List.{List, [], _∷_, map}
 use mathlib.Core.Option.{Option, none, some}
 use lib.ListN.{length}
 use lib.Dec.{ltb, eqb}
-use Rattle.text.specs.Base.{if_then_else_, _or_}
-use Rattle.script.specs.Reading.{refusal}
+use Rattle.text.specs.Base.{_or_}
 use Rattle.script.specs.declared.records.Expectation.{Expectation}
 use Rattle.script.specs.declared.records.Refusal.{Refusal}
 use Rattle.verdicts.specs.Expected.{Expected}
 use Rattle.verdicts.specs.Told.{Subject}
 use Rattle.verdicts.specs.Held.{expectedOf}
-use Rattle.subjects.specs.Subjects.{heldBy, partsIn}
-use Rattle.judging.specs.declared.tally.Outcome.{Outcome}
-use Rattle.subjects.specs.declared.handed.Handed.{Handed}
-use Rattle.subjects.specs.declared.handed.Handed.the-variants.{Info, Response}
-use Rattle.judging.specs.declared.calls.Answer.{Answer}
-use Rattle.judging.specs.declared.calls.Answer.the-variants.{Refused, Judged, Closed}
+use Rattle.verdicts.specs.Subjects.{heldBy, partsIn}
+use Rattle.verdicts.specs.declared.handed.Handed.{Handed}
+use Rattle.verdicts.specs.declared.handed.Handed.the-variants.{Info, Response}
+use Rattle.tallies.specs.declared.calls.Answer.{Answer}
+use Rattle.tallies.specs.declared.calls.Answer.the-variants.{Refused, Judged}
 
 -- ---- a call
 
@@ -60,26 +58,12 @@ tooLong scratch [] = false
 tooLong scratch (none ∷ values) = tooLong scratch values
 tooLong scratch (some value ∷ values) = ltb scratch (length value) or tooLong scratch values
 
--- a refusal of a call has line 0
-unfoldable pub refusedIf : (number : ℕ) → (applies : Bool) → Option Refusal
-refusedIf number applies = if applies then some (refusal number 0) else none
-
--- the first that applies
-unfoldable pub firstRefusal : List (Option Refusal) → Option Refusal
-firstRefusal [] = none
-firstRefusal (none ∷ later) = firstRefusal later
-firstRefusal (some r ∷ later) = some r
-
 -- ---- its answer
 
 -- A judging that is refused changes nothing.
 unfoldable pub judgedOr : {State : Type 0} → Option Refusal → (before after : State) → Answer × State
 judgedOr none before after = (Judged, after)
 judgedOr (some r) before after = (Refused r, before)
-
-unfoldable pub closedOr : Option Refusal → Outcome → Answer
-closedOr none o = Closed o
-closedOr (some r) o = Refused r
 
 -- ---- a list of calls
 

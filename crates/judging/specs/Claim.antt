@@ -21,11 +21,11 @@ use Rattle.verdicts.specs.Verdicts.{verdict, code, decode}
 use Rattle.verdicts.specs.declared.Verdict.{Verdict}
 use Rattle.verdicts.specs.declared.Verdict.the-variants as Verdict
 use Rattle.tables.specs.Written.{writtenAt}
-use Rattle.judging.specs.declared.tally.Counts.{Counts}
-use Rattle.judging.specs.declared.tally.Outcome.the-variants as Outcome
-use Rattle.judging.specs.declared.calls.Answer.{Answer}
-use Rattle.judging.specs.declared.calls.Answer.the-variants.{Refused, Judged, Closed}
-use Rattle.judging.specs.Tally.{noCounts, added, outcomeOf}
+use Rattle.tallies.specs.declared.tally.Counts.{Counts}
+use Rattle.tallies.specs.declared.tally.Outcome.the-variants as Outcome
+use Rattle.tallies.specs.declared.calls.Answer.{Answer}
+use Rattle.tallies.specs.declared.calls.Answer.the-variants.{Refused, Judged, Closed}
+use Rattle.tallies.specs.Tally.{noCounts, added, outcomeOf}
 use Rattle.judging.specs.Calls.{Call, judge, close, subjectOf, run}
 use Rattle.judging.specs.PlainJudge.{Owned, own, saidOn, entryCount, ownedLines, PlainState}
 use Rattle.judging.specs.Judge.{Lent, JudgeState, judgeStart, judgeStep}

@@ -1,4 +1,4 @@
--- Document 01, Judge and Close: what they answer and what they leave, over the records of a script. The contracts cite these. Assumes nothing.
+-- Document 01, Judge: what it answers and what it leaves, over the records of a script. The contracts cite these. Assumes nothing.
 use Prim.Native.Nat.{ℕ, _+_, _-_, min}
 use mathlib.Core.Bool.{Bool, true, not}
 use mathlib.Core.List.{List, [], _∷_, map}
@@ -19,12 +19,13 @@ use Rattle.verdicts.specs.Held.{ranged, inside, expectIn}
 use Rattle.verdicts.specs.declared.Verdict.{Verdict}
 use Rattle.tables.specs.Written.{writtenAt}
 use Rattle.slots.specs.Blank.{blankEntry}
-use Rattle.judging.specs.declared.tally.Counts.{Counts}
-use Rattle.subjects.specs.declared.handed.Handed.{Handed}
-use Rattle.subjects.specs.declared.handed.Handed.the-variants.{Info, Response}
-use Rattle.judging.specs.declared.calls.Answer.{Answer}
-use Rattle.judging.specs.Tally.{noCounts, addedAll, outcomeOf, overLimit}
-use Rattle.judging.specs.Calls.{Judging, Call, judge, close, subjectOf, said, wrongNumber, partOutside, tooLong, refusedIf, firstRefusal, judgedOr, closedOr}
+use Rattle.tallies.specs.declared.tally.Counts.{Counts}
+use Rattle.verdicts.specs.declared.handed.Handed.{Handed}
+use Rattle.verdicts.specs.declared.handed.Handed.the-variants.{Info, Response}
+use Rattle.tallies.specs.declared.calls.Answer.{Answer}
+use Rattle.tallies.specs.Tally.{noCounts, addedAll, overLimit}
+use Rattle.tallies.specs.Answers.{refusedIf, firstRefusal, closeAnswer}
+use Rattle.judging.specs.Calls.{Judging, Call, judge, close, subjectOf, said, wrongNumber, partOutside, tooLong, judgedOr}
 
 -- what a judging is lent to read: the text, the script's record, and the tables of entries and of expectations
 pub record Lent : Type 0 where
@@ -121,16 +122,6 @@ module _ (k : Lent) where
   -- Judge
   unfoldable pub judged : JudgeState → Judging → Answer × JudgeState
   judged s j = judgedOn (pastEntries (j .number)) (rangeFor (j .number) (j .handed)) s j
-
--- ---- Close
-
--- 36; 37: the tally's next number is not the count of entries plus 1
-unfoldable pub closeRefusal : (next : ℕ) → Counts → (entries : ℕ) → Option Refusal
-closeRefusal next counts entries = firstRefusal (refusedIf 36 (overLimit counts) ∷ refusedIf 37 (not (eqb next (entries + 1))) ∷ [])
-
--- Close: its answer; it changes nothing
-unfoldable pub closeAnswer : (next : ℕ) → Counts → (entries : ℕ) → Answer
-closeAnswer next counts entries = closedOr (closeRefusal next counts entries) (outcomeOf counts)
 
 -- ---- a call
 

@@ -1,4 +1,3 @@
-pub mod Tally
 pub mod Calls
 pub mod Judge
 pub mod Scratch

@@ -15,10 +15,11 @@ use Rattle.verdicts.specs.Told.{Subject}
 use Rattle.verdicts.specs.Lookup.{looked}
 use Rattle.verdicts.specs.Verdicts.{verdict}
 use Rattle.verdicts.specs.declared.Verdict.{Verdict}
-use Rattle.judging.specs.declared.tally.Counts.{Counts}
-use Rattle.judging.specs.declared.calls.Answer.{Answer}
-use Rattle.judging.specs.Tally.{noCounts, addedAll, outcomeOf}
-use Rattle.judging.specs.Calls.{Judging, Call, judge, close, subjectOf, said, wrongNumber, partOutside, tooLong, refusedIf, firstRefusal, judgedOr, closedOr, run}
+use Rattle.tallies.specs.declared.tally.Counts.{Counts}
+use Rattle.tallies.specs.declared.calls.Answer.{Answer}
+use Rattle.tallies.specs.Tally.{noCounts, addedAll, outcomeOf}
+use Rattle.tallies.specs.Answers.{refusedIf, firstRefusal, closedOr}
+use Rattle.judging.specs.Calls.{Judging, Call, judge, close, subjectOf, said, wrongNumber, partOutside, tooLong, judgedOr, run}
 
 -- ---- the lines
 

@@ -1,4 +1,1 @@
-// Judging a script: the counts of verdicts, what a call answers, and the definitions of Judge and Close beside the plain judge.
-pub mod calls;
-pub mod close;
-pub mod tally;
+// No code: the definitions of Judge beside the plain judge, and demand 3 with its proof.

@@ -12,13 +12,14 @@ use Rattle.text.specs.Base.{_&_}
 use Rattle.script.specs.Reading.{room}
 use Rattle.script.specs.declared.records.Items.{Items}
 use Rattle.verdicts.specs.Held.{inside}
-use Rattle.subjects.specs.declared.handed.Handed.{Handed}
-use Rattle.subjects.specs.declared.handed.Handed.the-variants.{Info, Response}
+use Rattle.verdicts.specs.declared.handed.Handed.{Handed}
+use Rattle.verdicts.specs.declared.handed.Handed.the-variants.{Info, Response}
 use Rattle.script.specs.declared.response.HandshakeInfo.{HandshakeInfo}
 use Rattle.script.specs.declared.response.DaemonResponse.{DaemonResponse}
-use Rattle.judging.specs.Calls.{wrongNumber, refusedIf, firstRefusal}
+use Rattle.tallies.specs.Answers.{refusedIf, firstRefusal}
+use Rattle.judging.specs.Calls.{wrongNumber}
 use Rattle.ranges.specs.Judging.{refusalBy, settledAs}
-use Rattle.judging.proofs.Refusals.{no-test, hit, pass}
+use Rattle.tallies.proofs.Refusals.{no-test, hit, pass}
 
 -- ---- 33
 

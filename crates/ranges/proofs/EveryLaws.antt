@@ -15,7 +15,7 @@ use Rattle.verdicts.specs.Expected.{Expected}
 use Rattle.verdicts.specs.Held.{expectedOf, expectIn, ranged}
 use Rattle.frames.specs.Frames.{presentBytes}
 use Rattle.slots.specs.Blank.{blankExpectation}
-use Rattle.subjects.specs.Subjects.{fits}
+use Rattle.subjects.specs.Fits.{fits}
 use Rattle.judging.specs.Calls.{said, tooLong}
 use Rattle.judging.specs.Judge.{allIn}
 use Rattle.ranges.proofs.RangeLaws.{leftOf, left-all, left-none, left-more}

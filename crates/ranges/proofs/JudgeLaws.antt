@@ -14,14 +14,15 @@ use Rattle.script.specs.declared.records.Expectation.{Expectation}
 use Rattle.script.specs.declared.records.Script.{Script}
 use Rattle.script.specs.declared.response.HandshakeInfo.{HandshakeInfo}
 use Rattle.verdicts.specs.Lookup.{looked}
-use Rattle.judging.specs.declared.tally.Counts.{Counts}
-use Rattle.subjects.specs.declared.handed.Handed.the-variants.{Info}
-use Rattle.judging.specs.Tally.{overLimit}
-use Rattle.judging.specs.Calls.{Judging, judge, subjectOf, wrongNumber, partOutside, tooLong, firstRefusal}
+use Rattle.tallies.specs.declared.tally.Counts.{Counts}
+use Rattle.verdicts.specs.declared.handed.Handed.the-variants.{Info}
+use Rattle.tallies.specs.Tally.{overLimit}
+use Rattle.tallies.specs.Answers.{firstRefusal}
+use Rattle.judging.specs.Calls.{Judging, judge, subjectOf, wrongNumber, partOutside, tooLong}
 use Rattle.judging.specs.Judge.{Lent, JudgeState, rangeFor, recordsIn, saidBy, rangeOutside, outOfReach, fewSlots, rangeRefusals, judgeRefusal, judgedBy, judged, judgeStep, refusalOn, judgedOn}
 use Rattle.judging.specs.Scratch.{scratchAfter, scratchOn}
 use Rattle.judging.proofs.Orders.{neither}
-use Rattle.judging.proofs.Refusals.{no-test, hit, pass, passed-by}
+use Rattle.tallies.proofs.Refusals.{no-test, hit, pass, passed-by}
 
 -- ---- the first test that applies, where those before it do not
 

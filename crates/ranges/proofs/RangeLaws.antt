@@ -23,11 +23,11 @@ use Rattle.verdicts.specs.declared.Verdict.{Verdict}
 use Rattle.tables.specs.Written.{writtenAt}
 use Rattle.tables.proofs.WrittenLaws.{written-one, written-twice}
 use Rattle.slots.specs.Blank.{blankExpectation}
-use Rattle.judging.specs.declared.tally.Counts.{Counts}
-use Rattle.judging.specs.Tally.{added, addedAll}
+use Rattle.tallies.specs.declared.tally.Counts.{Counts}
+use Rattle.tallies.specs.Tally.{added, addedAll}
 use Rattle.judging.specs.Calls.{said, tooLong}
 use Rattle.judging.specs.Scratch.{overwrittenBy, overwritten}
-use Rattle.judging.proofs.Counting.{all-added, count-most}
+use Rattle.tallies.proofs.Counting.{all-added, count-most}
 use Rattle.judging.proofs.Orders.{neither}
 
 -- ---- what is left of a range, once i are done

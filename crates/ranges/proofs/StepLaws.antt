@@ -22,19 +22,20 @@ use Rattle.verdicts.specs.Verdicts.{verdict, code}
 use Rattle.verdicts.specs.Held.{ranged, inside}
 use Rattle.verdicts.specs.declared.Verdict.{Verdict}
 use Rattle.tables.specs.Written.{writtenAt}
-use Rattle.subjects.specs.Subjects.{heldBy, partsIn}
-use Rattle.subjects.specs.declared.handed.Handed.{Handed}
-use Rattle.subjects.specs.declared.handed.Handed.the-variants.{Info, Response}
-use Rattle.judging.specs.declared.tally.Counts.{Counts}
-use Rattle.judging.specs.declared.calls.Answer.the-variants.{Refused, Judged}
+use Rattle.verdicts.specs.Subjects.{heldBy, partsIn}
+use Rattle.verdicts.specs.declared.handed.Handed.{Handed}
+use Rattle.verdicts.specs.declared.handed.Handed.the-variants.{Info, Response}
+use Rattle.tallies.specs.declared.tally.Counts.{Counts}
+use Rattle.tallies.specs.declared.calls.Answer.the-variants.{Refused, Judged}
 use Rattle.ranges.specs.declared.steps.Step.{Step}
-use Rattle.judging.specs.Tally.{overLimit, addedAll}
-use Rattle.judging.specs.Calls.{Judging, subjectOf, said, wrongNumber, partOutside, tooLong, refusedIf, firstRefusal, judgedOr}
+use Rattle.tallies.specs.Tally.{overLimit, addedAll}
+use Rattle.tallies.specs.Answers.{refusedIf, firstRefusal}
+use Rattle.judging.specs.Calls.{Judging, subjectOf, said, wrongNumber, partOutside, tooLong, judgedOr}
 use Rattle.judging.specs.Judge.{Lent, JudgeState, allIn, recordsIn, saidBy, rangeOutside, outOfReach, fewSlots, rangeRefusals, refusalOn, judgedBy, judgedOn}
 use Rattle.judging.specs.Scratch.{overwritten, overwrittenOr, scratchOn}
 use Rattle.ranges.specs.Judging.{refusalBy, settledAs, stepped, lentOf, askedOf}
 use Rattle.judging.proofs.Orders.{neither}
-use Rattle.judging.proofs.Refusals.{no-test, hit, pass, passed-by}
+use Rattle.tallies.proofs.Refusals.{no-test, hit, pass, passed-by}
 use Rattle.ranges.proofs.RangeLaws.{written-nothing}
 use Rattle.ranges.proofs.JudgeLaws.{refuse-36, refuse-33, refuse-range, refuse-31, refuse-32, refuse-35, refuse-34, refuse-none, Clear, clear}
 

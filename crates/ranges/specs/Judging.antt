@@ -7,12 +7,12 @@ use Rattle.text.specs.Base.{if_then_else_}
 use Rattle.script.specs.Reading.{refusal}
 use Rattle.script.specs.declared.records.Items.{Items}
 use Rattle.script.specs.declared.records.Refusal.{Refusal}
-use Rattle.judging.specs.declared.calls.Answer.{Answer}
+use Rattle.tallies.specs.declared.calls.Answer.{Answer}
 use Rattle.ranges.specs.declared.steps.Step.{Step}
 use Rattle.script.specs.declared.records.Entry.{Entry}
 use Rattle.script.specs.declared.records.Expectation.{Expectation}
 use Rattle.script.specs.declared.records.Script.{Script}
-use Rattle.subjects.specs.declared.handed.Handed.{Handed}
+use Rattle.verdicts.specs.declared.handed.Handed.{Handed}
 use Rattle.judging.specs.Calls.{Judging}
 use Rattle.judging.specs.Judge.{Lent, JudgeState}
 

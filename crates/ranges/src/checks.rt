@@ -7,13 +7,14 @@ ghost use lib.Dec.{ltb, eqb};
 ghost use Rattle.text.specs.Base.{_&_};
 ghost use Rattle.script.specs.Reading.{room};
 ghost use Rattle.verdicts.specs.Held as Held;
-ghost use Rattle.judging.specs.Tally.{overLimit};
-ghost use Rattle.judging.specs.Calls.{wrongNumber, refusedIf, firstRefusal};
+ghost use Rattle.tallies.specs.Tally.{overLimit};
+ghost use Rattle.tallies.specs.Answers.{refusedIf, firstRefusal};
+ghost use Rattle.judging.specs.Calls.{wrongNumber};
 ghost use Rattle.ranges.specs.Judging.{refusalBy, settledAs};
-use judging::tally::Counts;
 use places::inside::inside;
 use script::records::Items;
-use subjects::handed::Handed;
+use tallies::tally::Counts;
+use verdicts::handed::Handed;
 
 // How many of n records count, and of `count` that a script says there are.
 pub fn counting(count: usize, n: usize) -> usize

@@ -8,19 +8,19 @@ ghost use Rattle.tables.specs.Written.{writtenAt};
 ghost use Rattle.verdicts.specs.Held.{ranged};
 ghost use Rattle.verdicts.specs.Lookup.{looked};
 ghost use Rattle.verdicts.specs.Verdicts.{verdict, code};
-ghost use Rattle.subjects.specs.Subjects.{heldBy};
-ghost use Rattle.judging.specs.Tally.{addedAll};
+ghost use Rattle.verdicts.specs.Subjects.{heldBy};
+ghost use Rattle.tallies.specs.Tally.{addedAll};
 ghost use Rattle.judging.specs.Calls.{said, tooLong};
 ghost use Rattle.judging.specs.Judge.{allIn};
 ghost use Rattle.judging.specs.Scratch.{overwritten};
-use judging::tally::Counts;
 use script::records::Expectation;
 use script::records::Items;
-use subjects::handed::Handed;
 use subjects::one::judge_one;
 use subjects::one::reaches;
 use subjects::one::value_fits;
+use tallies::tally::Counts;
 use verdicts::code_of;
+use verdicts::handed::Handed;
 
 // Every part of them lies inside the text.
 pub fn all_in(text: &[u8], expectations: &[Expectation], r: Items) -> bool

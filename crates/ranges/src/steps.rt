@@ -6,7 +6,7 @@ ghost use lib.ListN.{length, getD};
 ghost use lib.Dec.{ltb};
 ghost use Rattle.slots.specs.Blank.{blankEntry};
 ghost use Rattle.script.specs.Reading.{refusal};
-ghost use Rattle.judging.specs.declared.calls.Answer.the-variants.{Refused, Judged};
+ghost use Rattle.tallies.specs.declared.calls.Answer.the-variants.{Refused, Judged};
 ghost use Rattle.judging.specs.Judge.{refusalOn, judgedOn};
 ghost use Rattle.judging.specs.Scratch.{scratchOn};
 ghost use Rattle.ranges.specs.Judging.{refusalBy, stepped, lentOf, askedOf};
@@ -17,15 +17,15 @@ use crate::checks::settled;
 use crate::each::all_fit;
 use crate::each::all_in;
 use crate::each::judge_range;
-use judging::calls::Answer;
-use judging::tally::Counts;
 use script::records::Entry;
 use script::records::Expectation;
 use script::records::Items;
 use script::records::Refusal;
 use script::records::Script;
-use subjects::handed::Handed;
 use subjects::handed::parts_in;
+use tallies::calls::Answer;
+use tallies::tally::Counts;
+use verdicts::handed::Handed;
 
 // What a judging answered, and the next number and the counts that it left.
 pub struct Step {

@@ -14,10 +14,11 @@ use Rattle.script.specs.declared.records.Script.{Script}
 use Rattle.script.specs.declared.response.HandshakeInfo.{HandshakeInfo}
 use Rattle.script.specs.declared.response.DaemonResponse.{DaemonResponse}
 use Rattle.judge.specs.declared.calls.Turn.{Turn}
-use Rattle.subjects.specs.declared.handed.Handed.{Handed}
-use Rattle.subjects.specs.declared.handed.Handed.the-variants.{Info, Response}
+use Rattle.verdicts.specs.declared.handed.Handed.{Handed}
+use Rattle.verdicts.specs.declared.handed.Handed.the-variants.{Info, Response}
 use Rattle.judging.specs.Calls.{Judging, judge, close}
-use Rattle.judging.specs.Judge.{Lent, JudgeState, closeAnswer, judgeStep}
+use Rattle.tallies.specs.Answers.{closeAnswer}
+use Rattle.judging.specs.Judge.{Lent, JudgeState, judgeStep}
 use Rattle.judging.specs.Scratch.{scratchAfter}
 use Rattle.ranges.proofs.JudgeLaws.{no-entries, no-entries-scratch}
 use Rattle.judge.specs.Tally.{tallyOf, turned}

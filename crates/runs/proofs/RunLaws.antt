@@ -10,7 +10,7 @@ use Rattle.tables.specs.Written.{writtenAt}
 use Rattle.tables.proofs.WrittenLaws.{written-one, written-twice}
 use Rattle.rows.specs.Rows.{at}
 use Rattle.judge.specs.declared.tally.Tally.{Tally}
-use Rattle.judging.specs.declared.calls.Answer.{Answer}
+use Rattle.tallies.specs.declared.calls.Answer.{Answer}
 use Rattle.judge.specs.Tally.{freshTally, stateOf}
 use Rattle.judging.specs.Calls.{Call, run}
 use Rattle.judging.specs.Judge.{Lent, JudgeState, judgeStart, judgeStep}

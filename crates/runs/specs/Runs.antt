@@ -2,7 +2,7 @@
 use Prim.Native.Nat.{ℕ}
 use mathlib.Core.List.{List, [], _∷_, _++_}
 use lib.ListN.{take, drop}
-use Rattle.judging.specs.declared.calls.Answer.{Answer}
+use Rattle.tallies.specs.declared.calls.Answer.{Answer}
 use Rattle.judging.specs.Calls.{Call, judge, close}
 use Rattle.judging.specs.Judge.{Lent, JudgeState}
 use Rattle.judging.specs.Scratch.{scratchAfter}

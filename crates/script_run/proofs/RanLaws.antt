@@ -17,7 +17,7 @@ use Rattle.read.specs.Read.{lentOf, answerOf, scriptOr, tablesOr}
 use Rattle.read.specs.declared.reading.Answer.{Answer}
 use Rattle.read.specs.declared.reading.Answer.the-variants as Answer
 use Rattle.judge.specs.declared.tally.Tally.{Tally}
-use Rattle.judging.specs.declared.calls.Answer as Told
+use Rattle.tallies.specs.declared.calls.Answer as Told
 use Rattle.judging.specs.Calls.{Call, run}
 use Rattle.judging.specs.Judge.{Lent, JudgeState, judgeStart, judgeStep}
 use Rattle.judging.specs.PlainJudge.{plainRun}

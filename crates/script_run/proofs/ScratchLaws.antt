@@ -7,7 +7,7 @@ use lib.ListN.{length, take, drop}
 use Rattle.script.specs.declared.records.Refusal.{Refusal}
 use Rattle.verdicts.specs.Told.{Subject}
 use Rattle.verdicts.specs.Lookup.{looked}
-use Rattle.judging.specs.declared.calls.Answer.{Answer}
+use Rattle.tallies.specs.declared.calls.Answer.{Answer}
 use Rattle.judging.specs.Calls.{Call, judge, close, subjectOf}
 use Rattle.judging.specs.Judge.{Lent, JudgeState, judgeStart, rangeFor, saidBy, judgeStep}
 use Rattle.judging.specs.Scratch.{overwrittenOr, scratchOn, scratchAfter}

@@ -12,7 +12,7 @@ use Rattle.frames.specs.Frames.{presentBytes}
 use Rattle.writing.specs.Room.{left}
 use Rattle.writing.specs.declared.room.Room.{Room}
 use Rattle.writing.specs.declared.room.Room.the-variants.{Left, Short}
-use Rattle.subjects.specs.Subjects.{fits}
+use Rattle.subjects.specs.Fits.{fits}
 
 module _ (room : ℕ) (value : List ℕ) (o : Option (List ℕ)) (is : value ≡ presentBytes o) (r : Room) (e : r ≡ left room (length value)) where
   pub room-left : (k : ℕ) → r ≡ Left k → true ≡ fits room o

@@ -1,1 +1,1 @@
-pub mod Subjects
+pub mod Fits

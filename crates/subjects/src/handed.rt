@@ -1,6 +1,6 @@
 // The handshake's information, or a response.
 ghost use mathlib.Core.Path.{_≡_};
-ghost use Rattle.subjects.specs.Subjects.{heldBy, partsIn};
+ghost use Rattle.verdicts.specs.Subjects.{heldBy, partsIn};
 ghost use Rattle.verdicts.specs.Held.{expectedOf};
 ghost use Rattle.verdicts.specs.Lookup.{looked};
 ghost use Rattle.verdicts.specs.Verdicts.{verdict};
@@ -12,18 +12,11 @@ use lookups::looked::looked_handshake;
 use places::inside::info_in;
 use places::inside::response_in;
 use script::records::Expect;
-use script::response::DaemonResponse;
-use script::response::HandshakeInfo;
 use sought::value::Value;
 use verdict_of::entry_verdict;
 use verdict_of::handshake_verdict;
 use verdicts::Verdict;
-
-// What a number is judged against: the handshake against its information, an entry against a response.
-pub enum Handed {
-    Info(HandshakeInfo),
-    Response(DaemonResponse),
-}
+use verdicts::handed::Handed;
 
 // Every part of it lies inside its bytes.
 pub fn parts_in(h: Handed, bytes: &[u8], lists: &[[usize; 2]]) -> bool

@@ -7,14 +7,15 @@ ghost use Rattle.verdicts.specs.Held.{expectedOf, expectIn};
 ghost use Rattle.verdicts.specs.Lookup.{looked};
 ghost use Rattle.verdicts.specs.Verdicts.{verdict};
 ghost use Rattle.frames.specs.Frames.{presentBytes};
-ghost use Rattle.subjects.specs.Subjects.{heldBy, fits};
-use crate::handed::Handed;
+ghost use Rattle.verdicts.specs.Subjects.{heldBy};
+ghost use Rattle.subjects.specs.Fits.{fits};
 use crate::handed::looked_value;
 use crate::handed::verdict_on;
 use scratch::rooms::value_room;
 use scratch::written::write_value;
 use script::records::Expectation;
 use verdicts::Verdict;
+use verdicts::handed::Handed;
 use writing::room::Room;
 
 // Every part of it lies inside a text of n bytes.

@@ -5,3 +5,4 @@ pub mod Decisions
 pub mod Verdicts
 pub mod Messages
 pub mod Held
+pub mod Subjects

@@ -2,6 +2,8 @@
 ghost use mathlib.Core.Path.{_≡_};
 ghost use Rattle.verdicts.specs.Verdicts.{code, decode};
 
+pub mod handed;
+
 // What judging one expectation gives.
 pub enum Verdict {
     Passed,

@@ -1,12 +1,12 @@
 -- The kinds of the parameters and of the result of `each::judge_range`. Made by tools/walk.py, from what Rattle makes for a twin in which the elements are arrays.
 -- Assumes nothing.
-use Rattle.judging.proofs.tally.Counts
-use Rattle.judging.proofs.tally.Counts.Laws
+use Rattle.tallies.proofs.tally.Counts
+use Rattle.tallies.proofs.tally.Counts.Laws
 use Rattle.script.proofs.records.Items
 use Rattle.script.proofs.records.Items.Laws as Laws'
 use Rattle.slots.proofs.Made.ExpectationElem
-use Rattle.subjects.proofs.handed.Handed
-use Rattle.subjects.proofs.handed.Handed.Laws as Laws''
+use Rattle.verdicts.proofs.handed.Handed
+use Rattle.verdicts.proofs.handed.Handed.Laws as Laws''
 use borrow.Fn.Kinds
 use borrow.Kind.MutSlice
 use borrow.Kind.ShrSlice

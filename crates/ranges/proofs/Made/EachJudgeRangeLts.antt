@@ -1,13 +1,13 @@
 -- The derivation of `each::judge_range`, with a need for each thing that is left. Made by tools/walk.py, from what Rattle makes for a twin in which the elements are arrays.
 -- Assumes nothing.
 use Prim.Native.Nat
-use Rattle.judging.proofs.tally.Counts
-use Rattle.judging.proofs.tally.Counts.Laws
+use Rattle.tallies.proofs.tally.Counts
+use Rattle.tallies.proofs.tally.Counts.Laws
 use Rattle.script.proofs.records.Items
 use Rattle.script.proofs.records.Items.Laws as Laws'
 use Rattle.slots.proofs.Made.ExpectationElem
-use Rattle.subjects.proofs.handed.Handed
-use Rattle.subjects.proofs.handed.Handed.Laws as Laws''
+use Rattle.verdicts.proofs.handed.Handed
+use Rattle.verdicts.proofs.handed.Handed.Laws as Laws''
 use Rattle.verdicts.proofs.Verdict
 use Rattle.verdicts.proofs.Verdict.Laws as Laws'3
 use borrow.Author.Called
@@ -64,7 +64,7 @@ use prog.Wp
 use types.Kit
 
 abbrev τ0 : Syntax.Ty
-τ0 = Syntax.tyStruct (List._∷_ 106 (List._∷_ 117 (List._∷_ 100 (List._∷_ 103 (List._∷_ 105 (List._∷_ 110 (List._∷_ 103 (List._∷_ 58 (List._∷_ 58 (List._∷_ 116 (List._∷_ 97 (List._∷_ 108 (List._∷_ 108 (List._∷_ 121 (List._∷_ 58 (List._∷_ 58 (List._∷_ 67 (List._∷_ 111 (List._∷_ 117 (List._∷_ 110 (List._∷_ 116 (List._∷_ 115 List.[])))))))))))))))))))))) (Syntax.tcons (Syntax.tyInt Syntax.w64) (Syntax.tcons (Syntax.tyInt Syntax.w64) (Syntax.tcons (Syntax.tyInt Syntax.w64) Syntax.tnil)))
+τ0 = Syntax.tyStruct (List._∷_ 116 (List._∷_ 97 (List._∷_ 108 (List._∷_ 108 (List._∷_ 105 (List._∷_ 101 (List._∷_ 115 (List._∷_ 58 (List._∷_ 58 (List._∷_ 116 (List._∷_ 97 (List._∷_ 108 (List._∷_ 108 (List._∷_ 121 (List._∷_ 58 (List._∷_ 58 (List._∷_ 67 (List._∷_ 111 (List._∷_ 117 (List._∷_ 110 (List._∷_ 116 (List._∷_ 115 List.[])))))))))))))))))))))) (Syntax.tcons (Syntax.tyInt Syntax.w64) (Syntax.tcons (Syntax.tyInt Syntax.w64) (Syntax.tcons (Syntax.tyInt Syntax.w64) Syntax.tnil)))
 
 abbrev τ1 : Syntax.Ty
 τ1 = Syntax.tyEnum (List._∷_ 118 (List._∷_ 101 (List._∷_ 114 (List._∷_ 100 (List._∷_ 105 (List._∷_ 99 (List._∷_ 116 (List._∷_ 115 (List._∷_ 58 (List._∷_ 58 (List._∷_ 86 (List._∷_ 101 (List._∷_ 114 (List._∷_ 100 (List._∷_ 105 (List._∷_ 99 (List._∷_ 116 List.[]))))))))))))))))) (Syntax.ttcons Syntax.tnil (Syntax.ttcons Syntax.tnil (Syntax.ttcons Syntax.tnil Syntax.ttnil)))
@@ -76,7 +76,7 @@ abbrev τ3 : Syntax.Ty
 τ3 = Syntax.tyStruct (List._∷_ 115 (List._∷_ 99 (List._∷_ 114 (List._∷_ 105 (List._∷_ 112 (List._∷_ 116 (List._∷_ 58 (List._∷_ 58 (List._∷_ 114 (List._∷_ 101 (List._∷_ 99 (List._∷_ 111 (List._∷_ 114 (List._∷_ 100 (List._∷_ 115 (List._∷_ 58 (List._∷_ 58 (List._∷_ 73 (List._∷_ 116 (List._∷_ 101 (List._∷_ 109 (List._∷_ 115 List.[])))))))))))))))))))))) (Syntax.tcons (Syntax.tyInt Syntax.w64) (Syntax.tcons (Syntax.tyInt Syntax.w64) Syntax.tnil))
 
 abbrev τ4 : Syntax.Ty
-τ4 = Syntax.tyEnum (List._∷_ 115 (List._∷_ 117 (List._∷_ 98 (List._∷_ 106 (List._∷_ 101 (List._∷_ 99 (List._∷_ 116 (List._∷_ 115 (List._∷_ 58 (List._∷_ 58 (List._∷_ 104 (List._∷_ 97 (List._∷_ 110 (List._∷_ 100 (List._∷_ 101 (List._∷_ 100 (List._∷_ 58 (List._∷_ 58 (List._∷_ 72 (List._∷_ 97 (List._∷_ 110 (List._∷_ 100 (List._∷_ 101 (List._∷_ 100 List.[])))))))))))))))))))))))) (Syntax.ttcons (Syntax.tcons (Syntax.tyStruct (List._∷_ 115 (List._∷_ 99 (List._∷_ 114 (List._∷_ 105 (List._∷_ 112 (List._∷_ 116 (List._∷_ 58 (List._∷_ 58 (List._∷_ 114 (List._∷_ 101 (List._∷_ 115 (List._∷_ 112 (List._∷_ 111 (List._∷_ 110 (List._∷_ 115 (List._∷_ 101 (List._∷_ 58 (List._∷_ 58 (List._∷_ 72 (List._∷_ 97 (List._∷_ 110 (List._∷_ 100 (List._∷_ 115 (List._∷_ 104 (List._∷_ 97 (List._∷_ 107 (List._∷_ 101 (List._∷_ 73 (List._∷_ 110 (List._∷_ 102 (List._∷_ 111 List.[]))))))))))))))))))))))))))))))) (Syntax.tcons (Syntax.tyStruct (List._∷_ 118 (List._∷_ 101 (List._∷_ 114 (List._∷_ 115 (List._∷_ 105 (List._∷_ 111 (List._∷_ 110 (List._∷_ 58 (List._∷_ 58 (List._∷_ 80 (List._∷_ 114 (List._∷_ 111 (List._∷_ 116 (List._∷_ 111 (List._∷_ 99 (List._∷_ 111 (List._∷_ 108 (List._∷_ 86 (List._∷_ 101 (List._∷_ 114 (List._∷_ 115 (List._∷_ 105 (List._∷_ 111 (List._∷_ 110 List.[])))))))))))))))))))))))) (Syntax.tcons (Syntax.tyInt Syntax.w16) (Syntax.tcons (Syntax.tyInt Syntax.w8) Syntax.tnil))) (Syntax.tcons (Syntax.tyStruct (List._∷_ 118 (List._∷_ 101 (List._∷_ 114 (List._∷_ 115 (List._∷_ 105 (List._∷_ 111 (List._∷_ 110 (List._∷_ 58 (List._∷_ 58 (List._∷_ 80 (List._∷_ 114 (List._∷_ 111 (List._∷_ 116 (List._∷_ 111 (List._∷_ 99 (List._∷_ 111 (List._∷_ 108 (List._∷_ 86 (List._∷_ 101 (List._∷_ 114 (List._∷_ 115 (List._∷_ 105 (List._∷_ 111 (List._∷_ 110 List.[])))))))))))))))))))))))) (Syntax.tcons (Syntax.tyInt Syntax.w16) (Syntax.tcons (Syntax.tyInt Syntax.w8) Syntax.tnil))) (Syntax.tcons (Syntax.tyStruct (List._∷_ 118 (List._∷_ 101 (List._∷_ 114 (List._∷_ 115 (List._∷_ 105 (List._∷_ 111 (List._∷_ 110 (List._∷_ 58 (List._∷_ 58 (List._∷_ 80 (List._∷_ 114 (List._∷_ 111 (List._∷_ 116 (List._∷_ 111 (List._∷_ 99 (List._∷_ 111 (List._∷_ 108 (List._∷_ 86 (List._∷_ 101 (List._∷_ 114 (List._∷_ 115 (List._∷_ 105 (List._∷_ 111 (List._∷_ 110 List.[])))))))))))))))))))))))) (Syntax.tcons (Syntax.tyInt Syntax.w16) (Syntax.tcons (Syntax.tyInt Syntax.w8) Syntax.tnil))) (Syntax.tcons (Syntax.tyStruct (List._∷_ 115 (List._∷_ 99 (List._∷_ 114 (List._∷_ 105 (List._∷_ 112 (List._∷_ 116 (List._∷_ 58 (List._∷_ 58 (List._∷_ 114 (List._∷_ 101 (List._∷_ 99 (List._∷_ 111 (List._∷_ 114 (List._∷_ 100 (List._∷_ 115 (List._∷_ 58 (List._∷_ 58 (List._∷_ 73 (List._∷_ 116 (List._∷_ 101 (List._∷_ 109 (List._∷_ 115 List.[])))))))))))))))))))))) (Syntax.tcons (Syntax.tyInt Syntax.w64) (Syntax.tcons (Syntax.tyInt Syntax.w64) Syntax.tnil))) (Syntax.tcons (Syntax.tyStruct (List._∷_ 115 (List._∷_ 99 (List._∷_ 114 (List._∷_ 105 (List._∷_ 112 (List._∷_ 116 (List._∷_ 58 (List._∷_ 58 (List._∷_ 114 (List._∷_ 101 (List._∷_ 99 (List._∷_ 111 (List._∷_ 114 (List._∷_ 100 (List._∷_ 115 (List._∷_ 58 (List._∷_ 58 (List._∷_ 73 (List._∷_ 116 (List._∷_ 101 (List._∷_ 109 (List._∷_ 115 List.[])))))))))))))))))))))) (Syntax.tcons (Syntax.tyInt Syntax.w64) (Syntax.tcons (Syntax.tyInt Syntax.w64) Syntax.tnil))) (Syntax.tcons (Syntax.tyEnum (List._∷_ 115 (List._∷_ 99 (List._∷_ 114 (List._∷_ 105 (List._∷_ 112 (List._∷_ 116 (List._∷_ 58 (List._∷_ 58 (List._∷_ 114 (List._∷_ 101 (List._∷_ 99 (List._∷_ 111 (List._∷_ 114 (List._∷_ 100 (List._∷_ 115 (List._∷_ 58 (List._∷_ 58 (List._∷_ 77 (List._∷_ 97 (List._∷_ 121 (List._∷_ 98 (List._∷_ 101 List.[])))))))))))))))))))))) (Syntax.ttcons Syntax.tnil (Syntax.ttcons (Syntax.tcons (Syntax.tyStruct (List._∷_ 115 (List._∷_ 99 (List._∷_ 114 (List._∷_ 105 (List._∷_ 112 (List._∷_ 116 (List._∷_ 58 (List._∷_ 58 (List._∷_ 114 (List._∷_ 101 (List._∷_ 99 (List._∷_ 111 (List._∷_ 114 (List._∷_ 100 (List._∷_ 115 (List._∷_ 58 (List._∷_ 58 (List._∷_ 80 (List._∷_ 108 (List._∷_ 97 (List._∷_ 99 (List._∷_ 101 List.[])))))))))))))))))))))) (Syntax.tcons (Syntax.tyInt Syntax.w64) (Syntax.tcons (Syntax.tyInt Syntax.w64) Syntax.tnil))) Syntax.tnil) Syntax.ttnil))) (Syntax.tcons (Syntax.tyEnum (List._∷_ 115 (List._∷_ 99 (List._∷_ 114 (List._∷_ 105 (List._∷_ 112 (List._∷_ 116 (List._∷_ 58 (List._∷_ 58 (List._∷_ 114 (List._∷_ 101 (List._∷_ 115 (List._∷_ 112 (List._∷_ 111 (List._∷_ 110 (List._∷_ 115 (List._∷_ 101 (List._∷_ 58 (List._∷_ 58 (List._∷_ 77 (List._∷_ 97 (List._∷_ 121 (List._∷_ 98 (List._∷_ 101 (List._∷_ 78 (List._∷_ 117 (List._∷_ 109 (List._∷_ 98 (List._∷_ 101 (List._∷_ 114 List.[]))))))))))))))))))))))))))))) (Syntax.ttcons Syntax.tnil (Syntax.ttcons (Syntax.tcons (Syntax.tyInt Syntax.w64) Syntax.tnil) Syntax.ttnil))) Syntax.tnil)))))))) Syntax.tnil) (Syntax.ttcons (Syntax.tcons (Syntax.tyStruct (List._∷_ 115 (List._∷_ 99 (List._∷_ 114 (List._∷_ 105 (List._∷_ 112 (List._∷_ 116 (List._∷_ 58 (List._∷_ 58 (List._∷_ 114 (List._∷_ 101 (List._∷_ 115 (List._∷_ 112 (List._∷_ 111 (List._∷_ 110 (List._∷_ 115 (List._∷_ 101 (List._∷_ 58 (List._∷_ 58 (List._∷_ 68 (List._∷_ 97 (List._∷_ 101 (List._∷_ 109 (List._∷_ 111 (List._∷_ 110 (List._∷_ 82 (List._∷_ 101 (List._∷_ 115 (List._∷_ 112 (List._∷_ 111 (List._∷_ 110 (List._∷_ 115 (List._∷_ 101 List.[])))))))))))))))))))))))))))))))) (Syntax.tcons (Syntax.tyStruct (List._∷_ 115 (List._∷_ 99 (List._∷_ 114 (List._∷_ 105 (List._∷_ 112 (List._∷_ 116 (List._∷_ 58 (List._∷_ 58 (List._∷_ 114 (List._∷_ 101 (List._∷_ 99 (List._∷_ 111 (List._∷_ 114 (List._∷_ 100 (List._∷_ 115 (List._∷_ 58 (List._∷_ 58 (List._∷_ 80 (List._∷_ 108 (List._∷_ 97 (List._∷_ 99 (List._∷_ 101 List.[])))))))))))))))))))))) (Syntax.tcons (Syntax.tyInt Syntax.w64) (Syntax.tcons (Syntax.tyInt Syntax.w64) Syntax.tnil))) (Syntax.tcons (Syntax.tyInt Syntax.w64) (Syntax.tcons (Syntax.tyEnum (List._∷_ 115 (List._∷_ 99 (List._∷_ 114 (List._∷_ 105 (List._∷_ 112 (List._∷_ 116 (List._∷_ 58 (List._∷_ 58 (List._∷_ 114 (List._∷_ 101 (List._∷_ 115 (List._∷_ 112 (List._∷_ 111 (List._∷_ 110 (List._∷_ 115 (List._∷_ 101 (List._∷_ 58 (List._∷_ 58 (List._∷_ 82 (List._∷_ 101 (List._∷_ 115 (List._∷_ 117 (List._∷_ 108 (List._∷_ 116 (List._∷_ 68 (List._∷_ 97 (List._∷_ 116 (List._∷_ 97 List.[])))))))))))))))))))))))))))) (Syntax.ttcons Syntax.tnil (Syntax.ttcons (Syntax.tcons (Syntax.tyInt Syntax.w64) Syntax.tnil) (Syntax.ttcons (Syntax.tcons (Syntax.tyStruct (List._∷_ 115 (List._∷_ 99 (List._∷_ 114 (List._∷_ 105 (List._∷_ 112 (List._∷_ 116 (List._∷_ 58 (List._∷_ 58 (List._∷_ 114 (List._∷_ 101 (List._∷_ 99 (List._∷_ 111 (List._∷_ 114 (List._∷_ 100 (List._∷_ 115 (List._∷_ 58 (List._∷_ 58 (List._∷_ 80 (List._∷_ 108 (List._∷_ 97 (List._∷_ 99 (List._∷_ 101 List.[])))))))))))))))))))))) (Syntax.tcons (Syntax.tyInt Syntax.w64) (Syntax.tcons (Syntax.tyInt Syntax.w64) Syntax.tnil))) Syntax.tnil) (Syntax.ttcons (Syntax.tcons (Syntax.tyStruct (List._∷_ 115 (List._∷_ 99 (List._∷_ 114 (List._∷_ 105 (List._∷_ 112 (List._∷_ 116 (List._∷_ 58 (List._∷_ 58 (List._∷_ 114 (List._∷_ 101 (List._∷_ 115 (List._∷_ 112 (List._∷_ 111 (List._∷_ 110 (List._∷_ 115 (List._∷_ 101 (List._∷_ 58 (List._∷_ 58 (List._∷_ 80 (List._∷_ 97 (List._∷_ 116 (List._∷_ 104 (List._∷_ 73 (List._∷_ 110 (List._∷_ 102 (List._∷_ 111 (List._∷_ 82 (List._∷_ 101 (List._∷_ 115 (List._∷_ 117 (List._∷_ 108 (List._∷_ 116 List.[])))))))))))))))))))))))))))))))) (Syntax.tcons Syntax.tyBool (Syntax.tcons (Syntax.tyEnum (List._∷_ 115 (List._∷_ 99 (List._∷_ 114 (List._∷_ 105 (List._∷_ 112 (List._∷_ 116 (List._∷_ 58 (List._∷_ 58 (List._∷_ 114 (List._∷_ 101 (List._∷_ 99 (List._∷_ 111 (List._∷_ 114 (List._∷_ 100 (List._∷_ 115 (List._∷_ 58 (List._∷_ 58 (List._∷_ 77 (List._∷_ 97 (List._∷_ 121 (List._∷_ 98 (List._∷_ 101 List.[])))))))))))))))))))))) (Syntax.ttcons Syntax.tnil (Syntax.ttcons (Syntax.tcons (Syntax.tyStruct (List._∷_ 115 (List._∷_ 99 (List._∷_ 114 (List._∷_ 105 (List._∷_ 112 (List._∷_ 116 (List._∷_ 58 (List._∷_ 58 (List._∷_ 114 (List._∷_ 101 (List._∷_ 99 (List._∷_ 111 (List._∷_ 114 (List._∷_ 100 (List._∷_ 115 (List._∷_ 58 (List._∷_ 58 (List._∷_ 80 (List._∷_ 108 (List._∷_ 97 (List._∷_ 99 (List._∷_ 101 List.[])))))))))))))))))))))) (Syntax.tcons (Syntax.tyInt Syntax.w64) (Syntax.tcons (Syntax.tyInt Syntax.w64) Syntax.tnil))) Syntax.tnil) Syntax.ttnil))) (Syntax.tcons (Syntax.tyEnum (List._∷_ 115 (List._∷_ 99 (List._∷_ 114 (List._∷_ 105 (List._∷_ 112 (List._∷_ 116 (List._∷_ 58 (List._∷_ 58 (List._∷_ 114 (List._∷_ 101 (List._∷_ 99 (List._∷_ 111 (List._∷_ 114 (List._∷_ 100 (List._∷_ 115 (List._∷_ 58 (List._∷_ 58 (List._∷_ 77 (List._∷_ 97 (List._∷_ 121 (List._∷_ 98 (List._∷_ 101 List.[])))))))))))))))))))))) (Syntax.ttcons Syntax.tnil (Syntax.ttcons (Syntax.tcons (Syntax.tyStruct (List._∷_ 115 (List._∷_ 99 (List._∷_ 114 (List._∷_ 105 (List._∷_ 112 (List._∷_ 116 (List._∷_ 58 (List._∷_ 58 (List._∷_ 114 (List._∷_ 101 (List._∷_ 99 (List._∷_ 111 (List._∷_ 114 (List._∷_ 100 (List._∷_ 115 (List._∷_ 58 (List._∷_ 58 (List._∷_ 80 (List._∷_ 108 (List._∷_ 97 (List._∷_ 99 (List._∷_ 101 List.[])))))))))))))))))))))) (Syntax.tcons (Syntax.tyInt Syntax.w64) (Syntax.tcons (Syntax.tyInt Syntax.w64) Syntax.tnil))) Syntax.tnil) Syntax.ttnil))) (Syntax.tcons (Syntax.tyEnum (List._∷_ 115 (List._∷_ 99 (List._∷_ 114 (List._∷_ 105 (List._∷_ 112 (List._∷_ 116 (List._∷_ 58 (List._∷_ 58 (List._∷_ 114 (List._∷_ 101 (List._∷_ 99 (List._∷_ 111 (List._∷_ 114 (List._∷_ 100 (List._∷_ 115 (List._∷_ 58 (List._∷_ 58 (List._∷_ 77 (List._∷_ 97 (List._∷_ 121 (List._∷_ 98 (List._∷_ 101 (List._∷_ 73 (List._∷_ 116 (List._∷_ 101 (List._∷_ 109 (List._∷_ 115 List.[]))))))))))))))))))))))))))) (Syntax.ttcons Syntax.tnil (Syntax.ttcons (Syntax.tcons (Syntax.tyStruct (List._∷_ 115 (List._∷_ 99 (List._∷_ 114 (List._∷_ 105 (List._∷_ 112 (List._∷_ 116 (List._∷_ 58 (List._∷_ 58 (List._∷_ 114 (List._∷_ 101 (List._∷_ 99 (List._∷_ 111 (List._∷_ 114 (List._∷_ 100 (List._∷_ 115 (List._∷_ 58 (List._∷_ 58 (List._∷_ 73 (List._∷_ 116 (List._∷_ 101 (List._∷_ 109 (List._∷_ 115 List.[])))))))))))))))))))))) (Syntax.tcons (Syntax.tyInt Syntax.w64) (Syntax.tcons (Syntax.tyInt Syntax.w64) Syntax.tnil))) Syntax.tnil) Syntax.ttnil))) (Syntax.tcons (Syntax.tyEnum (List._∷_ 115 (List._∷_ 99 (List._∷_ 114 (List._∷_ 105 (List._∷_ 112 (List._∷_ 116 (List._∷_ 58 (List._∷_ 58 (List._∷_ 114 (List._∷_ 101 (List._∷_ 115 (List._∷_ 112 (List._∷_ 111 (List._∷_ 110 (List._∷_ 115 (List._∷_ 101 (List._∷_ 58 (List._∷_ 58 (List._∷_ 77 (List._∷_ 97 (List._∷_ 121 (List._∷_ 98 (List._∷_ 101 (List._∷_ 78 (List._∷_ 117 (List._∷_ 109 (List._∷_ 98 (List._∷_ 101 (List._∷_ 114 List.[]))))))))))))))))))))))))))))) (Syntax.ttcons Syntax.tnil (Syntax.ttcons (Syntax.tcons (Syntax.tyInt Syntax.w64) Syntax.tnil) Syntax.ttnil))) Syntax.tnil)))))) Syntax.tnil) (Syntax.ttcons (Syntax.tcons (Syntax.tyStruct (List._∷_ 115 (List._∷_ 99 (List._∷_ 114 (List._∷_ 105 (List._∷_ 112 (List._∷_ 116 (List._∷_ 58 (List._∷_ 58 (List._∷_ 114 (List._∷_ 101 (List._∷_ 99 (List._∷_ 111 (List._∷_ 114 (List._∷_ 100 (List._∷_ 115 (List._∷_ 58 (List._∷_ 58 (List._∷_ 73 (List._∷_ 116 (List._∷_ 101 (List._∷_ 109 (List._∷_ 115 List.[])))))))))))))))))))))) (Syntax.tcons (Syntax.tyInt Syntax.w64) (Syntax.tcons (Syntax.tyInt Syntax.w64) Syntax.tnil))) Syntax.tnil) (Syntax.ttcons Syntax.tnil (Syntax.ttcons Syntax.tnil (Syntax.ttcons (Syntax.tcons (Syntax.tyInt Syntax.w64) Syntax.tnil) (Syntax.ttcons (Syntax.tcons Syntax.tyBool (Syntax.tcons (Syntax.tyEnum (List._∷_ 115 (List._∷_ 99 (List._∷_ 114 (List._∷_ 105 (List._∷_ 112 (List._∷_ 116 (List._∷_ 58 (List._∷_ 58 (List._∷_ 114 (List._∷_ 101 (List._∷_ 115 (List._∷_ 112 (List._∷_ 111 (List._∷_ 110 (List._∷_ 115 (List._∷_ 101 (List._∷_ 58 (List._∷_ 58 (List._∷_ 77 (List._∷_ 97 (List._∷_ 121 (List._∷_ 98 (List._∷_ 101 (List._∷_ 78 (List._∷_ 117 (List._∷_ 109 (List._∷_ 98 (List._∷_ 101 (List._∷_ 114 List.[]))))))))))))))))))))))))))))) (Syntax.ttcons Syntax.tnil (Syntax.ttcons (Syntax.tcons (Syntax.tyInt Syntax.w64) Syntax.tnil) Syntax.ttnil))) (Syntax.tcons (Syntax.tyEnum (List._∷_ 115 (List._∷_ 99 (List._∷_ 114 (List._∷_ 105 (List._∷_ 112 (List._∷_ 116 (List._∷_ 58 (List._∷_ 58 (List._∷_ 114 (List._∷_ 101 (List._∷_ 115 (List._∷_ 112 (List._∷_ 111 (List._∷_ 110 (List._∷_ 115 (List._∷_ 101 (List._∷_ 58 (List._∷_ 58 (List._∷_ 77 (List._∷_ 97 (List._∷_ 121 (List._∷_ 98 (List._∷_ 101 (List._∷_ 78 (List._∷_ 117 (List._∷_ 109 (List._∷_ 98 (List._∷_ 101 (List._∷_ 114 List.[]))))))))))))))))))))))))))))) (Syntax.ttcons Syntax.tnil (Syntax.ttcons (Syntax.tcons (Syntax.tyInt Syntax.w64) Syntax.tnil) Syntax.ttnil))) Syntax.tnil))) (Syntax.ttcons (Syntax.tcons (Syntax.tyInt Syntax.w64) (Syntax.tcons (Syntax.tyInt Syntax.w64) Syntax.tnil)) (Syntax.ttcons Syntax.tnil (Syntax.ttcons Syntax.tnil Syntax.ttnil))))))))))))) (Syntax.tcons (Syntax.tyEnum (List._∷_ 115 (List._∷_ 99 (List._∷_ 114 (List._∷_ 105 (List._∷_ 112 (List._∷_ 116 (List._∷_ 58 (List._∷_ 58 (List._∷_ 114 (List._∷_ 101 (List._∷_ 99 (List._∷_ 111 (List._∷_ 114 (List._∷_ 100 (List._∷_ 115 (List._∷_ 58 (List._∷_ 58 (List._∷_ 77 (List._∷_ 97 (List._∷_ 121 (List._∷_ 98 (List._∷_ 101 List.[])))))))))))))))))))))) (Syntax.ttcons Syntax.tnil (Syntax.ttcons (Syntax.tcons (Syntax.tyStruct (List._∷_ 115 (List._∷_ 99 (List._∷_ 114 (List._∷_ 105 (List._∷_ 112 (List._∷_ 116 (List._∷_ 58 (List._∷_ 58 (List._∷_ 114 (List._∷_ 101 (List._∷_ 99 (List._∷_ 111 (List._∷_ 114 (List._∷_ 100 (List._∷_ 115 (List._∷_ 58 (List._∷_ 58 (List._∷_ 80 (List._∷_ 108 (List._∷_ 97 (List._∷_ 99 (List._∷_ 101 List.[])))))))))))))))))))))) (Syntax.tcons (Syntax.tyInt Syntax.w64) (Syntax.tcons (Syntax.tyInt Syntax.w64) Syntax.tnil))) Syntax.tnil) Syntax.ttnil))) Syntax.tnil))))) Syntax.tnil) Syntax.ttnil))
+τ4 = Syntax.tyEnum (List._∷_ 118 (List._∷_ 101 (List._∷_ 114 (List._∷_ 100 (List._∷_ 105 (List._∷_ 99 (List._∷_ 116 (List._∷_ 115 (List._∷_ 58 (List._∷_ 58 (List._∷_ 104 (List._∷_ 97 (List._∷_ 110 (List._∷_ 100 (List._∷_ 101 (List._∷_ 100 (List._∷_ 58 (List._∷_ 58 (List._∷_ 72 (List._∷_ 97 (List._∷_ 110 (List._∷_ 100 (List._∷_ 101 (List._∷_ 100 List.[])))))))))))))))))))))))) (Syntax.ttcons (Syntax.tcons (Syntax.tyStruct (List._∷_ 115 (List._∷_ 99 (List._∷_ 114 (List._∷_ 105 (List._∷_ 112 (List._∷_ 116 (List._∷_ 58 (List._∷_ 58 (List._∷_ 114 (List._∷_ 101 (List._∷_ 115 (List._∷_ 112 (List._∷_ 111 (List._∷_ 110 (List._∷_ 115 (List._∷_ 101 (List._∷_ 58 (List._∷_ 58 (List._∷_ 72 (List._∷_ 97 (List._∷_ 110 (List._∷_ 100 (List._∷_ 115 (List._∷_ 104 (List._∷_ 97 (List._∷_ 107 (List._∷_ 101 (List._∷_ 73 (List._∷_ 110 (List._∷_ 102 (List._∷_ 111 List.[]))))))))))))))))))))))))))))))) (Syntax.tcons (Syntax.tyStruct (List._∷_ 118 (List._∷_ 101 (List._∷_ 114 (List._∷_ 115 (List._∷_ 105 (List._∷_ 111 (List._∷_ 110 (List._∷_ 58 (List._∷_ 58 (List._∷_ 80 (List._∷_ 114 (List._∷_ 111 (List._∷_ 116 (List._∷_ 111 (List._∷_ 99 (List._∷_ 111 (List._∷_ 108 (List._∷_ 86 (List._∷_ 101 (List._∷_ 114 (List._∷_ 115 (List._∷_ 105 (List._∷_ 111 (List._∷_ 110 List.[])))))))))))))))))))))))) (Syntax.tcons (Syntax.tyInt Syntax.w16) (Syntax.tcons (Syntax.tyInt Syntax.w8) Syntax.tnil))) (Syntax.tcons (Syntax.tyStruct (List._∷_ 118 (List._∷_ 101 (List._∷_ 114 (List._∷_ 115 (List._∷_ 105 (List._∷_ 111 (List._∷_ 110 (List._∷_ 58 (List._∷_ 58 (List._∷_ 80 (List._∷_ 114 (List._∷_ 111 (List._∷_ 116 (List._∷_ 111 (List._∷_ 99 (List._∷_ 111 (List._∷_ 108 (List._∷_ 86 (List._∷_ 101 (List._∷_ 114 (List._∷_ 115 (List._∷_ 105 (List._∷_ 111 (List._∷_ 110 List.[])))))))))))))))))))))))) (Syntax.tcons (Syntax.tyInt Syntax.w16) (Syntax.tcons (Syntax.tyInt Syntax.w8) Syntax.tnil))) (Syntax.tcons (Syntax.tyStruct (List._∷_ 118 (List._∷_ 101 (List._∷_ 114 (List._∷_ 115 (List._∷_ 105 (List._∷_ 111 (List._∷_ 110 (List._∷_ 58 (List._∷_ 58 (List._∷_ 80 (List._∷_ 114 (List._∷_ 111 (List._∷_ 116 (List._∷_ 111 (List._∷_ 99 (List._∷_ 111 (List._∷_ 108 (List._∷_ 86 (List._∷_ 101 (List._∷_ 114 (List._∷_ 115 (List._∷_ 105 (List._∷_ 111 (List._∷_ 110 List.[])))))))))))))))))))))))) (Syntax.tcons (Syntax.tyInt Syntax.w16) (Syntax.tcons (Syntax.tyInt Syntax.w8) Syntax.tnil))) (Syntax.tcons (Syntax.tyStruct (List._∷_ 115 (List._∷_ 99 (List._∷_ 114 (List._∷_ 105 (List._∷_ 112 (List._∷_ 116 (List._∷_ 58 (List._∷_ 58 (List._∷_ 114 (List._∷_ 101 (List._∷_ 99 (List._∷_ 111 (List._∷_ 114 (List._∷_ 100 (List._∷_ 115 (List._∷_ 58 (List._∷_ 58 (List._∷_ 73 (List._∷_ 116 (List._∷_ 101 (List._∷_ 109 (List._∷_ 115 List.[])))))))))))))))))))))) (Syntax.tcons (Syntax.tyInt Syntax.w64) (Syntax.tcons (Syntax.tyInt Syntax.w64) Syntax.tnil))) (Syntax.tcons (Syntax.tyStruct (List._∷_ 115 (List._∷_ 99 (List._∷_ 114 (List._∷_ 105 (List._∷_ 112 (List._∷_ 116 (List._∷_ 58 (List._∷_ 58 (List._∷_ 114 (List._∷_ 101 (List._∷_ 99 (List._∷_ 111 (List._∷_ 114 (List._∷_ 100 (List._∷_ 115 (List._∷_ 58 (List._∷_ 58 (List._∷_ 73 (List._∷_ 116 (List._∷_ 101 (List._∷_ 109 (List._∷_ 115 List.[])))))))))))))))))))))) (Syntax.tcons (Syntax.tyInt Syntax.w64) (Syntax.tcons (Syntax.tyInt Syntax.w64) Syntax.tnil))) (Syntax.tcons (Syntax.tyEnum (List._∷_ 115 (List._∷_ 99 (List._∷_ 114 (List._∷_ 105 (List._∷_ 112 (List._∷_ 116 (List._∷_ 58 (List._∷_ 58 (List._∷_ 114 (List._∷_ 101 (List._∷_ 99 (List._∷_ 111 (List._∷_ 114 (List._∷_ 100 (List._∷_ 115 (List._∷_ 58 (List._∷_ 58 (List._∷_ 77 (List._∷_ 97 (List._∷_ 121 (List._∷_ 98 (List._∷_ 101 List.[])))))))))))))))))))))) (Syntax.ttcons Syntax.tnil (Syntax.ttcons (Syntax.tcons (Syntax.tyStruct (List._∷_ 115 (List._∷_ 99 (List._∷_ 114 (List._∷_ 105 (List._∷_ 112 (List._∷_ 116 (List._∷_ 58 (List._∷_ 58 (List._∷_ 114 (List._∷_ 101 (List._∷_ 99 (List._∷_ 111 (List._∷_ 114 (List._∷_ 100 (List._∷_ 115 (List._∷_ 58 (List._∷_ 58 (List._∷_ 80 (List._∷_ 108 (List._∷_ 97 (List._∷_ 99 (List._∷_ 101 List.[])))))))))))))))))))))) (Syntax.tcons (Syntax.tyInt Syntax.w64) (Syntax.tcons (Syntax.tyInt Syntax.w64) Syntax.tnil))) Syntax.tnil) Syntax.ttnil))) (Syntax.tcons (Syntax.tyEnum (List._∷_ 115 (List._∷_ 99 (List._∷_ 114 (List._∷_ 105 (List._∷_ 112 (List._∷_ 116 (List._∷_ 58 (List._∷_ 58 (List._∷_ 114 (List._∷_ 101 (List._∷_ 115 (List._∷_ 112 (List._∷_ 111 (List._∷_ 110 (List._∷_ 115 (List._∷_ 101 (List._∷_ 58 (List._∷_ 58 (List._∷_ 77 (List._∷_ 97 (List._∷_ 121 (List._∷_ 98 (List._∷_ 101 (List._∷_ 78 (List._∷_ 117 (List._∷_ 109 (List._∷_ 98 (List._∷_ 101 (List._∷_ 114 List.[]))))))))))))))))))))))))))))) (Syntax.ttcons Syntax.tnil (Syntax.ttcons (Syntax.tcons (Syntax.tyInt Syntax.w64) Syntax.tnil) Syntax.ttnil))) Syntax.tnil)))))))) Syntax.tnil) (Syntax.ttcons (Syntax.tcons (Syntax.tyStruct (List._∷_ 115 (List._∷_ 99 (List._∷_ 114 (List._∷_ 105 (List._∷_ 112 (List._∷_ 116 (List._∷_ 58 (List._∷_ 58 (List._∷_ 114 (List._∷_ 101 (List._∷_ 115 (List._∷_ 112 (List._∷_ 111 (List._∷_ 110 (List._∷_ 115 (List._∷_ 101 (List._∷_ 58 (List._∷_ 58 (List._∷_ 68 (List._∷_ 97 (List._∷_ 101 (List._∷_ 109 (List._∷_ 111 (List._∷_ 110 (List._∷_ 82 (List._∷_ 101 (List._∷_ 115 (List._∷_ 112 (List._∷_ 111 (List._∷_ 110 (List._∷_ 115 (List._∷_ 101 List.[])))))))))))))))))))))))))))))))) (Syntax.tcons (Syntax.tyStruct (List._∷_ 115 (List._∷_ 99 (List._∷_ 114 (List._∷_ 105 (List._∷_ 112 (List._∷_ 116 (List._∷_ 58 (List._∷_ 58 (List._∷_ 114 (List._∷_ 101 (List._∷_ 99 (List._∷_ 111 (List._∷_ 114 (List._∷_ 100 (List._∷_ 115 (List._∷_ 58 (List._∷_ 58 (List._∷_ 80 (List._∷_ 108 (List._∷_ 97 (List._∷_ 99 (List._∷_ 101 List.[])))))))))))))))))))))) (Syntax.tcons (Syntax.tyInt Syntax.w64) (Syntax.tcons (Syntax.tyInt Syntax.w64) Syntax.tnil))) (Syntax.tcons (Syntax.tyInt Syntax.w64) (Syntax.tcons (Syntax.tyEnum (List._∷_ 115 (List._∷_ 99 (List._∷_ 114 (List._∷_ 105 (List._∷_ 112 (List._∷_ 116 (List._∷_ 58 (List._∷_ 58 (List._∷_ 114 (List._∷_ 101 (List._∷_ 115 (List._∷_ 112 (List._∷_ 111 (List._∷_ 110 (List._∷_ 115 (List._∷_ 101 (List._∷_ 58 (List._∷_ 58 (List._∷_ 82 (List._∷_ 101 (List._∷_ 115 (List._∷_ 117 (List._∷_ 108 (List._∷_ 116 (List._∷_ 68 (List._∷_ 97 (List._∷_ 116 (List._∷_ 97 List.[])))))))))))))))))))))))))))) (Syntax.ttcons Syntax.tnil (Syntax.ttcons (Syntax.tcons (Syntax.tyInt Syntax.w64) Syntax.tnil) (Syntax.ttcons (Syntax.tcons (Syntax.tyStruct (List._∷_ 115 (List._∷_ 99 (List._∷_ 114 (List._∷_ 105 (List._∷_ 112 (List._∷_ 116 (List._∷_ 58 (List._∷_ 58 (List._∷_ 114 (List._∷_ 101 (List._∷_ 99 (List._∷_ 111 (List._∷_ 114 (List._∷_ 100 (List._∷_ 115 (List._∷_ 58 (List._∷_ 58 (List._∷_ 80 (List._∷_ 108 (List._∷_ 97 (List._∷_ 99 (List._∷_ 101 List.[])))))))))))))))))))))) (Syntax.tcons (Syntax.tyInt Syntax.w64) (Syntax.tcons (Syntax.tyInt Syntax.w64) Syntax.tnil))) Syntax.tnil) (Syntax.ttcons (Syntax.tcons (Syntax.tyStruct (List._∷_ 115 (List._∷_ 99 (List._∷_ 114 (List._∷_ 105 (List._∷_ 112 (List._∷_ 116 (List._∷_ 58 (List._∷_ 58 (List._∷_ 114 (List._∷_ 101 (List._∷_ 115 (List._∷_ 112 (List._∷_ 111 (List._∷_ 110 (List._∷_ 115 (List._∷_ 101 (List._∷_ 58 (List._∷_ 58 (List._∷_ 80 (List._∷_ 97 (List._∷_ 116 (List._∷_ 104 (List._∷_ 73 (List._∷_ 110 (List._∷_ 102 (List._∷_ 111 (List._∷_ 82 (List._∷_ 101 (List._∷_ 115 (List._∷_ 117 (List._∷_ 108 (List._∷_ 116 List.[])))))))))))))))))))))))))))))))) (Syntax.tcons Syntax.tyBool (Syntax.tcons (Syntax.tyEnum (List._∷_ 115 (List._∷_ 99 (List._∷_ 114 (List._∷_ 105 (List._∷_ 112 (List._∷_ 116 (List._∷_ 58 (List._∷_ 58 (List._∷_ 114 (List._∷_ 101 (List._∷_ 99 (List._∷_ 111 (List._∷_ 114 (List._∷_ 100 (List._∷_ 115 (List._∷_ 58 (List._∷_ 58 (List._∷_ 77 (List._∷_ 97 (List._∷_ 121 (List._∷_ 98 (List._∷_ 101 List.[])))))))))))))))))))))) (Syntax.ttcons Syntax.tnil (Syntax.ttcons (Syntax.tcons (Syntax.tyStruct (List._∷_ 115 (List._∷_ 99 (List._∷_ 114 (List._∷_ 105 (List._∷_ 112 (List._∷_ 116 (List._∷_ 58 (List._∷_ 58 (List._∷_ 114 (List._∷_ 101 (List._∷_ 99 (List._∷_ 111 (List._∷_ 114 (List._∷_ 100 (List._∷_ 115 (List._∷_ 58 (List._∷_ 58 (List._∷_ 80 (List._∷_ 108 (List._∷_ 97 (List._∷_ 99 (List._∷_ 101 List.[])))))))))))))))))))))) (Syntax.tcons (Syntax.tyInt Syntax.w64) (Syntax.tcons (Syntax.tyInt Syntax.w64) Syntax.tnil))) Syntax.tnil) Syntax.ttnil))) (Syntax.tcons (Syntax.tyEnum (List._∷_ 115 (List._∷_ 99 (List._∷_ 114 (List._∷_ 105 (List._∷_ 112 (List._∷_ 116 (List._∷_ 58 (List._∷_ 58 (List._∷_ 114 (List._∷_ 101 (List._∷_ 99 (List._∷_ 111 (List._∷_ 114 (List._∷_ 100 (List._∷_ 115 (List._∷_ 58 (List._∷_ 58 (List._∷_ 77 (List._∷_ 97 (List._∷_ 121 (List._∷_ 98 (List._∷_ 101 List.[])))))))))))))))))))))) (Syntax.ttcons Syntax.tnil (Syntax.ttcons (Syntax.tcons (Syntax.tyStruct (List._∷_ 115 (List._∷_ 99 (List._∷_ 114 (List._∷_ 105 (List._∷_ 112 (List._∷_ 116 (List._∷_ 58 (List._∷_ 58 (List._∷_ 114 (List._∷_ 101 (List._∷_ 99 (List._∷_ 111 (List._∷_ 114 (List._∷_ 100 (List._∷_ 115 (List._∷_ 58 (List._∷_ 58 (List._∷_ 80 (List._∷_ 108 (List._∷_ 97 (List._∷_ 99 (List._∷_ 101 List.[])))))))))))))))))))))) (Syntax.tcons (Syntax.tyInt Syntax.w64) (Syntax.tcons (Syntax.tyInt Syntax.w64) Syntax.tnil))) Syntax.tnil) Syntax.ttnil))) (Syntax.tcons (Syntax.tyEnum (List._∷_ 115 (List._∷_ 99 (List._∷_ 114 (List._∷_ 105 (List._∷_ 112 (List._∷_ 116 (List._∷_ 58 (List._∷_ 58 (List._∷_ 114 (List._∷_ 101 (List._∷_ 99 (List._∷_ 111 (List._∷_ 114 (List._∷_ 100 (List._∷_ 115 (List._∷_ 58 (List._∷_ 58 (List._∷_ 77 (List._∷_ 97 (List._∷_ 121 (List._∷_ 98 (List._∷_ 101 (List._∷_ 73 (List._∷_ 116 (List._∷_ 101 (List._∷_ 109 (List._∷_ 115 List.[]))))))))))))))))))))))))))) (Syntax.ttcons Syntax.tnil (Syntax.ttcons (Syntax.tcons (Syntax.tyStruct (List._∷_ 115 (List._∷_ 99 (List._∷_ 114 (List._∷_ 105 (List._∷_ 112 (List._∷_ 116 (List._∷_ 58 (List._∷_ 58 (List._∷_ 114 (List._∷_ 101 (List._∷_ 99 (List._∷_ 111 (List._∷_ 114 (List._∷_ 100 (List._∷_ 115 (List._∷_ 58 (List._∷_ 58 (List._∷_ 73 (List._∷_ 116 (List._∷_ 101 (List._∷_ 109 (List._∷_ 115 List.[])))))))))))))))))))))) (Syntax.tcons (Syntax.tyInt Syntax.w64) (Syntax.tcons (Syntax.tyInt Syntax.w64) Syntax.tnil))) Syntax.tnil) Syntax.ttnil))) (Syntax.tcons (Syntax.tyEnum (List._∷_ 115 (List._∷_ 99 (List._∷_ 114 (List._∷_ 105 (List._∷_ 112 (List._∷_ 116 (List._∷_ 58 (List._∷_ 58 (List._∷_ 114 (List._∷_ 101 (List._∷_ 115 (List._∷_ 112 (List._∷_ 111 (List._∷_ 110 (List._∷_ 115 (List._∷_ 101 (List._∷_ 58 (List._∷_ 58 (List._∷_ 77 (List._∷_ 97 (List._∷_ 121 (List._∷_ 98 (List._∷_ 101 (List._∷_ 78 (List._∷_ 117 (List._∷_ 109 (List._∷_ 98 (List._∷_ 101 (List._∷_ 114 List.[]))))))))))))))))))))))))))))) (Syntax.ttcons Syntax.tnil (Syntax.ttcons (Syntax.tcons (Syntax.tyInt Syntax.w64) Syntax.tnil) Syntax.ttnil))) Syntax.tnil)))))) Syntax.tnil) (Syntax.ttcons (Syntax.tcons (Syntax.tyStruct (List._∷_ 115 (List._∷_ 99 (List._∷_ 114 (List._∷_ 105 (List._∷_ 112 (List._∷_ 116 (List._∷_ 58 (List._∷_ 58 (List._∷_ 114 (List._∷_ 101 (List._∷_ 99 (List._∷_ 111 (List._∷_ 114 (List._∷_ 100 (List._∷_ 115 (List._∷_ 58 (List._∷_ 58 (List._∷_ 73 (List._∷_ 116 (List._∷_ 101 (List._∷_ 109 (List._∷_ 115 List.[])))))))))))))))))))))) (Syntax.tcons (Syntax.tyInt Syntax.w64) (Syntax.tcons (Syntax.tyInt Syntax.w64) Syntax.tnil))) Syntax.tnil) (Syntax.ttcons Syntax.tnil (Syntax.ttcons Syntax.tnil (Syntax.ttcons (Syntax.tcons (Syntax.tyInt Syntax.w64) Syntax.tnil) (Syntax.ttcons (Syntax.tcons Syntax.tyBool (Syntax.tcons (Syntax.tyEnum (List._∷_ 115 (List._∷_ 99 (List._∷_ 114 (List._∷_ 105 (List._∷_ 112 (List._∷_ 116 (List._∷_ 58 (List._∷_ 58 (List._∷_ 114 (List._∷_ 101 (List._∷_ 115 (List._∷_ 112 (List._∷_ 111 (List._∷_ 110 (List._∷_ 115 (List._∷_ 101 (List._∷_ 58 (List._∷_ 58 (List._∷_ 77 (List._∷_ 97 (List._∷_ 121 (List._∷_ 98 (List._∷_ 101 (List._∷_ 78 (List._∷_ 117 (List._∷_ 109 (List._∷_ 98 (List._∷_ 101 (List._∷_ 114 List.[]))))))))))))))))))))))))))))) (Syntax.ttcons Syntax.tnil (Syntax.ttcons (Syntax.tcons (Syntax.tyInt Syntax.w64) Syntax.tnil) Syntax.ttnil))) (Syntax.tcons (Syntax.tyEnum (List._∷_ 115 (List._∷_ 99 (List._∷_ 114 (List._∷_ 105 (List._∷_ 112 (List._∷_ 116 (List._∷_ 58 (List._∷_ 58 (List._∷_ 114 (List._∷_ 101 (List._∷_ 115 (List._∷_ 112 (List._∷_ 111 (List._∷_ 110 (List._∷_ 115 (List._∷_ 101 (List._∷_ 58 (List._∷_ 58 (List._∷_ 77 (List._∷_ 97 (List._∷_ 121 (List._∷_ 98 (List._∷_ 101 (List._∷_ 78 (List._∷_ 117 (List._∷_ 109 (List._∷_ 98 (List._∷_ 101 (List._∷_ 114 List.[]))))))))))))))))))))))))))))) (Syntax.ttcons Syntax.tnil (Syntax.ttcons (Syntax.tcons (Syntax.tyInt Syntax.w64) Syntax.tnil) Syntax.ttnil))) Syntax.tnil))) (Syntax.ttcons (Syntax.tcons (Syntax.tyInt Syntax.w64) (Syntax.tcons (Syntax.tyInt Syntax.w64) Syntax.tnil)) (Syntax.ttcons Syntax.tnil (Syntax.ttcons Syntax.tnil Syntax.ttnil))))))))))))) (Syntax.tcons (Syntax.tyEnum (List._∷_ 115 (List._∷_ 99 (List._∷_ 114 (List._∷_ 105 (List._∷_ 112 (List._∷_ 116 (List._∷_ 58 (List._∷_ 58 (List._∷_ 114 (List._∷_ 101 (List._∷_ 99 (List._∷_ 111 (List._∷_ 114 (List._∷_ 100 (List._∷_ 115 (List._∷_ 58 (List._∷_ 58 (List._∷_ 77 (List._∷_ 97 (List._∷_ 121 (List._∷_ 98 (List._∷_ 101 List.[])))))))))))))))))))))) (Syntax.ttcons Syntax.tnil (Syntax.ttcons (Syntax.tcons (Syntax.tyStruct (List._∷_ 115 (List._∷_ 99 (List._∷_ 114 (List._∷_ 105 (List._∷_ 112 (List._∷_ 116 (List._∷_ 58 (List._∷_ 58 (List._∷_ 114 (List._∷_ 101 (List._∷_ 99 (List._∷_ 111 (List._∷_ 114 (List._∷_ 100 (List._∷_ 115 (List._∷_ 58 (List._∷_ 58 (List._∷_ 80 (List._∷_ 108 (List._∷_ 97 (List._∷_ 99 (List._∷_ 101 List.[])))))))))))))))))))))) (Syntax.tcons (Syntax.tyInt Syntax.w64) (Syntax.tcons (Syntax.tyInt Syntax.w64) Syntax.tnil))) Syntax.tnil) Syntax.ttnil))) Syntax.tnil))))) Syntax.tnil) Syntax.ttnil))
 
 abbrev kind0 : KValue.Valued
 kind0 = record { ty = Declared'.row Items.the-type; one = Path'.refl; val = Laws'5.val Items.the-type Laws'.the-laws; tells = Laws'5.tells Items.the-type Laws'.the-laws; still = Laws'5.still Items.the-type Laws'.the-copy Exit.yes; row = Rows'.whole (Declared'.row Items.the-type); rd = λ x. x; mk = λ x. x }
@@ -184,7 +184,7 @@ abbrev b15 : Syntax.Body
 b15 = Syntax.assign (Syntax.place 21 (List._∷_ (Syntax.deref (Syntax.tyInt Syntax.w8)) List.[])) (Syntax.rvOpd (Syntax.copy (Syntax.place 20 List.[])))
 
 abbrev b16 : Syntax.Body
-b16 = Syntax.call "judging::tally::Counts::add" (List._∷_ (Syntax.copy (Syntax.place 10 List.[])) (List._∷_ (Syntax.copy (Syntax.place 13 List.[])) List.[])) (Syntax.place 10 List.[])
+b16 = Syntax.call "tallies::tally::Counts::add" (List._∷_ (Syntax.copy (Syntax.place 10 List.[])) (List._∷_ (Syntax.copy (Syntax.place 13 List.[])) List.[])) (Syntax.place 10 List.[])
 
 abbrev b17 : Syntax.Body
 b17 = Syntax.assign (Syntax.place 11 List.[]) (Syntax.op2 (Syntax.add Syntax.unsigned) (Syntax.copy (Syntax.place 11 List.[])) (Syntax.int Syntax.w64 1))
@@ -607,7 +607,7 @@ module _ (claims· : Claims) where
   module _ (Pre· : (κs : Lifetimes.Lfts 6) → Kinds.Dens κs ps → Type 0) (Post· : (κs : Lifetimes.Lfts 6) → (a : Kinds.Dens κs ps) → Kinds.Plain 6 ps r κs) where
     module _ (M : Type 1) where
       abbrev pub Closed : Type 2
-      Closed = (𝓤 : URA.URA M) (H : Wp.Heap 𝓤) (A : Atoms.Atoms 𝓤) (W : Kit.Given 𝓤 H A) (𝓣 : Wp.Tables 𝓤 H) (known0 : Plain.Known 𝓤 H A W 𝓣 4 ps·0 r·0 (claims· .0) (claims· .1) "subjects::one::judge_one") (known1 : Plain.Known 𝓤 H A W 𝓣 0 ps·1 r·1 (claims· .2) (claims· .3) "verdicts::code_of") (known2 : Plain.Known 𝓤 H A W 𝓣 0 ps·2 r·2 (claims· .4) (claims· .5) "judging::tally::Counts::add") → Statement.Triple 𝓤 (Wp.WpFn 𝓤 H (𝓣 .C) (𝓣 .Λ) (Function.fnOf 6 ps r xs m hs body)) (Function.plainOf 𝓤 H A 6 ps r Pre· Post·)
+      Closed = (𝓤 : URA.URA M) (H : Wp.Heap 𝓤) (A : Atoms.Atoms 𝓤) (W : Kit.Given 𝓤 H A) (𝓣 : Wp.Tables 𝓤 H) (known0 : Plain.Known 𝓤 H A W 𝓣 4 ps·0 r·0 (claims· .0) (claims· .1) "subjects::one::judge_one") (known1 : Plain.Known 𝓤 H A W 𝓣 0 ps·1 r·1 (claims· .2) (claims· .3) "verdicts::code_of") (known2 : Plain.Known 𝓤 H A W 𝓣 0 ps·2 r·2 (claims· .4) (claims· .5) "tallies::tally::Counts::add") → Statement.Triple 𝓤 (Wp.WpFn 𝓤 H (𝓣 .C) (𝓣 .Λ) (Function.fnOf 6 ps r xs m hs body)) (Function.plainOf 𝓤 H A 6 ps r Pre· Post·)
 
     module _ (Inv·0 : InvT-loop) (μ·0 : MeasureT-loop) where
       abbrev at0 : Typed.TF T13 O4
@@ -759,7 +759,7 @@ module _ (claims· : Claims) where
 
       module _ {M : Type 1} (𝓤 : URA.URA M) (H : Wp.Heap 𝓤) (A : Atoms.Atoms 𝓤) (W : Kit.Given 𝓤 H A) (𝓣 : Wp.Tables 𝓤 H) where
         abbrev Knowns : Type 1
-        Knowns = Plain.Known 𝓤 H A W 𝓣 4 ps·0 r·0 (claims· .0) (claims· .1) "subjects::one::judge_one" × Plain.Known 𝓤 H A W 𝓣 0 ps·1 r·1 (claims· .2) (claims· .3) "verdicts::code_of" × Plain.Known 𝓤 H A W 𝓣 0 ps·2 r·2 (claims· .4) (claims· .5) "judging::tally::Counts::add"
+        Knowns = Plain.Known 𝓤 H A W 𝓣 4 ps·0 r·0 (claims· .0) (claims· .1) "subjects::one::judge_one" × Plain.Known 𝓤 H A W 𝓣 0 ps·1 r·1 (claims· .2) (claims· .3) "verdicts::code_of" × Plain.Known 𝓤 H A W 𝓣 0 ps·2 r·2 (claims· .4) (claims· .5) "tallies::tally::Counts::add"
 
       module _ (κs : Lifetimes.Lfts 6) (qs : Lifetimes.Shares 6) where
         abbrev g15 : List.List Row.Entry
@@ -950,7 +950,7 @@ module _ (claims· : Claims) where
           d8 = Typed.g-pre 𝓤 H A W 𝓣 E G38 G39 b17 Δ3 (Typed.pass T38 T39 s35) at7 (RScalar.g-room 𝓤 H A W E G38 13 τ1 (RLocal.room-whole 𝓤 H A W (Declared.row Verdict.the-type) τ1 Path'.refl)) d7
 
           d9 : Typed.Typed 𝓤 H A 𝓣 E G37 b18 Δ3 at9
-          d9 = Typed.s-seq 𝓤 H A W 𝓣 E G37 G38 b16 b17 Δ3 (Typed.both s34) at8 (Plain.t-call-plain 𝓤 H A W 𝓣 0 ps·2 r·2 (claims· .4) (claims· .5) "judging::tally::Counts::add" (known .2) E (λ pos β. β) G37 (record { pos = 10; st = List.[]; d = 0; at = λ x. x }, (record { pos = 13; st = List.[]; d = 0; at = λ x. x }, tt)) 10 List.[] (Call.sub-id 𝓤 H A W (G37 .slots)) ((Yields.yields-copy 𝓤 H A W (λ ρ. Unit) (Declared'.row Counts.the-type) Path'.refl (TCopies.cStruct Counts.the-type Laws.the-laws Laws.the-copy .copy 𝓤 H A W) (Rows'.whole (Declared'.row Counts.the-type)) (λ x. x) (λ x. x) (λ ρ told. RLocal.mem-whole 𝓤 H A W (Declared'.row Counts.the-type) ρ) λ ρ told. RLocal.whole-mem 𝓤 H A W (Declared'.row Counts.the-type) ρ, Path'.refl), ((Yields.yields-copy 𝓤 H A W (λ ρ. Unit) (Declared.row Verdict.the-type) Path'.refl (TCopies.cEnum Verdict.the-type Laws'3.the-laws Laws'3.the-copy .copy 𝓤 H A W) (Rows'.whole (Declared.row Verdict.the-type)) (λ x. x) (λ x. x) (λ ρ told. RLocal.mem-whole 𝓤 H A W (Declared.row Verdict.the-type) ρ) λ ρ told. RLocal.whole-mem 𝓤 H A W (Declared.row Verdict.the-type) ρ, Path'.refl), tt)) (RLocal.room-whole 𝓤 H A W (Declared'.row Counts.the-type) τ0 Path'.refl) tt Path'.refl) d8
+          d9 = Typed.s-seq 𝓤 H A W 𝓣 E G37 G38 b16 b17 Δ3 (Typed.both s34) at8 (Plain.t-call-plain 𝓤 H A W 𝓣 0 ps·2 r·2 (claims· .4) (claims· .5) "tallies::tally::Counts::add" (known .2) E (λ pos β. β) G37 (record { pos = 10; st = List.[]; d = 0; at = λ x. x }, (record { pos = 13; st = List.[]; d = 0; at = λ x. x }, tt)) 10 List.[] (Call.sub-id 𝓤 H A W (G37 .slots)) ((Yields.yields-copy 𝓤 H A W (λ ρ. Unit) (Declared'.row Counts.the-type) Path'.refl (TCopies.cStruct Counts.the-type Laws.the-laws Laws.the-copy .copy 𝓤 H A W) (Rows'.whole (Declared'.row Counts.the-type)) (λ x. x) (λ x. x) (λ ρ told. RLocal.mem-whole 𝓤 H A W (Declared'.row Counts.the-type) ρ) λ ρ told. RLocal.whole-mem 𝓤 H A W (Declared'.row Counts.the-type) ρ, Path'.refl), ((Yields.yields-copy 𝓤 H A W (λ ρ. Unit) (Declared.row Verdict.the-type) Path'.refl (TCopies.cEnum Verdict.the-type Laws'3.the-laws Laws'3.the-copy .copy 𝓤 H A W) (Rows'.whole (Declared.row Verdict.the-type)) (λ x. x) (λ x. x) (λ ρ told. RLocal.mem-whole 𝓤 H A W (Declared.row Verdict.the-type) ρ) λ ρ told. RLocal.whole-mem 𝓤 H A W (Declared.row Verdict.the-type) ρ, Path'.refl), tt)) (RLocal.room-whole 𝓤 H A W (Declared'.row Counts.the-type) τ0 Path'.refl) tt Path'.refl) d8
 
           d10 : Typed.Typed 𝓤 H A 𝓣 E G36 b18 Δ3 at10
           d10 = Typed.g-pre 𝓤 H A W 𝓣 E G36 G37 b18 Δ3 (Typed.pass T36 T37 s33) at9 (RScalar.g-room 𝓤 H A W E G36 21 Syntax.tyPtr (RScalar.room-sc 𝓤 H A W Row.sPtr)) d9
@@ -1437,6 +1437,6 @@ module _ (claims· : Claims) where
           pub asked : (a : Kinds.Dens κs ps) → (good : Kinds.GoodsP κs ps a) → (pre : Pre· κs a) → (bs : List.List Nat.ℕ) → Φ (Any.wantQ 6 ps r xs m κs qs a (Post· κs a)) (Function.init 6 ps r xs m κs qs a)
           asked = λ a good pre bs. laid record { κs = κs; args = record { text = a .0; expectations = a .1 .0; r = a .1 .1 .0; h = a .1 .1 .1 .0; bytes = a .1 .1 .1 .1 .0; lists = a .1 .1 .1 .1 .1 .0; verdicts = a .1 .1 .1 .1 .1 .1 .0; scratch = a .1 .1 .1 .1 .1 .1 .1 .0; counts = a .1 .1 .1 .1 .1 .1 .1 .1 .0 }; good = good; pre = pre }
 
-        module _ {M : Type 1} (𝓤 : URA.URA M) (H : Wp.Heap 𝓤) (A : Atoms.Atoms 𝓤) (W : Kit.Given 𝓤 H A) (𝓣 : Wp.Tables 𝓤 H) (known0 : Plain.Known 𝓤 H A W 𝓣 4 ps·0 r·0 (claims· .0) (claims· .1) "subjects::one::judge_one") (known1 : Plain.Known 𝓤 H A W 𝓣 0 ps·1 r·1 (claims· .2) (claims· .3) "verdicts::code_of") (known2 : Plain.Known 𝓤 H A W 𝓣 0 ps·2 r·2 (claims· .4) (claims· .5) "judging::tally::Counts::add") where
+        module _ {M : Type 1} (𝓤 : URA.URA M) (H : Wp.Heap 𝓤) (A : Atoms.Atoms 𝓤) (W : Kit.Given 𝓤 H A) (𝓣 : Wp.Tables 𝓤 H) (known0 : Plain.Known 𝓤 H A W 𝓣 4 ps·0 r·0 (claims· .0) (claims· .1) "subjects::one::judge_one") (known1 : Plain.Known 𝓤 H A W 𝓣 0 ps·1 r·1 (claims· .2) (claims· .3) "verdicts::code_of") (known2 : Plain.Known 𝓤 H A W 𝓣 0 ps·2 r·2 (claims· .4) (claims· .5) "tallies::tally::Counts::add") where
           pub spec : Statement.Triple 𝓤 (Wp.WpFn 𝓤 H (𝓣 .C) (𝓣 .Λ) (Function.fnOf 6 ps r xs m hs body)) (Function.plainOf 𝓤 H A 6 ps r Pre· Post·)
           spec = Plain.t-fn-plain 𝓤 H A W 𝓣 6 ps r xs m hs body (λ κs qs bs. Φ) (λ κs qs bs bd. typed κs qs 𝓤 H A W 𝓣 (known0, known1, known2) bs bd) Pre· Post· asked

@@ -1,7 +1,7 @@
 -- The kinds of the parameters and of the result of `steps::judge_on`. Made by tools/walk.py, from what Rattle makes for a twin in which the elements are arrays.
 -- Assumes nothing.
-use Rattle.judging.proofs.tally.Counts
-use Rattle.judging.proofs.tally.Counts.Laws
+use Rattle.tallies.proofs.tally.Counts
+use Rattle.tallies.proofs.tally.Counts.Laws
 use Rattle.ranges.proofs.steps.Step
 use Rattle.ranges.proofs.steps.Step.Laws as Laws'
 use Rattle.script.proofs.records.Items
@@ -9,8 +9,8 @@ use Rattle.script.proofs.records.Items.Laws as Laws''
 use Rattle.script.proofs.records.Script
 use Rattle.script.proofs.records.Script.Laws as Laws'3
 use Rattle.slots.proofs.Made.ExpectationElem
-use Rattle.subjects.proofs.handed.Handed
-use Rattle.subjects.proofs.handed.Handed.Laws as Laws'4
+use Rattle.verdicts.proofs.handed.Handed
+use Rattle.verdicts.proofs.handed.Handed.Laws as Laws'4
 use borrow.Fn.Kinds
 use borrow.Kind.MutSlice
 use borrow.Kind.ShrSlice

@@ -1,14 +1,14 @@
 -- The kinds of the parameters and of the result of `steps::refusal_of`. Made by tools/walk.py, from what Rattle makes for a twin in which the elements are arrays.
 -- Assumes nothing.
-use Rattle.judging.proofs.tally.Counts
-use Rattle.judging.proofs.tally.Counts.Laws
+use Rattle.tallies.proofs.tally.Counts
+use Rattle.tallies.proofs.tally.Counts.Laws
 use Rattle.script.proofs.records.Items
 use Rattle.script.proofs.records.Items.Laws as Laws'
 use Rattle.script.proofs.records.Script
 use Rattle.script.proofs.records.Script.Laws as Laws''
 use Rattle.slots.proofs.Made.ExpectationElem
-use Rattle.subjects.proofs.handed.Handed
-use Rattle.subjects.proofs.handed.Handed.Laws as Laws'3
+use Rattle.verdicts.proofs.handed.Handed
+use Rattle.verdicts.proofs.handed.Handed.Laws as Laws'3
 use borrow.Fn.Kinds
 use borrow.Kind.ShrSlice
 use borrow.Kind.Value as KValue

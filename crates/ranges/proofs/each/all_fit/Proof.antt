@@ -5,7 +5,7 @@ use mathlib.Core.Path.{_≡_, sym, _∙_}
 use borrow.Author.Needs.{needs}
 use Rattle.verdicts.specs.Held.{ranged}
 use Rattle.verdicts.specs.Lookup.{looked}
-use Rattle.subjects.specs.Subjects.{heldBy}
+use Rattle.verdicts.specs.Subjects.{heldBy}
 use Rattle.ranges.proofs.RangeLaws.{leftOf}
 use Rattle.ranges.proofs.EveryLaws.{every, every-begun, every-on, every-off, every-done, hasRoom, all-fit-every}
 use Rattle.ranges.proofs.each.all_fit.Statement.{statement}

@@ -10,7 +10,7 @@ use borrow.Author.Needs.{needs}
 use Rattle.script.specs.declared.records.Expectation.{Expectation}
 use Rattle.verdicts.specs.Lookup.{looked}
 use Rattle.verdicts.specs.Verdicts.{verdict}
-use Rattle.subjects.specs.Subjects.{heldBy}
+use Rattle.verdicts.specs.Subjects.{heldBy}
 use Rattle.judging.specs.Calls.{said, tooLong}
 use Rattle.ranges.proofs.RangeLaws.{leftOf, left-all, next-fits, overlaid-present, Judging-on, judging-begun, judging-on, judging-counted, judging-stored, judging-written}
 use Rattle.ranges.proofs.each.judge_range.Statement.{statement}

@@ -8,7 +8,7 @@ use lib.ListN.{length}
 use Rattle.script.specs.declared.records.Items.{Items}
 use Rattle.verdicts.specs.Held.{ranged}
 use Rattle.verdicts.specs.Lookup.{looked}
-use Rattle.subjects.specs.Subjects.{heldBy}
+use Rattle.verdicts.specs.Subjects.{heldBy}
 use Rattle.judging.specs.Calls.{said, tooLong}
 use Rattle.judging.specs.Judge.{allIn}
 use Rattle.ranges.proofs.StepLaws.{settled-in, refused-early, refused-outside, refused-beyond, refused-parts, refused-slots, refused-value, not-refused}

@@ -2,8 +2,8 @@
 use mathlib.Core.Path.{sym, ap, _∙_}
 use Rattle.verdicts.specs.Held.{expectedOf}
 use Rattle.verdicts.specs.Lookup.{looked}
-use Rattle.subjects.specs.Subjects.{heldBy}
-use Rattle.subjects.specs.declared.handed.Handed.{Handed}
+use Rattle.verdicts.specs.Subjects.{heldBy}
+use Rattle.verdicts.specs.declared.handed.Handed.{Handed}
 use borrow.Author.Needs.{needs}
 use Rattle.subjects.proofs.handed.looked_value.Statement.{statement}
 use Rattle.subjects.proofs.handed.looked_value.Tie as tie

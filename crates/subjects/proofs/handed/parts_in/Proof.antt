@@ -1,6 +1,6 @@
 -- `subjects::handed::parts_in` meets its contract. Assumes nothing.
 use mathlib.Core.Path.{sym, ap, _∙_}
-use Rattle.subjects.specs.Subjects.{partsIn}
+use Rattle.verdicts.specs.Subjects.{partsIn}
 use borrow.Author.Needs.{needs}
 use Rattle.subjects.proofs.handed.parts_in.Statement.{statement}
 use Rattle.subjects.proofs.handed.parts_in.Tie as tie

@@ -3,8 +3,8 @@ use mathlib.Core.Path.{sym, ap, _∙_}
 use Rattle.verdicts.specs.Held.{expectedOf}
 use Rattle.verdicts.specs.Lookup.{looked}
 use Rattle.verdicts.specs.Verdicts.{verdict}
-use Rattle.subjects.specs.Subjects.{heldBy}
-use Rattle.subjects.specs.declared.handed.Handed.{Handed}
+use Rattle.verdicts.specs.Subjects.{heldBy}
+use Rattle.verdicts.specs.declared.handed.Handed.{Handed}
 use borrow.Author.Needs.{needs}
 use Rattle.subjects.proofs.handed.verdict_on.Statement.{statement}
 use Rattle.subjects.proofs.handed.verdict_on.Tie as tie

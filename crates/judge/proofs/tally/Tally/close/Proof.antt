@@ -1,7 +1,7 @@
 -- `Tally::close` meets its contract. Assumes nothing.
 use mathlib.Core.Path.{ap}
 use borrow.Author.Needs.{needs}
-use Rattle.judging.specs.declared.calls.Answer.{Answer}
+use Rattle.tallies.specs.declared.calls.Answer.{Answer}
 use Rattle.judge.proofs.tally.Tally.close.Statement.{statement}
 use Rattle.judge.proofs.tally.Tally.close.Tie as tie
 

@@ -9,10 +9,10 @@ use borrow.Author.Tests.{lt-ltb, le-ltb, eq-eqb, ne-eqb, ltb-false, eqb-false}
 use Rattle.text.specs.Base.{if_then_else_}
 use Rattle.verdicts.specs.declared.Verdict.{Verdict}
 use Rattle.verdicts.specs.declared.Verdict.the-variants.{Passed, Failed, Undecided}
-use Rattle.judging.specs.declared.tally.Counts.{Counts}
-use Rattle.judging.specs.declared.tally.Outcome.{Outcome}
-use Rattle.judging.specs.declared.tally.Outcome.the-variants as Outcome
-use Rattle.judging.specs.Tally.{noCounts, added, addedAll, outcomeOf, overLimit}
+use Rattle.tallies.specs.declared.tally.Counts.{Counts}
+use Rattle.tallies.specs.declared.tally.Outcome.{Outcome}
+use Rattle.tallies.specs.declared.tally.Outcome.the-variants as Outcome
+use Rattle.tallies.specs.Tally.{noCounts, added, addedAll, outcomeOf, overLimit}
 
 -- ---- kind by kind
 

@@ -7,9 +7,9 @@ use lib.Dec.{ltb, eqb}
 use Rattle.text.specs.Base.{if_then_else_, _or_}
 use Rattle.verdicts.specs.declared.Verdict.{Verdict}
 use Rattle.verdicts.specs.declared.Verdict.the-variants as Verdict
-use Rattle.judging.specs.declared.tally.Counts.{Counts}
-use Rattle.judging.specs.declared.tally.Outcome.{Outcome}
-use Rattle.judging.specs.declared.tally.Outcome.the-variants.{Failed, Undecided, NothingChecked, Passed}
+use Rattle.tallies.specs.declared.tally.Counts.{Counts}
+use Rattle.tallies.specs.declared.tally.Outcome.{Outcome}
+use Rattle.tallies.specs.declared.tally.Outcome.the-variants.{Failed, Undecided, NothingChecked, Passed}
 
 abbrev pub noCounts : Counts
 noCounts = record { passed = 0; failed = 0; undecided = 0 }

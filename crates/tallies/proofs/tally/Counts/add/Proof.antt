@@ -1,7 +1,7 @@
 -- `Counts::add` meets its contract. Assumes nothing.
 use borrow.Author.Needs.{needs}
-use Rattle.judging.proofs.tally.Counts.add.Statement.{statement}
-use Rattle.judging.proofs.tally.Counts.add.Tie as tie
+use Rattle.tallies.proofs.tally.Counts.add.Statement.{statement}
+use Rattle.tallies.proofs.tally.Counts.add.Tie as tie
 
 enum-told : tie.Need-enum-told
 enum-told c = search needs

@@ -2,13 +2,13 @@
 use borrow.Author.Needs.{needs}
 use mathlib.Core.Path.{_≡_, sym, ap, _∙_}
 use mathlib.Core.Bool.{false}
-use Rattle.judging.specs.Tally.{overLimit}
-use Rattle.judging.specs.declared.tally.Outcome.{Outcome}
-use Rattle.judging.specs.declared.calls.Answer.the-variants.{Closed}
+use Rattle.tallies.specs.Tally.{overLimit}
+use Rattle.tallies.specs.declared.tally.Outcome.{Outcome}
+use Rattle.tallies.specs.declared.calls.Answer.the-variants.{Closed}
 use native.Mathlib.Omega.{arith}
-use Rattle.judging.proofs.CloseLaws.{close-36, close-37, close-says}
-use Rattle.judging.proofs.close.close_answer.Statement.{statement}
-use Rattle.judging.proofs.close.close_answer.Tie as tie
+use Rattle.tallies.proofs.CloseLaws.{close-36, close-37, close-says}
+use Rattle.tallies.proofs.close.close_answer.Statement.{statement}
+use Rattle.tallies.proofs.close.close_answer.Tie as tie
 
 over-limit-requires : tie.Need-over-limit-requires
 over-limit-requires c κs = search needs

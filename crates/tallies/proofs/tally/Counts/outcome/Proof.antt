@@ -1,8 +1,8 @@
 -- `Counts::outcome` meets its contract. Assumes nothing.
 use native.Mathlib.Omega.{arith}
-use Rattle.judging.proofs.Counting.{says-failed, says-undecided, says-nothing, says-passed}
-use Rattle.judging.proofs.tally.Counts.outcome.Statement.{statement}
-use Rattle.judging.proofs.tally.Counts.outcome.Tie as tie
+use Rattle.tallies.proofs.Counting.{says-failed, says-undecided, says-nothing, says-passed}
+use Rattle.tallies.proofs.tally.Counts.outcome.Statement.{statement}
+use Rattle.tallies.proofs.tally.Counts.outcome.Tie as tie
 
 returns : tie.Need-returns
 returns c = says-failed _ (c .if1 .taken)

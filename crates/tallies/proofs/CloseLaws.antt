@@ -7,12 +7,12 @@ use Prim.Native.Nat.{ℕ, _+_}
 use borrow.Author.Tests.{eq-eqb, ne-eqb}
 use Rattle.script.specs.Reading.{refusal}
 use Rattle.script.specs.declared.records.Refusal.{Refusal}
-use Rattle.judging.specs.declared.tally.Counts.{Counts}
-use Rattle.judging.specs.declared.calls.Answer.the-variants.{Refused, Closed}
-use Rattle.judging.specs.Tally.{outcomeOf, overLimit}
-use Rattle.judging.specs.Calls.{closedOr}
-use Rattle.judging.specs.Judge.{closeRefusal, closeAnswer}
-use Rattle.judging.proofs.Refusals.{no-test, hit, pass}
+use Rattle.tallies.specs.declared.tally.Counts.{Counts}
+use Rattle.tallies.specs.declared.calls.Answer.the-variants.{Refused, Closed}
+use Rattle.tallies.specs.Tally.{outcomeOf, overLimit}
+use Rattle.tallies.specs.Answers.{closedOr}
+use Rattle.tallies.specs.Answers.{closeRefusal, closeAnswer}
+use Rattle.tallies.proofs.Refusals.{no-test, hit, pass}
 
 module _ (next : ℕ) (counts : Counts) (entries : ℕ) where
   pub close-36 : overLimit counts ≡ true → Refused (refusal 36 0) ≡ closeAnswer next counts entries

@@ -1,7 +1,7 @@
 // What Close answers of a tally's next number and counts.
 ghost use mathlib.Core.Path.{_≡_};
-ghost use Rattle.judging.specs.Judge.{closeAnswer};
-ghost use Rattle.judging.specs.declared.calls.Answer.the-variants.{Refused};
+ghost use Rattle.tallies.specs.Answers.{closeAnswer};
+ghost use Rattle.tallies.specs.declared.calls.Answer.the-variants.{Refused};
 ghost use Rattle.script.specs.Reading.{refusal};
 use crate::calls::Answer;
 use crate::tally::Counts;

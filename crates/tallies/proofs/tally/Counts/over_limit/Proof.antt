@@ -1,9 +1,9 @@
 -- `Counts::over_limit` meets its contract. Assumes nothing.
 use mathlib.Core.Path.{sym}
 use native.Mathlib.Omega.{arith}
-use Rattle.judging.proofs.Counting.{over-passed, over-failed, over-last}
-use Rattle.judging.proofs.tally.Counts.over_limit.Statement.{statement}
-use Rattle.judging.proofs.tally.Counts.over_limit.Tie as tie
+use Rattle.tallies.proofs.Counting.{over-passed, over-failed, over-last}
+use Rattle.tallies.proofs.tally.Counts.over_limit.Statement.{statement}
+use Rattle.tallies.proofs.tally.Counts.over_limit.Tie as tie
 
 returns : tie.Need-returns
 returns c = sym (over-passed _ (c .if1 .taken))

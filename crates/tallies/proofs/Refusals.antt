@@ -6,7 +6,7 @@ use mathlib.Core.List.{List, [], _∷_}
 use Prim.Native.Nat.{ℕ}
 use Rattle.script.specs.Reading.{refusal}
 use Rattle.script.specs.declared.records.Refusal.{Refusal}
-use Rattle.judging.specs.Calls.{refusedIf, firstRefusal}
+use Rattle.tallies.specs.Answers.{refusedIf, firstRefusal}
 
 pub no-test : firstRefusal [] ≡ none
 unfolding firstRefusal

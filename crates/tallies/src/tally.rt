@@ -1,7 +1,7 @@
 // The counts of a tally, and what closing says of them.
 ghost use mathlib.Core.Path.{_≡_};
 ghost use Prim.Native.Nat.{_<_};
-ghost use Rattle.judging.specs.Tally.{added, outcomeOf, overLimit};
+ghost use Rattle.tallies.specs.Tally.{added, outcomeOf, overLimit};
 use verdicts::Verdict;
 
 // How many verdicts of each kind there are.

@@ -1,0 +1,3 @@
+pub mod Counting
+pub mod Refusals
+pub mod CloseLaws
