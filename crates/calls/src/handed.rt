@@ -9,12 +9,12 @@ pub fn info_in(row: [u64; 22]) -> HandshakeInfo
     ensures { λ r. ⌜ r ≡ infoRow (drop 3 row) ⌝ }
 {
     let numbers: &[u64] = &row;
-    rows::infos::info_of(&numbers[3..])
+    row_infos::info_of(&numbers[3..])
 }
 
 pub fn response_in(row: [u64; 22]) -> DaemonResponse
     ensures { λ r. ⌜ r ≡ responseRow (drop 3 row) ⌝ }
 {
     let numbers: &[u64] = &row;
-    rows::responses::response_of(&numbers[3..])
+    row_responses::response_of(&numbers[3..])
 }

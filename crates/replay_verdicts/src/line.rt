@@ -46,8 +46,8 @@ fn entry_says(n: [u64; 39], m: i64, text: &[u8], bytes: &[u8], message: &[u8]) -
 {
     let mut scratch = [0u8; 256];
     let mut left = [0u8; 256];
-    let e = rows::expects::expect_of(&n[2..8], m);
-    let r = rows::responses::response_of(&n[8..27]);
+    let e = row_expects::expect_of(&n[2..8], m);
+    let r = row_responses::response_of(&n[8..27]);
     let table = table_of(n);
     let t = expect::message::entry_message(text, e, r, bytes, &table, &mut scratch, &mut left);
     is_told(t, n[1], &left, message)
@@ -58,8 +58,8 @@ fn handshake_says(n: [u64; 39], m: i64, text: &[u8], bytes: &[u8], message: &[u8
 {
     let mut scratch = [0u8; 256];
     let mut left = [0u8; 256];
-    let e = rows::expects::expect_of(&n[2..8], m);
-    let i = rows::infos::info_of(&n[8..27]);
+    let e = row_expects::expect_of(&n[2..8], m);
+    let i = row_infos::info_of(&n[8..27]);
     let table = table_of(n);
     let t = expect::message::handshake_message(text, e, i, bytes, &table, &mut scratch, &mut left);
     is_told(t, n[1], &left, message)

@@ -26,8 +26,8 @@ pub fn entry_message(
     ensures { λ _. ⌜ now (scratch .exit) ≡ unlessRefused (entryTold (now (text .entry)) (expectRow (now (expectation .entry)) n) (now (bytes .entry)) (now (lists .entry)) (responseRow (now (response .entry))) (length (now (scratch .entry))) (length (now (buffer .entry)))) (presentBytes (lookedIn (responseOf (now (bytes .entry)) (counted (now (lists .entry))) (responseRow (now (response .entry)))) (expectedOf (now (text .entry)) (expectRow (now (expectation .entry)) n)))) (now (scratch .entry)) ⌝ }
     ensures { λ _. ⌜ now (buffer .exit) ≡ unlessRefused (entryTold (now (text .entry)) (expectRow (now (expectation .entry)) n) (now (bytes .entry)) (now (lists .entry)) (responseRow (now (response .entry))) (length (now (scratch .entry))) (length (now (buffer .entry)))) (entryMessage (responseOf (now (bytes .entry)) (counted (now (lists .entry))) (responseRow (now (response .entry)))) (expectedOf (now (text .entry)) (expectRow (now (expectation .entry)) n))) (now (buffer .entry)) ⌝ }
 {
-    let e = rows::expects::expect_of(expectation, n);
-    let r = rows::responses::response_of(response);
+    let e = row_expects::expect_of(expectation, n);
+    let r = row_responses::response_of(response);
     expect::message::entry_message(text, e, r, bytes, lists, scratch, buffer)
 }
 
@@ -46,7 +46,7 @@ pub fn handshake_message(
     ensures { λ _. ⌜ now (scratch .exit) ≡ unlessRefused (handshakeTold (now (text .entry)) (expectRow (now (expectation .entry)) n) (now (bytes .entry)) (now (lists .entry)) (infoRow (now (information .entry))) (length (now (scratch .entry))) (length (now (buffer .entry)))) (presentBytes (toldIn (infoOf (now (bytes .entry)) (counted (now (lists .entry))) (infoRow (now (information .entry)))) (expectedOf (now (text .entry)) (expectRow (now (expectation .entry)) n)))) (now (scratch .entry)) ⌝ }
     ensures { λ _. ⌜ now (buffer .exit) ≡ unlessRefused (handshakeTold (now (text .entry)) (expectRow (now (expectation .entry)) n) (now (bytes .entry)) (now (lists .entry)) (infoRow (now (information .entry))) (length (now (scratch .entry))) (length (now (buffer .entry)))) (handshakeMessage (infoOf (now (bytes .entry)) (counted (now (lists .entry))) (infoRow (now (information .entry)))) (expectedOf (now (text .entry)) (expectRow (now (expectation .entry)) n))) (now (buffer .entry)) ⌝ }
 {
-    let e = rows::expects::expect_of(expectation, n);
-    let i = rows::infos::info_of(information);
+    let e = row_expects::expect_of(expectation, n);
+    let i = row_infos::info_of(information);
     expect::message::handshake_message(text, e, i, bytes, lists, scratch, buffer)
 }

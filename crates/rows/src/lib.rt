@@ -1,5 +1,2 @@
-// An expectation, a response and the handshake's information, from the rows of numbers in which a host hands them over.
-pub mod expects;
-pub mod infos;
+// The parts of the rows of numbers in which a host hands over an expectation, a response and the handshake's information.
 pub mod parts;
-pub mod responses;

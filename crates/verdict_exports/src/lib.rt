@@ -67,8 +67,8 @@ pub extern "C" fn nwscript_entry_verdict(
 ) -> u64
     ensures { λ r. ⌜ r ≡ entryNumber (now (text .entry)) (expectRow (now (expectation .entry)) n) (now (bytes .entry)) (now (lists .entry)) (responseRow (now (response .entry))) ⌝ }
 {
-    let e = rows::expects::expect_of(expectation, n);
-    let r = rows::responses::response_of(response);
+    let e = row_expects::expect_of(expectation, n);
+    let r = row_responses::response_of(response);
     entry_number(text, e, r, bytes, lists)
 }
 
@@ -84,7 +84,7 @@ pub extern "C" fn nwscript_handshake_verdict(
 ) -> u64
     ensures { λ r. ⌜ r ≡ handshakeNumber (now (text .entry)) (expectRow (now (expectation .entry)) n) (now (bytes .entry)) (now (lists .entry)) (infoRow (now (information .entry))) ⌝ }
 {
-    let e = rows::expects::expect_of(expectation, n);
-    let i = rows::infos::info_of(information);
+    let e = row_expects::expect_of(expectation, n);
+    let i = row_infos::info_of(information);
     handshake_number(text, e, i, bytes, lists)
 }
