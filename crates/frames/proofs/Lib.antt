@@ -1,2 +1,1 @@
 pub mod FrameLaws
-pub mod SameLaws

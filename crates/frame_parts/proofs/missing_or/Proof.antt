@@ -1,8 +1,8 @@
--- `frames::frames::missing_or` meets its contract: the test decides. Assumes nothing.
+-- `frame_parts::missing_or` meets its contract: the test decides. Assumes nothing.
 use borrow.Author.Needs.{needs}
 use Rattle.frames.specs.Frames.{missingOr}
-use Rattle.frames.proofs.frames.missing_or.Statement.{statement}
-use Rattle.frames.proofs.frames.missing_or.Tie as tie
+use Rattle.frame_parts.proofs.missing_or.Statement.{statement}
+use Rattle.frame_parts.proofs.missing_or.Tie as tie
 
 returns : tie.Need-returns
 unfolding missingOr

@@ -1,17 +1,17 @@
--- `frames::frames::shown_as` meets its contract: each arm is its case of the definition. Assumes nothing.
+-- `frame_parts::shown_as` meets its contract: each arm is its case of the definition. Assumes nothing.
 use borrow.Author.Needs.{needs}
 use mathlib.Core.Path.{sym, ap, _∙_}
 use lib.IntN.{ℤ}
 use mir.Syntax.{w64}
 use mir.ValLaws.{toZ-ofZ}
 use Rattle.frames.specs.Frames.{between, shownAs}
 use Rattle.frames.specs.declared.words.Middle.{Middle}
 use Rattle.frames.specs.declared.words.Middle.the-variants as middles
 use Rattle.frames.specs.declared.frames.Piece.the-variants as pieces
 use Rattle.frames.specs.declared.frames.Ending.the-variants as endings
 use Rattle.frames.specs.declared.frames.Shown.{Shown}
-use Rattle.frames.proofs.frames.shown_as.Statement.{statement}
-use Rattle.frames.proofs.frames.shown_as.Tie as tie
+use Rattle.frame_parts.proofs.shown_as.Statement.{statement}
+use Rattle.frame_parts.proofs.shown_as.Tie as tie
 
 abbrev numbered : Middle → ℤ → Shown
 numbered before n = between before (pieces.Number n) endings.Got

@@ -1,9 +1,9 @@
--- `frames::frames::terminal_frame` meets its contract: each arm is its case of the definition. Assumes nothing.
+-- `frame_parts::terminal_frame` meets its contract: each arm is its case of the definition. Assumes nothing.
 use borrow.Author.Needs.{needs}
 use mathlib.Core.Path.{sym, ap, _∙_}
 use Rattle.frames.specs.Frames.{noFrame, terminalFrame}
-use Rattle.frames.proofs.frames.terminal_frame.Statement.{statement}
-use Rattle.frames.proofs.frames.terminal_frame.Tie as tie
+use Rattle.frame_parts.proofs.terminal_frame.Statement.{statement}
+use Rattle.frame_parts.proofs.terminal_frame.Tie as tie
 
 enum-told : tie.Need-enum-told
 enum-told c = search needs

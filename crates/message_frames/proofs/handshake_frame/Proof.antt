@@ -1,11 +1,11 @@
--- `frames::frames::handshake_frame` meets its contract: each arm is its case of the definition. Assumes nothing.
+-- `message_frames::handshake_frame` meets its contract: each arm is its case of the definition. Assumes nothing.
 use borrow.Author.Needs.{needs}
 use mathlib.Core.Path.{sym, ap, _∙_}
 use Rattle.script.specs.declared.records.Expect.{Expect}
 use Rattle.frames.specs.Frames.{handshakeFrame}
-use Rattle.frames.proofs.SameLaws.{valued-same}
-use Rattle.frames.proofs.frames.handshake_frame.Statement.{statement}
-use Rattle.frames.proofs.frames.handshake_frame.Tie as tie
+use Rattle.message_frames.proofs.SameLaws.{valued-same}
+use Rattle.message_frames.proofs.handshake_frame.Statement.{statement}
+use Rattle.message_frames.proofs.handshake_frame.Tie as tie
 
 enum-told : tie.Need-enum-told
 enum-told c = search needs

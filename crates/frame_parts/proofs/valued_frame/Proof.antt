@@ -1,9 +1,9 @@
--- `frames::frames::valued_frame` meets its contract: each arm is its case of the definition. Assumes nothing.
+-- `frame_parts::valued_frame` meets its contract: each arm is its case of the definition. Assumes nothing.
 use borrow.Author.Needs.{needs}
 use mathlib.Core.Path.{sym, ap, _∙_}
 use Rattle.frames.specs.Frames.{failedFrame, valuedFrame}
-use Rattle.frames.proofs.frames.valued_frame.Statement.{statement}
-use Rattle.frames.proofs.frames.valued_frame.Tie as tie
+use Rattle.frame_parts.proofs.valued_frame.Statement.{statement}
+use Rattle.frame_parts.proofs.valued_frame.Tie as tie
 
 enum-told : tie.Need-enum-told
 enum-told c = search needs

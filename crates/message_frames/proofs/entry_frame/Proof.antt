@@ -1,11 +1,11 @@
--- `frames::frames::entry_frame` meets its contract: each arm is its case of the definition. Assumes nothing.
+-- `message_frames::entry_frame` meets its contract: each arm is its case of the definition. Assumes nothing.
 use borrow.Author.Needs.{needs}
 use mathlib.Core.Path.{sym, ap, _∙_}
 use Rattle.script.specs.declared.records.Expect.{Expect}
 use Rattle.frames.specs.Frames.{entryFrame}
-use Rattle.frames.proofs.SameLaws.{missing-same, valued-same}
-use Rattle.frames.proofs.frames.entry_frame.Statement.{statement}
-use Rattle.frames.proofs.frames.entry_frame.Tie as tie
+use Rattle.message_frames.proofs.SameLaws.{missing-same, valued-same}
+use Rattle.message_frames.proofs.entry_frame.Statement.{statement}
+use Rattle.message_frames.proofs.entry_frame.Tie as tie
 
 enum-known-e : tie.Need-enum-known-e
 enum-known-e c = search needs
