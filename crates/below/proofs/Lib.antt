@@ -1,3 +1,2 @@
 pub mod LinesLaws
 pub mod Made
-pub mod SayLaws

@@ -28,7 +28,8 @@ use Rattle.script.proofs.RolesInside.{role-in}
 use Rattle.said.specs.Said.{pieceAt}
 use Rattle.tables.specs.Written.{itemOf, itemsFor, writtenAt}
 use Rattle.tables.proofs.WrittenLaws.{Filling, filling-begun, filling-length, filled, filling-room, filling-on, filling-place, filling-more, written-one}
-use Rattle.below.specs.Below.{belowOf, rolesAt, ahead, aheadOf, NextIn, pairItems, pairsItems, Forward}
+use Rattle.below.specs.Below.{belowOf, rolesAt, ahead, aheadOf, NextIn, pairsItems}
+use Rattle.says.specs.Says.{pairItems, Forward}
 use Rattle.below.specs.declared.lines.Below.{Below}
 use Rattle.below.specs.declared.lines.Next.{Next}
 

@@ -8,10 +8,9 @@ use Rattle.text.specs.Lines.{linesFrom}
 use Rattle.script.specs.Values.{plainRules}
 use Rattle.script.specs.Roles.{Marked, marked, rolesFrom}
 use Rattle.script.specs.Inside.{In}
-use Rattle.script.specs.Contents.{isOpening, pairOf, pairs}
+use Rattle.script.specs.Contents.{isOpening, pairs}
 use Rattle.script.specs.declared.roles.Where.{Where}
 use Rattle.script.specs.declared.roles.Saying.{Saying}
-use Rattle.script.specs.declared.roles.Saying.the-variants.{Known, Pair, NoColon, Unknown, NoPair, NoRaw}
 use Rattle.script.specs.declared.roles.Role.the-variants.{Opens}
 use Rattle.tables.specs.Written.{itemsFor}
 use Rattle.below.specs.declared.lines.Below.{Below}
@@ -41,19 +40,6 @@ NextIn text from End = Unit {0}
 NextIn text from (Entry e) = (from < e .at) × (e .at ≤ length text) × (e .line ≤ e .at) × In text (e .opening .args)
 
 -- the items of the pairs that are said, where the operation takes an override list
-unfoldable pub pairItems : (options : Bool) → Saying → List (List ℕ)
-pairItems false s = []
-pairItems true s = itemsFor (pairOf s)
-
 unfoldable pub pairsItems : (options : Bool) → List Saying → List (List ℕ)
 pairsItems false ss = []
 pairsItems true ss = itemsFor (pairs ss)
-
--- what is said starts no later than it ends
-unfoldable pub Forward : Saying → Type 0
-Forward (Known k v) = v .start ≤ v .end
-Forward (Pair a b) = (a .start ≤ a .end) × (b .start ≤ b .end)
-Forward NoColon = Unit {0}
-Forward (Unknown k v) = Unit {0}
-Forward NoPair = Unit {0}
-Forward NoRaw = Unit {0}

@@ -11,6 +11,7 @@ ghost use Rattle.tables.specs.Written.{writtenAt};
 ghost use Rattle.below.specs.declared.lines.Next.the-variants as Next;
 ghost use Rattle.below.specs.Below.{belowOf, rolesAt, ahead, aheadOf, NextIn, pairsItems};
 use kept::Kept;
+use script::records::Expect;
 use script::records::Expectation;
 use script::roles::Opening;
 use script::roles::Role;
@@ -72,6 +73,13 @@ fn at_end(pairs: usize, expects: usize) -> Below
     }
 }
 
+// An expectation with its line.
+fn expectation_of(line: usize, expect: Expect) -> Expectation
+    ensures { λ r. ⌜ r ≡ record { line = line; expect = expect } ⌝ }
+{
+    Expectation { line, expect }
+}
+
 // Reads the lines from a place on up to the next opening line: pairs are written from item i on, expectations from x on.
 pub fn read_lines(
     text: &[u8],
@@ -117,9 +125,9 @@ pub fn read_lines(
         let next = step.next;
         match role {
             Role::Nothing => {}
-            Role::Says(s) => pairs += crate::says::say(s, starts, ends, options, items, i + pairs),
+            Role::Says(s) => pairs += says::say(s, starts, ends, options, items, i + pairs),
             Role::Expects(e) => {
-                let e = crate::says::expectation_of(number, e);
+                let e = expectation_of(number, e);
                 slots::put_expectation(expectations, x + expects, e);
                 expects += 1;
             }

@@ -280,7 +280,7 @@ abbrev b22 : Syntax.Body
 b22 = Syntax.assign (Syntax.place 35 List.[]) (Syntax.op2 (Syntax.add Syntax.unsigned) (Syntax.copy (Syntax.place 10 List.[])) (Syntax.copy (Syntax.place 16 List.[])))
 
 abbrev b23 : Syntax.Body
-b23 = Syntax.call "below::says::say" (List._∷_ (Syntax.copy (Syntax.place 22 List.[])) (List._∷_ (Syntax.copy (Syntax.place 30 List.[])) (List._∷_ (Syntax.copy (Syntax.place 32 List.[])) (List._∷_ (Syntax.copy (Syntax.place 8 List.[])) (List._∷_ (Syntax.copy (Syntax.place 34 List.[])) (List._∷_ (Syntax.copy (Syntax.place 35 List.[])) List.[])))))) (Syntax.place 28 List.[])
+b23 = Syntax.call "says::say" (List._∷_ (Syntax.copy (Syntax.place 22 List.[])) (List._∷_ (Syntax.copy (Syntax.place 30 List.[])) (List._∷_ (Syntax.copy (Syntax.place 32 List.[])) (List._∷_ (Syntax.copy (Syntax.place 8 List.[])) (List._∷_ (Syntax.copy (Syntax.place 34 List.[])) (List._∷_ (Syntax.copy (Syntax.place 35 List.[])) List.[])))))) (Syntax.place 28 List.[])
 
 abbrev b24 : Syntax.Body
 b24 = Syntax.assign (Syntax.place 16 List.[]) (Syntax.op2 (Syntax.add Syntax.unsigned) (Syntax.copy (Syntax.place 16 List.[])) (Syntax.copy (Syntax.place 28 List.[])))
@@ -316,7 +316,7 @@ abbrev b34 : Syntax.Body
 b34 = Syntax.assign (Syntax.place 23 List.[]) (Syntax.rvOpd (Syntax.copy (Syntax.place 20 (List._∷_ (Syntax.variant 2) (List._∷_ (Syntax.field 1) List.[])))))
 
 abbrev b35 : Syntax.Body
-b35 = Syntax.call "below::says::expectation_of" (List._∷_ (Syntax.copy (Syntax.place 15 List.[])) (List._∷_ (Syntax.copy (Syntax.place 23 List.[])) List.[])) (Syntax.place 24 List.[])
+b35 = Syntax.call "below::lines::expectation_of" (List._∷_ (Syntax.copy (Syntax.place 15 List.[])) (List._∷_ (Syntax.copy (Syntax.place 23 List.[])) List.[])) (Syntax.place 24 List.[])
 
 abbrev b36 : Syntax.Body
 b36 = Syntax.assign (Syntax.place 37 List.[]) (Syntax.addrOf (Syntax.place 11 (List._∷_ (Syntax.field 0) (List._∷_ (Syntax.deref ExpectationElem.ty) List.[]))))
@@ -1300,7 +1300,7 @@ module _ (claims· : Claims) where
   module _ (Pre· : (κs : Lifetimes.Lfts 6) → Kinds.Dens κs ps → Type 0) (Post· : (κs : Lifetimes.Lfts 6) → (a : Kinds.Dens κs ps) → Kinds.Plain 6 ps r κs) where
     module _ (M : Type 1) where
       abbrev pub Closed : Type 2
-      Closed = (𝓤 : URA.URA M) (H : Wp.Heap 𝓤) (A : Atoms.Atoms 𝓤) (W : Kit.Given 𝓤 H A) (𝓣 : Wp.Tables 𝓤 H) (known0 : Plain.Known 𝓤 H A W 𝓣 2 ps·0 r·0 (claims· .0) (claims· .1) "kept::look") (known1 : Plain.Known 𝓤 H A W 𝓣 3 ps·1 r·1 (claims· .2) (claims· .3) "below::says::say") (known2 : Plain.Known 𝓤 H A W 𝓣 0 ps·2 r·2 (claims· .4) (claims· .5) "below::says::expectation_of") (known3 : Plain.Known 𝓤 H A W 𝓣 1 ps·3 r·3 (claims· .6) (claims· .7) "slots::put_expectation") (known4 : Plain.Known 𝓤 H A W 𝓣 0 ps·4 r·4 (claims· .8) (claims· .9) "below::lines::at_opening") (known5 : Plain.Known 𝓤 H A W 𝓣 0 ps·5 r·5 (claims· .10) (claims· .11) "roles::steps::same_place") (known6 : Plain.Known 𝓤 H A W 𝓣 0 ps·6 r·6 (claims· .12) (claims· .13) "below::lines::at_end") → Statement.Triple 𝓤 (Wp.WpFn 𝓤 H (𝓣 .C) (𝓣 .Λ) (Function.fnOf 6 ps r xs m hs body)) (Function.plainOf 𝓤 H A 6 ps r Pre· Post·)
+      Closed = (𝓤 : URA.URA M) (H : Wp.Heap 𝓤) (A : Atoms.Atoms 𝓤) (W : Kit.Given 𝓤 H A) (𝓣 : Wp.Tables 𝓤 H) (known0 : Plain.Known 𝓤 H A W 𝓣 2 ps·0 r·0 (claims· .0) (claims· .1) "kept::look") (known1 : Plain.Known 𝓤 H A W 𝓣 3 ps·1 r·1 (claims· .2) (claims· .3) "says::say") (known2 : Plain.Known 𝓤 H A W 𝓣 0 ps·2 r·2 (claims· .4) (claims· .5) "below::lines::expectation_of") (known3 : Plain.Known 𝓤 H A W 𝓣 1 ps·3 r·3 (claims· .6) (claims· .7) "slots::put_expectation") (known4 : Plain.Known 𝓤 H A W 𝓣 0 ps·4 r·4 (claims· .8) (claims· .9) "below::lines::at_opening") (known5 : Plain.Known 𝓤 H A W 𝓣 0 ps·5 r·5 (claims· .10) (claims· .11) "roles::steps::same_place") (known6 : Plain.Known 𝓤 H A W 𝓣 0 ps·6 r·6 (claims· .12) (claims· .13) "below::lines::at_end") → Statement.Triple 𝓤 (Wp.WpFn 𝓤 H (𝓣 .C) (𝓣 .Λ) (Function.fnOf 6 ps r xs m hs body)) (Function.plainOf 𝓤 H A 6 ps r Pre· Post·)
 
     module _ (Inv·0 : InvT-loop) (μ·0 : MeasureT-loop) where
       abbrev at0 : (bs : List.List Nat.ℕ) → Typed.TF T16 O4
@@ -1671,7 +1671,7 @@ module _ (claims· : Claims) where
 
       module _ {M : Type 1} (𝓤 : URA.URA M) (H : Wp.Heap 𝓤) (A : Atoms.Atoms 𝓤) (W : Kit.Given 𝓤 H A) (𝓣 : Wp.Tables 𝓤 H) where
         abbrev Knowns : Type 1
-        Knowns = Plain.Known 𝓤 H A W 𝓣 2 ps·0 r·0 (claims· .0) (claims· .1) "kept::look" × Plain.Known 𝓤 H A W 𝓣 3 ps·1 r·1 (claims· .2) (claims· .3) "below::says::say" × Plain.Known 𝓤 H A W 𝓣 0 ps·2 r·2 (claims· .4) (claims· .5) "below::says::expectation_of" × Plain.Known 𝓤 H A W 𝓣 1 ps·3 r·3 (claims· .6) (claims· .7) "slots::put_expectation" × Plain.Known 𝓤 H A W 𝓣 0 ps·4 r·4 (claims· .8) (claims· .9) "below::lines::at_opening" × Plain.Known 𝓤 H A W 𝓣 0 ps·5 r·5 (claims· .10) (claims· .11) "roles::steps::same_place" × Plain.Known 𝓤 H A W 𝓣 0 ps·6 r·6 (claims· .12) (claims· .13) "below::lines::at_end"
+        Knowns = Plain.Known 𝓤 H A W 𝓣 2 ps·0 r·0 (claims· .0) (claims· .1) "kept::look" × Plain.Known 𝓤 H A W 𝓣 3 ps·1 r·1 (claims· .2) (claims· .3) "says::say" × Plain.Known 𝓤 H A W 𝓣 0 ps·2 r·2 (claims· .4) (claims· .5) "below::lines::expectation_of" × Plain.Known 𝓤 H A W 𝓣 1 ps·3 r·3 (claims· .6) (claims· .7) "slots::put_expectation" × Plain.Known 𝓤 H A W 𝓣 0 ps·4 r·4 (claims· .8) (claims· .9) "below::lines::at_opening" × Plain.Known 𝓤 H A W 𝓣 0 ps·5 r·5 (claims· .10) (claims· .11) "roles::steps::same_place" × Plain.Known 𝓤 H A W 𝓣 0 ps·6 r·6 (claims· .12) (claims· .13) "below::lines::at_end"
 
       module _ (κs : Lifetimes.Lfts 6) (qs : Lifetimes.Shares 6) where
         abbrev g24 : List.List Row.Entry
@@ -2132,7 +2132,7 @@ module _ (claims· : Claims) where
           d24 = Typed.g-pre 𝓤 H A W 𝓣 E G44 G45 b24 Δ5 (Typed.pass T44 T45 (s40 bs)) (at23 bs) (RScalar.g-room 𝓤 H A W E G44 22 τ4 (RLocal.room-whole 𝓤 H A W (Declared.row Saying.the-type) τ4 Path'.refl)) d23
 
           d25 : Typed.Typed 𝓤 H A 𝓣 E G43 b25 Δ5 (at25 bs)
-          d25 = Typed.s-seq 𝓤 H A W 𝓣 E G43 G44 b23 b24 Δ5 (Typed.both (s39 bs)) (at24 bs) (Plain.t-call-plain 𝓤 H A W 𝓣 3 ps·1 r·1 (claims· .2) (claims· .3) "below::says::say" (known .1) E (λ pos β. β) G43 (record { pos = 22; st = List.[]; d = 0; at = λ x. x }, (record { pos = 30; ty = Syntax.tyRef Syntax.erased Syntax.mut (Syntax.tyInt Syntax.w64); ref = λ x. x }, (record { pos = 32; ty = Syntax.tyRef Syntax.erased Syntax.mut (Syntax.tyInt Syntax.w64); ref = λ x. x }, (Bool.bAt 8 λ x. x, (record { pos = 34; ty = Syntax.tyRef Syntax.erased Syntax.mut (Syntax.tyArray (Syntax.tyInt Syntax.w64) 2); ref = λ x. x }, (Num.vAt 35 λ x. x, tt)))))) 28 (List._∷_ 6 (List._∷_ 7 (List._∷_ 8 List.[]))) (Call.sub-id 𝓤 H A W (G43 .slots)) ((Yields.yields-copy 𝓤 H A W (λ ρ. Unit) (Declared.row Saying.the-type) Path'.refl (TCopies.cEnum Saying.the-type Laws'5.the-laws Laws'5.the-copy .copy 𝓤 H A W) (Rows'.whole (Declared.row Saying.the-type)) (λ x. x) (λ x. x) (λ ρ told. RLocal.mem-whole 𝓤 H A W (Declared.row Saying.the-type) ρ) λ ρ told. RLocal.whole-mem 𝓤 H A W (Declared.row Saying.the-type) ρ, Path'.refl), (Reads'.as-is 𝓤 H A (Mut.mslice (TReferent.rtF (TReferent.fInt Syntax.w64)) (Syntax.tyRef Syntax.erased Syntax.mut (Syntax.tyInt Syntax.w64)) 6), Mut.reads-mslice 𝓤 H A W (TReferent.rtF (TReferent.fInt Syntax.w64)) (Syntax.tyRef Syntax.erased Syntax.mut (Syntax.tyInt Syntax.w64)) 6, Path'.refl, (Reads'.as-is 𝓤 H A (Mut.mslice (TReferent.rtF (TReferent.fInt Syntax.w64)) (Syntax.tyRef Syntax.erased Syntax.mut (Syntax.tyInt Syntax.w64)) 7), Mut.reads-mslice 𝓤 H A W (TReferent.rtF (TReferent.fInt Syntax.w64)) (Syntax.tyRef Syntax.erased Syntax.mut (Syntax.tyInt Syntax.w64)) 7, Path'.refl, ((RScalar.reads-sc 𝓤 H A W Row.sBool, Path'.refl), (Reads'.as-is 𝓤 H A (Mut.mslice (DArray.Array (TReferent.rtF (TReferent.fInt Syntax.w64)) 2) (Syntax.tyRef Syntax.erased Syntax.mut (Syntax.tyArray (Syntax.tyInt Syntax.w64) 2)) 8), Mut.reads-mslice 𝓤 H A W (DArray.Array (TReferent.rtF (TReferent.fInt Syntax.w64)) 2) (Syntax.tyRef Syntax.erased Syntax.mut (Syntax.tyArray (Syntax.tyInt Syntax.w64) 2)) 8, Path'.refl, ((RScalar.reads-sc 𝓤 H A W (Row.sInt Syntax.w64), Path'.refl), tt)))))) (Reads'.room-gone 𝓤 H A (Syntax.tyInt Syntax.w64)) (tt, (tt, (tt, tt))) Path'.refl) d24
+          d25 = Typed.s-seq 𝓤 H A W 𝓣 E G43 G44 b23 b24 Δ5 (Typed.both (s39 bs)) (at24 bs) (Plain.t-call-plain 𝓤 H A W 𝓣 3 ps·1 r·1 (claims· .2) (claims· .3) "says::say" (known .1) E (λ pos β. β) G43 (record { pos = 22; st = List.[]; d = 0; at = λ x. x }, (record { pos = 30; ty = Syntax.tyRef Syntax.erased Syntax.mut (Syntax.tyInt Syntax.w64); ref = λ x. x }, (record { pos = 32; ty = Syntax.tyRef Syntax.erased Syntax.mut (Syntax.tyInt Syntax.w64); ref = λ x. x }, (Bool.bAt 8 λ x. x, (record { pos = 34; ty = Syntax.tyRef Syntax.erased Syntax.mut (Syntax.tyArray (Syntax.tyInt Syntax.w64) 2); ref = λ x. x }, (Num.vAt 35 λ x. x, tt)))))) 28 (List._∷_ 6 (List._∷_ 7 (List._∷_ 8 List.[]))) (Call.sub-id 𝓤 H A W (G43 .slots)) ((Yields.yields-copy 𝓤 H A W (λ ρ. Unit) (Declared.row Saying.the-type) Path'.refl (TCopies.cEnum Saying.the-type Laws'5.the-laws Laws'5.the-copy .copy 𝓤 H A W) (Rows'.whole (Declared.row Saying.the-type)) (λ x. x) (λ x. x) (λ ρ told. RLocal.mem-whole 𝓤 H A W (Declared.row Saying.the-type) ρ) λ ρ told. RLocal.whole-mem 𝓤 H A W (Declared.row Saying.the-type) ρ, Path'.refl), (Reads'.as-is 𝓤 H A (Mut.mslice (TReferent.rtF (TReferent.fInt Syntax.w64)) (Syntax.tyRef Syntax.erased Syntax.mut (Syntax.tyInt Syntax.w64)) 6), Mut.reads-mslice 𝓤 H A W (TReferent.rtF (TReferent.fInt Syntax.w64)) (Syntax.tyRef Syntax.erased Syntax.mut (Syntax.tyInt Syntax.w64)) 6, Path'.refl, (Reads'.as-is 𝓤 H A (Mut.mslice (TReferent.rtF (TReferent.fInt Syntax.w64)) (Syntax.tyRef Syntax.erased Syntax.mut (Syntax.tyInt Syntax.w64)) 7), Mut.reads-mslice 𝓤 H A W (TReferent.rtF (TReferent.fInt Syntax.w64)) (Syntax.tyRef Syntax.erased Syntax.mut (Syntax.tyInt Syntax.w64)) 7, Path'.refl, ((RScalar.reads-sc 𝓤 H A W Row.sBool, Path'.refl), (Reads'.as-is 𝓤 H A (Mut.mslice (DArray.Array (TReferent.rtF (TReferent.fInt Syntax.w64)) 2) (Syntax.tyRef Syntax.erased Syntax.mut (Syntax.tyArray (Syntax.tyInt Syntax.w64) 2)) 8), Mut.reads-mslice 𝓤 H A W (DArray.Array (TReferent.rtF (TReferent.fInt Syntax.w64)) 2) (Syntax.tyRef Syntax.erased Syntax.mut (Syntax.tyArray (Syntax.tyInt Syntax.w64) 2)) 8, Path'.refl, ((RScalar.reads-sc 𝓤 H A W (Row.sInt Syntax.w64), Path'.refl), tt)))))) (Reads'.room-gone 𝓤 H A (Syntax.tyInt Syntax.w64)) (tt, (tt, (tt, tt))) Path'.refl) d24
 
           d26 : Typed.Typed 𝓤 H A 𝓣 E G42 b26 Δ5 (at26 bs)
           d26 = Typed.s-seq 𝓤 H A W 𝓣 E G42 G43 b22 b25 Δ5 (Typed.ask (s38 bs)) (at25 bs) (RScalar.t-op2 𝓤 H A W E 𝓣 G42 (Syntax.add Syntax.unsigned) (RScalar.oAt 10 (Syntax.tyInt Syntax.w64) (Row.valS (Row.sInt Syntax.w64))) (RScalar.oAt 16 (Syntax.tyInt Syntax.w64) (Row.valS (Row.sInt Syntax.w64))) 35 (Rows'.sc-here (Row.sInt Syntax.w64)) (Syntax.tyInt Syntax.w64) (Row.valS (Row.sInt Syntax.w64)) (Row.sInt Syntax.w64 .of) (RScalar.reads-sc 𝓤 H A W (Row.sInt Syntax.w64), Path'.refl) (RScalar.reads-sc 𝓤 H A W (Row.sInt Syntax.w64), Path'.refl) (Reads'.room-gone 𝓤 H A (Syntax.tyInt Syntax.w64)) (RScalar.holds-sc 𝓤 H A W (Row.sInt Syntax.w64)) Path'.refl (λ u. Path'.refl) λ u. tt) d25
@@ -2219,7 +2219,7 @@ module _ (claims· : Claims) where
           d53 = Typed.g-pre 𝓤 H A W 𝓣 E G65 G66 b44 Δ5 (Typed.pass T65 T66 (s61 bs)) (at52 bs) (RScalar.g-room 𝓤 H A W E G65 23 τ5 (RLocal.room-whole 𝓤 H A W (Declared.row Expect.the-type) τ5 Path'.refl)) d52
 
           d54 : Typed.Typed 𝓤 H A 𝓣 E G64 b45 Δ5 (at54 bs)
-          d54 = Typed.s-seq 𝓤 H A W 𝓣 E G64 G65 b35 b44 Δ5 (Typed.both (s60 bs)) (at53 bs) (Plain.t-call-plain 𝓤 H A W 𝓣 0 ps·2 r·2 (claims· .4) (claims· .5) "below::says::expectation_of" (known .2) E (λ pos β. β) G64 (Num.vAt 15 λ x. x, (record { pos = 23; st = List.[]; d = 0; at = λ x. x }, tt)) 24 List.[] (Call.sub-id 𝓤 H A W (G64 .slots)) ((RScalar.reads-sc 𝓤 H A W (Row.sInt Syntax.w64), Path'.refl), ((Yields.yields-copy 𝓤 H A W (λ ρ. Unit) (Declared.row Expect.the-type) Path'.refl (TCopies.cEnum Expect.the-type Laws''.the-laws Laws''.the-copy .copy 𝓤 H A W) (Rows'.whole (Declared.row Expect.the-type)) (λ x. x) (λ x. x) (λ ρ told. RLocal.mem-whole 𝓤 H A W (Declared.row Expect.the-type) ρ) λ ρ told. RLocal.whole-mem 𝓤 H A W (Declared.row Expect.the-type) ρ, Path'.refl), tt)) (Reads'.room-gone 𝓤 H A ExpectationElem.ty) tt Path'.refl) d53
+          d54 = Typed.s-seq 𝓤 H A W 𝓣 E G64 G65 b35 b44 Δ5 (Typed.both (s60 bs)) (at53 bs) (Plain.t-call-plain 𝓤 H A W 𝓣 0 ps·2 r·2 (claims· .4) (claims· .5) "below::lines::expectation_of" (known .2) E (λ pos β. β) G64 (Num.vAt 15 λ x. x, (record { pos = 23; st = List.[]; d = 0; at = λ x. x }, tt)) 24 List.[] (Call.sub-id 𝓤 H A W (G64 .slots)) ((RScalar.reads-sc 𝓤 H A W (Row.sInt Syntax.w64), Path'.refl), ((Yields.yields-copy 𝓤 H A W (λ ρ. Unit) (Declared.row Expect.the-type) Path'.refl (TCopies.cEnum Expect.the-type Laws''.the-laws Laws''.the-copy .copy 𝓤 H A W) (Rows'.whole (Declared.row Expect.the-type)) (λ x. x) (λ x. x) (λ ρ told. RLocal.mem-whole 𝓤 H A W (Declared.row Expect.the-type) ρ) λ ρ told. RLocal.whole-mem 𝓤 H A W (Declared.row Expect.the-type) ρ, Path'.refl), tt)) (Reads'.room-gone 𝓤 H A ExpectationElem.ty) tt Path'.refl) d53
 
           d55 : Typed.Typed 𝓤 H A 𝓣 E G63 b45 Δ5 (at55 bs)
           d55 = Typed.g-pre 𝓤 H A W 𝓣 E G63 G64 b45 Δ5 (Typed.pass T63 T64 (s59 bs)) (at54 bs) (RScalar.g-room 𝓤 H A W E G63 20 τ3 (RLocal.room-whole 𝓤 H A W (Known.Known Role.enum 2) τ3 Path'.refl)) d54
@@ -3249,6 +3249,6 @@ module _ (claims· : Claims) where
           pub asked : (a : Kinds.Dens κs ps) → (good : Kinds.GoodsP κs ps a) → (pre : Pre· κs a) → (bs : List.List Nat.ℕ) → Φ bs (Any.wantQ 6 ps r xs m κs qs a (Post· κs a)) (Function.init 6 ps r xs m κs qs a)
           asked = λ a good pre bs. laid record { κs = κs; args = record { text = a .0; kept = a .1 .0; from = a .1 .1 .0; first = a .1 .1 .1 .0; stands = a .1 .1 .1 .1 .0; starts = a .1 .1 .1 .1 .1 .0; ends = a .1 .1 .1 .1 .1 .1 .0; options = a .1 .1 .1 .1 .1 .1 .1 .0; items = a .1 .1 .1 .1 .1 .1 .1 .1 .0; i = a .1 .1 .1 .1 .1 .1 .1 .1 .1 .0; expectations = a .1 .1 .1 .1 .1 .1 .1 .1 .1 .1 .0; x = a .1 .1 .1 .1 .1 .1 .1 .1 .1 .1 .1 .0 }; blocks = bs; good = good; fits = record { from = record { fits = good .1 .1 .0 .1 }; first = record { fits = good .1 .1 .1 .0 .1 }; i = record { fits = good .1 .1 .1 .1 .1 .1 .1 .1 .1 .0 .1 }; x = record { fits = good .1 .1 .1 .1 .1 .1 .1 .1 .1 .1 .1 .0 .1 } }; pre = pre }
 
-        module _ {M : Type 1} (𝓤 : URA.URA M) (H : Wp.Heap 𝓤) (A : Atoms.Atoms 𝓤) (W : Kit.Given 𝓤 H A) (𝓣 : Wp.Tables 𝓤 H) (known0 : Plain.Known 𝓤 H A W 𝓣 2 ps·0 r·0 (claims· .0) (claims· .1) "kept::look") (known1 : Plain.Known 𝓤 H A W 𝓣 3 ps·1 r·1 (claims· .2) (claims· .3) "below::says::say") (known2 : Plain.Known 𝓤 H A W 𝓣 0 ps·2 r·2 (claims· .4) (claims· .5) "below::says::expectation_of") (known3 : Plain.Known 𝓤 H A W 𝓣 1 ps·3 r·3 (claims· .6) (claims· .7) "slots::put_expectation") (known4 : Plain.Known 𝓤 H A W 𝓣 0 ps·4 r·4 (claims· .8) (claims· .9) "below::lines::at_opening") (known5 : Plain.Known 𝓤 H A W 𝓣 0 ps·5 r·5 (claims· .10) (claims· .11) "roles::steps::same_place") (known6 : Plain.Known 𝓤 H A W 𝓣 0 ps·6 r·6 (claims· .12) (claims· .13) "below::lines::at_end") where
+        module _ {M : Type 1} (𝓤 : URA.URA M) (H : Wp.Heap 𝓤) (A : Atoms.Atoms 𝓤) (W : Kit.Given 𝓤 H A) (𝓣 : Wp.Tables 𝓤 H) (known0 : Plain.Known 𝓤 H A W 𝓣 2 ps·0 r·0 (claims· .0) (claims· .1) "kept::look") (known1 : Plain.Known 𝓤 H A W 𝓣 3 ps·1 r·1 (claims· .2) (claims· .3) "says::say") (known2 : Plain.Known 𝓤 H A W 𝓣 0 ps·2 r·2 (claims· .4) (claims· .5) "below::lines::expectation_of") (known3 : Plain.Known 𝓤 H A W 𝓣 1 ps·3 r·3 (claims· .6) (claims· .7) "slots::put_expectation") (known4 : Plain.Known 𝓤 H A W 𝓣 0 ps·4 r·4 (claims· .8) (claims· .9) "below::lines::at_opening") (known5 : Plain.Known 𝓤 H A W 𝓣 0 ps·5 r·5 (claims· .10) (claims· .11) "roles::steps::same_place") (known6 : Plain.Known 𝓤 H A W 𝓣 0 ps·6 r·6 (claims· .12) (claims· .13) "below::lines::at_end") where
           pub spec : Statement.Triple 𝓤 (Wp.WpFn 𝓤 H (𝓣 .C) (𝓣 .Λ) (Function.fnOf 6 ps r xs m hs body)) (Function.plainOf 𝓤 H A 6 ps r Pre· Post·)
           spec = Plain.t-fn-plain 𝓤 H A W 𝓣 6 ps r xs m hs body (λ κs qs bs. Φ bs) (λ κs qs bs bd. typed κs qs 𝓤 H A W 𝓣 (known0, known1, known2, known3, known4, known5, known6) bs bd) Pre· Post· asked

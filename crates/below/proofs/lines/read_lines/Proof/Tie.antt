@@ -12,12 +12,12 @@ use Rattle.below.proofs.lines.at_opening.Symbol as Symbol'
 use Rattle.below.proofs.lines.read_lines.Code
 use Rattle.below.proofs.lines.read_lines.Key
 use Rattle.below.proofs.lines.read_lines.Statement
-use Rattle.below.proofs.says.expectation_of.Met as Met''
-use Rattle.below.proofs.says.expectation_of.Reads as Reads'3
-use Rattle.below.proofs.says.expectation_of.Symbol as Symbol''
-use Rattle.below.proofs.says.say.Met as Met'3
-use Rattle.below.proofs.says.say.Reads as Reads'4
-use Rattle.below.proofs.says.say.Symbol as Symbol'3
+use Rattle.below.proofs.lines.expectation_of.Met as Met''
+use Rattle.below.proofs.lines.expectation_of.Reads as Reads'3
+use Rattle.below.proofs.lines.expectation_of.Symbol as Symbol''
+use Rattle.says.proofs.say.Met as Met'3
+use Rattle.says.proofs.say.Reads as Reads'4
+use Rattle.says.proofs.say.Symbol as Symbol'3
 use Rattle.kept.proofs.Made.LookReads as Reads'5
 use Rattle.kept.proofs.look.Met as Met'4
 use Rattle.kept.proofs.look.Symbol as Symbol'4
@@ -250,4 +250,4 @@ module _ {M : Type 1} where
 
   pub close : Lts.Closed (Reads'5.Asked, Reads'5.Learnt, Reads'4.Asked, Reads'4.Learnt, Reads'3.Asked, Reads'3.Learnt, Reads'7.Asked, Reads'7.Learnt, Reads'.Asked, Reads'.Learnt, Reads'6.Asked, Reads'6.Learnt, Reads.Asked, Reads.Learnt) Reads''.Pre Reads''.Post M → Statement.statement M
   unfolding Code.routine Running.tablesOf
-  close = λ closed 𝓤 H 𝓜 𝓖 𝓡. Written.close 6 Kinds.ps Kinds.r Reads''.Ghost Reads''.requires Reads''.ensures Reads''.pre-read Reads''.Pinned Reads''.Owned Reads''.post-read record { M = M; 𝓤 = 𝓤; H = H; 𝓜 = 𝓜; 𝓖 = 𝓖; 𝓡 = 𝓡 } Code.env Key.name Code.function (Code.unfolded 𝓤 H 𝓜 𝓡) (λ κs a g. tt) (λ κs. Reads''.owns κs record { M = M; 𝓤 = 𝓤; H = H; 𝓜 = 𝓜; 𝓖 = 𝓖; 𝓡 = 𝓡 }) (Reads''.passes record { M = M; 𝓤 = 𝓤; H = H; 𝓜 = 𝓜; 𝓖 = 𝓖; 𝓡 = 𝓡 }) λ g. closed 𝓤 H (𝓖 .A) (Running.givenOf 𝓤 H 𝓜 𝓖) (Run.Over 𝓤 H 𝓜 𝓖 𝓡 Code.env) (Reads'5.known record { M = M; 𝓤 = 𝓤; H = H; 𝓜 = 𝓜; 𝓖 = 𝓖; 𝓡 = 𝓡 } Code.env Symbol'4.name Symbol'4.routine Code.calls-kept·look (Met'4.met 𝓤 H 𝓜 𝓖 𝓡)) (Reads'4.known record { M = M; 𝓤 = 𝓤; H = H; 𝓜 = 𝓜; 𝓖 = 𝓖; 𝓡 = 𝓡 } Code.env Symbol'3.name Symbol'3.routine Code.calls-below·says·say (Met'3.met 𝓤 H 𝓜 𝓖 𝓡)) (Reads'3.known record { M = M; 𝓤 = 𝓤; H = H; 𝓜 = 𝓜; 𝓖 = 𝓖; 𝓡 = 𝓡 } Code.env Symbol''.name Symbol''.routine Code.calls-below·says·expectation-of (Met''.met 𝓤 H 𝓜 𝓖 𝓡)) (Reads'7.known record { M = M; 𝓤 = 𝓤; H = H; 𝓜 = 𝓜; 𝓖 = 𝓖; 𝓡 = 𝓡 } Code.env Symbol'6.name Symbol'6.routine Code.calls-slots·put-expectation (Met'6.met 𝓤 H 𝓜 𝓖 𝓡)) (Reads'.known record { M = M; 𝓤 = 𝓤; H = H; 𝓜 = 𝓜; 𝓖 = 𝓖; 𝓡 = 𝓡 } Code.env Symbol'.name Symbol'.routine Code.calls-below·lines·at-opening (Met'.met 𝓤 H 𝓜 𝓖 𝓡)) (Reads'6.known record { M = M; 𝓤 = 𝓤; H = H; 𝓜 = 𝓜; 𝓖 = 𝓖; 𝓡 = 𝓡 } Code.env Symbol'5.name Symbol'5.routine Code.calls-roles·steps·same-place (Met'5.met 𝓤 H 𝓜 𝓖 𝓡)) (Reads.known record { M = M; 𝓤 = 𝓤; H = H; 𝓜 = 𝓜; 𝓖 = 𝓖; 𝓡 = 𝓡 } Code.env Symbol.name Symbol.routine Code.calls-below·lines·at-end (Met.met 𝓤 H 𝓜 𝓖 𝓡))
+  close = λ closed 𝓤 H 𝓜 𝓖 𝓡. Written.close 6 Kinds.ps Kinds.r Reads''.Ghost Reads''.requires Reads''.ensures Reads''.pre-read Reads''.Pinned Reads''.Owned Reads''.post-read record { M = M; 𝓤 = 𝓤; H = H; 𝓜 = 𝓜; 𝓖 = 𝓖; 𝓡 = 𝓡 } Code.env Key.name Code.function (Code.unfolded 𝓤 H 𝓜 𝓡) (λ κs a g. tt) (λ κs. Reads''.owns κs record { M = M; 𝓤 = 𝓤; H = H; 𝓜 = 𝓜; 𝓖 = 𝓖; 𝓡 = 𝓡 }) (Reads''.passes record { M = M; 𝓤 = 𝓤; H = H; 𝓜 = 𝓜; 𝓖 = 𝓖; 𝓡 = 𝓡 }) λ g. closed 𝓤 H (𝓖 .A) (Running.givenOf 𝓤 H 𝓜 𝓖) (Run.Over 𝓤 H 𝓜 𝓖 𝓡 Code.env) (Reads'5.known record { M = M; 𝓤 = 𝓤; H = H; 𝓜 = 𝓜; 𝓖 = 𝓖; 𝓡 = 𝓡 } Code.env Symbol'4.name Symbol'4.routine Code.calls-kept·look (Met'4.met 𝓤 H 𝓜 𝓖 𝓡)) (Reads'4.known record { M = M; 𝓤 = 𝓤; H = H; 𝓜 = 𝓜; 𝓖 = 𝓖; 𝓡 = 𝓡 } Code.env Symbol'3.name Symbol'3.routine Code.calls-says·say (Met'3.met 𝓤 H 𝓜 𝓖 𝓡)) (Reads'3.known record { M = M; 𝓤 = 𝓤; H = H; 𝓜 = 𝓜; 𝓖 = 𝓖; 𝓡 = 𝓡 } Code.env Symbol''.name Symbol''.routine Code.calls-below·lines·expectation-of (Met''.met 𝓤 H 𝓜 𝓖 𝓡)) (Reads'7.known record { M = M; 𝓤 = 𝓤; H = H; 𝓜 = 𝓜; 𝓖 = 𝓖; 𝓡 = 𝓡 } Code.env Symbol'6.name Symbol'6.routine Code.calls-slots·put-expectation (Met'6.met 𝓤 H 𝓜 𝓖 𝓡)) (Reads'.known record { M = M; 𝓤 = 𝓤; H = H; 𝓜 = 𝓜; 𝓖 = 𝓖; 𝓡 = 𝓡 } Code.env Symbol'.name Symbol'.routine Code.calls-below·lines·at-opening (Met'.met 𝓤 H 𝓜 𝓖 𝓡)) (Reads'6.known record { M = M; 𝓤 = 𝓤; H = H; 𝓜 = 𝓜; 𝓖 = 𝓖; 𝓡 = 𝓡 } Code.env Symbol'5.name Symbol'5.routine Code.calls-roles·steps·same-place (Met'5.met 𝓤 H 𝓜 𝓖 𝓡)) (Reads.known record { M = M; 𝓤 = 𝓤; H = H; 𝓜 = 𝓜; 𝓖 = 𝓖; 𝓡 = 𝓡 } Code.env Symbol.name Symbol.routine Code.calls-below·lines·at-end (Met.met 𝓤 H 𝓜 𝓖 𝓡))

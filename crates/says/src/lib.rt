@@ -7,9 +7,7 @@ ghost use Rattle.script.specs.declared.roles.Key.{Key};
 ghost use Rattle.script.specs.declared.roles.Saying.the-variants as Said;
 ghost use Rattle.said.specs.Said.{pieceAt};
 ghost use Rattle.tables.specs.Written.{writtenAt};
-ghost use Rattle.below.specs.Below.{Forward, pairItems};
-use script::records::Expect;
-use script::records::Expectation;
+ghost use Rattle.says.specs.Says.{Forward, pairItems};
 use script::roles::Key;
 use script::roles::Saying;
 use text::parts::Span;
@@ -61,11 +59,4 @@ pub fn say(
         }
         _ => 0,
     }
-}
-
-// An expectation with its line.
-pub fn expectation_of(line: usize, expect: Expect) -> Expectation
-    ensures { λ r. ⌜ r ≡ record { line = line; expect = expect } ⌝ }
-{
-    Expectation { line, expect }
 }

@@ -15,7 +15,7 @@ use Rattle.script.specs.declared.roles.Saying.the-variants.{Known, Pair}
 use Rattle.said.specs.Said.{pieceAt}
 use Rattle.said.proofs.SaidLaws.{said-value}
 use Rattle.tables.specs.Written.{itemOf, itemsFor, writtenAt}
-use Rattle.below.specs.Below.{pairItems, Forward}
+use Rattle.says.specs.Says.{pairItems, Forward}
 
 pub keep-value : (starts ends : List ℕ) (k : Key) (v : Span) (n : ℕ) → n ≡ keyRow k .number → 33 ≤ length starts → 33 ≤ length ends → v .start ≤ v .end
     → (j : Key) → pieceAt (set starts n (v .start)) (set ends n (v .end)) j ≡ valueOr j (Known k v) (pieceAt starts ends j)

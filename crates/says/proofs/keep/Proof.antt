@@ -1,8 +1,8 @@
--- `below::says::keep` meets its contract. Assumes nothing.
-use Rattle.below.proofs.SayLaws.{keep-value}
+-- `says::keep` meets its contract. Assumes nothing.
+use Rattle.says.proofs.SayLaws.{keep-value}
 use borrow.Author.Needs.{needs}
-use Rattle.below.proofs.says.keep.Statement.{statement}
-use Rattle.below.proofs.says.keep.Tie as tie
+use Rattle.says.proofs.keep.Statement.{statement}
+use Rattle.says.proofs.keep.Tie as tie
 
 key-number-requires : tie.Need-key-number-requires
 key-number-requires c κs = search needs

@@ -1,4 +1,4 @@
--- `below::says::say` meets its contract. Assumes nothing.
+-- `says::say` meets its contract. Assumes nothing.
 use Prim.Native.Nat.{ℕ}
 use mathlib.Core.Path.{_≡_, refl}
 use mathlib.Core.Bool.{Bool, true, false}
@@ -15,11 +15,11 @@ use Rattle.script.specs.declared.roles.Saying.{Saying}
 use Rattle.script.specs.declared.roles.Saying.the-variants.{Known, Pair, NoColon, Unknown, NoPair, NoRaw}
 use Rattle.tables.specs.Written.{itemsFor}
 use Rattle.tables.proofs.WrittenLaws.{none-laws, none-count, none-written}
-use Rattle.below.specs.Below.{pairItems}
-use Rattle.below.proofs.SayLaws.{say-laws}
+use Rattle.says.specs.Says.{pairItems}
+use Rattle.says.proofs.SayLaws.{say-laws}
 use borrow.Author.Needs.{needs}
-use Rattle.below.proofs.says.say.Statement.{statement}
-use Rattle.below.proofs.says.say.Tie as tie
+use Rattle.says.proofs.say.Statement.{statement}
+use Rattle.says.proofs.say.Tie as tie
 
 -- the cases of the last arm
 abbrev others : List ℕ
