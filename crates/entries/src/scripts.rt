@@ -9,7 +9,7 @@ ghost use Rattle.entries.specs.Whole.{readingOf};
 use crate::entries::read_entries;
 use below::lines::read_lines;
 use kept::Kept;
-use records::preamble::preamble_of;
+use preamble_records::preamble_of;
 use script::records::Counts;
 use script::records::Entry;
 use script::records::Expectation;

@@ -130,22 +130,22 @@ pub fn call_of(
 {
     match openings::takes_of(op) {
         Takes::NoLines => line_call(text, op, args, i, z.items),
-        Takes::Options => OpCall::SetOptions(records::calls::options_of(
+        Takes::Options => OpCall::SetOptions(option_records::options_of(
             text,
             starts,
             ends,
             records::calls::range_of(i, z.items),
         )),
-        Takes::Garbage => records::calls::garbage_call(
+        Takes::Garbage => option_records::garbage_call(
             text,
             starts,
             ends,
             records::calls::range_of(i, z.items),
         ),
-        Takes::Verify => records::calls::verify_call(text, starts, ends),
-        Takes::Texts => records::calls::texts_call(i, b, z),
-        Takes::Store => records::calls::store_call(text, starts, ends, i, b, z),
-        Takes::Multiple => records::calls::multiple_call(text, starts, ends, b, z.first),
+        Takes::Verify => option_records::verify_call(text, starts, ends),
+        Takes::Texts => store_records::texts_call(i, b, z),
+        Takes::Store => store_records::store_call(text, starts, ends, i, b, z),
+        Takes::Multiple => store_records::multiple_call(text, starts, ends, b, z.first),
         Takes::FirstData => OpCall::AddBuildLog {
             path: matchers::matchers::place_of(args),
             data: records::calls::framed_of(text, starts, ends, b, z.first),

@@ -1,3 +1,2 @@
 pub mod CallLaws
-pub mod PreambleLaws
 pub mod RecordLaws

@@ -271,7 +271,7 @@ abbrev b22 : Syntax.Body
 b22 = Syntax.assign (Syntax.place 33 List.[]) (Syntax.aggregate (List._∷_ (Syntax.copy (Syntax.place 32 List.[])) (List._∷_ (Syntax.int Syntax.w64 33) List.[])))
 
 abbrev b23 : Syntax.Body
-b23 = Syntax.call "records::preamble::preamble_of" (List._∷_ (Syntax.copy (Syntax.place 1 List.[])) (List._∷_ (Syntax.copy (Syntax.place 31 List.[])) (List._∷_ (Syntax.copy (Syntax.place 33 List.[])) (List._∷_ (Syntax.copy (Syntax.place 11 (List._∷_ (Syntax.field 0) List.[]))) (List._∷_ (Syntax.copy (Syntax.place 11 (List._∷_ (Syntax.field 1) List.[]))) (List._∷_ (Syntax.copy (Syntax.place 10 (List._∷_ (Syntax.field 1) List.[]))) List.[])))))) (Syntax.place 12 List.[])
+b23 = Syntax.call "preamble_records::preamble_of" (List._∷_ (Syntax.copy (Syntax.place 1 List.[])) (List._∷_ (Syntax.copy (Syntax.place 31 List.[])) (List._∷_ (Syntax.copy (Syntax.place 33 List.[])) (List._∷_ (Syntax.copy (Syntax.place 11 (List._∷_ (Syntax.field 0) List.[]))) (List._∷_ (Syntax.copy (Syntax.place 11 (List._∷_ (Syntax.field 1) List.[]))) (List._∷_ (Syntax.copy (Syntax.place 10 (List._∷_ (Syntax.field 1) List.[]))) List.[])))))) (Syntax.place 12 List.[])
 
 abbrev b24 : Syntax.Body
 b24 = Syntax.assign (Syntax.place 13 List.[]) (Syntax.rvOpd (Syntax.copy (Syntax.place 10 (List._∷_ (Syntax.field 2) List.[]))))
@@ -1114,7 +1114,7 @@ module _ (claims· : Claims) where
   module _ (Pre· : (κs : Lifetimes.Lfts 6) → Kinds.Dens κs ps → Type 0) (Post· : (κs : Lifetimes.Lfts 6) → (a : Kinds.Dens κs ps) → Kinds.Plain 6 ps r κs) where
     module _ (M : Type 1) where
       abbrev pub Closed : Type 2
-      Closed = (𝓤 : URA.URA M) (H : Wp.Heap 𝓤) (A : Atoms.Atoms 𝓤) (W : Kit.Given 𝓤 H A) (𝓣 : Wp.Tables 𝓤 H) (known0 : Plain.Known 𝓤 H A W 𝓣 6 ps·0 r·0 (claims· .0) (claims· .1) "below::lines::read_lines") (known1 : Plain.Known 𝓤 H A W 𝓣 4 ps·1 r·1 (claims· .2) (claims· .3) "closing::front::put_front") (known2 : Plain.Known 𝓤 H A W 𝓣 3 ps·2 r·2 (claims· .4) (claims· .5) "records::preamble::preamble_of") (known3 : Plain.Known 𝓤 H A W 𝓣 6 ps·3 r·3 (claims· .6) (claims· .7) "entries::entries::read_entries") (known4 : Plain.Known 𝓤 H A W 𝓣 0 ps·4 r·4 (claims· .8) (claims· .9) "entries::scripts::script_of") → Statement.Triple 𝓤 (Wp.WpFn 𝓤 H (𝓣 .C) (𝓣 .Λ) (Function.fnOf 6 ps r xs m hs body)) (Function.plainOf 𝓤 H A 6 ps r Pre· Post·)
+      Closed = (𝓤 : URA.URA M) (H : Wp.Heap 𝓤) (A : Atoms.Atoms 𝓤) (W : Kit.Given 𝓤 H A) (𝓣 : Wp.Tables 𝓤 H) (known0 : Plain.Known 𝓤 H A W 𝓣 6 ps·0 r·0 (claims· .0) (claims· .1) "below::lines::read_lines") (known1 : Plain.Known 𝓤 H A W 𝓣 4 ps·1 r·1 (claims· .2) (claims· .3) "closing::front::put_front") (known2 : Plain.Known 𝓤 H A W 𝓣 3 ps·2 r·2 (claims· .4) (claims· .5) "preamble_records::preamble_of") (known3 : Plain.Known 𝓤 H A W 𝓣 6 ps·3 r·3 (claims· .6) (claims· .7) "entries::entries::read_entries") (known4 : Plain.Known 𝓤 H A W 𝓣 0 ps·4 r·4 (claims· .8) (claims· .9) "entries::scripts::script_of") → Statement.Triple 𝓤 (Wp.WpFn 𝓤 H (𝓣 .C) (𝓣 .Λ) (Function.fnOf 6 ps r xs m hs body)) (Function.plainOf 𝓤 H A 6 ps r Pre· Post·)
 
     module _ where
       abbrev at0 : (bs : List.List Nat.ℕ) → Typed.TF T109 O0
@@ -1449,7 +1449,7 @@ module _ (claims· : Claims) where
 
       module _ {M : Type 1} (𝓤 : URA.URA M) (H : Wp.Heap 𝓤) (A : Atoms.Atoms 𝓤) (W : Kit.Given 𝓤 H A) (𝓣 : Wp.Tables 𝓤 H) where
         abbrev Knowns : Type 1
-        Knowns = Plain.Known 𝓤 H A W 𝓣 6 ps·0 r·0 (claims· .0) (claims· .1) "below::lines::read_lines" × Plain.Known 𝓤 H A W 𝓣 4 ps·1 r·1 (claims· .2) (claims· .3) "closing::front::put_front" × Plain.Known 𝓤 H A W 𝓣 3 ps·2 r·2 (claims· .4) (claims· .5) "records::preamble::preamble_of" × Plain.Known 𝓤 H A W 𝓣 6 ps·3 r·3 (claims· .6) (claims· .7) "entries::entries::read_entries" × Plain.Known 𝓤 H A W 𝓣 0 ps·4 r·4 (claims· .8) (claims· .9) "entries::scripts::script_of"
+        Knowns = Plain.Known 𝓤 H A W 𝓣 6 ps·0 r·0 (claims· .0) (claims· .1) "below::lines::read_lines" × Plain.Known 𝓤 H A W 𝓣 4 ps·1 r·1 (claims· .2) (claims· .3) "closing::front::put_front" × Plain.Known 𝓤 H A W 𝓣 3 ps·2 r·2 (claims· .4) (claims· .5) "preamble_records::preamble_of" × Plain.Known 𝓤 H A W 𝓣 6 ps·3 r·3 (claims· .6) (claims· .7) "entries::entries::read_entries" × Plain.Known 𝓤 H A W 𝓣 0 ps·4 r·4 (claims· .8) (claims· .9) "entries::scripts::script_of"
 
       module _ (κs : Lifetimes.Lfts 6) (qs : Lifetimes.Shares 6) where
         abbrev g15 : List.List Row.Entry
@@ -1994,7 +1994,7 @@ module _ (claims· : Claims) where
           d47 = Typed.g-pre 𝓤 H A W 𝓣 E G62 G63 b48 Δ0 (Typed.pass T62 T63 (s61 bs)) (at46 bs) (RScalar.g-room 𝓤 H A W E G62 31 τ7 (SShared.room-sslice 𝓤 H A W (TReferent.rtF (TReferent.fInt Syntax.w64)) (Syntax.tyRef Syntax.erased Syntax.imm (Syntax.tyInt Syntax.w64)) 13)) d46
 
           d48 : Typed.Typed 𝓤 H A 𝓣 E G61 b49 Δ0 (at48 bs)
-          d48 = Typed.s-seq 𝓤 H A W 𝓣 E G61 G62 b23 b48 Δ0 (Typed.both (s60 bs)) (at47 bs) (Plain.t-call-plain 𝓤 H A W 𝓣 3 ps·2 r·2 (claims· .4) (claims· .5) "records::preamble::preamble_of" (known .2) E (λ pos β. β) G61 (record { pos = 1; ty = Syntax.tyRef (Syntax.named 0) Syntax.imm (Syntax.tyInt Syntax.w8); ref = λ x. x }, (record { pos = 31; ty = Syntax.tyRef Syntax.erased Syntax.imm (Syntax.tyInt Syntax.w64); ref = λ x. x }, (record { pos = 33; ty = Syntax.tyRef Syntax.erased Syntax.imm (Syntax.tyInt Syntax.w64); ref = λ x. x }, (Num.vFld 11 (List._∷_ (Syntax.field 0) List.[]) 0 λ x. Fronts.struct .as-values x .0, (Num.vFld 11 (List._∷_ (Syntax.field 1) List.[]) 8 λ x. Fronts.struct .as-values x .1 .0, (Num.vFld 10 (List._∷_ (Syntax.field 1) List.[]) 8 λ x. Below.struct .as-values x .1 .0, tt)))))) 12 (List._∷_ 0 (List._∷_ 13 (List._∷_ 14 List.[]))) (Call.sub-id 𝓤 H A W (G61 .slots)) (ShrSlice.spares-sslice 𝓤 H A W (TReferent.rtF (TReferent.fInt Syntax.w8)) (Syntax.tyRef (Syntax.named 0) Syntax.imm (Syntax.tyInt Syntax.w8)) 0, SShared.reads-sslice 𝓤 H A W (TReferent.rtF (TReferent.fInt Syntax.w8)) (Syntax.tyRef (Syntax.named 0) Syntax.imm (Syntax.tyInt Syntax.w8)) 0, Path'.refl, (ShrSlice.spares-sslice 𝓤 H A W (TReferent.rtF (TReferent.fInt Syntax.w64)) (Syntax.tyRef Syntax.erased Syntax.imm (Syntax.tyInt Syntax.w64)) 13, SShared.reads-sslice 𝓤 H A W (TReferent.rtF (TReferent.fInt Syntax.w64)) (Syntax.tyRef Syntax.erased Syntax.imm (Syntax.tyInt Syntax.w64)) 13, Path'.refl, (ShrSlice.spares-sslice 𝓤 H A W (TReferent.rtF (TReferent.fInt Syntax.w64)) (Syntax.tyRef Syntax.erased Syntax.imm (Syntax.tyInt Syntax.w64)) 14, SShared.reads-sslice 𝓤 H A W (TReferent.rtF (TReferent.fInt Syntax.w64)) (Syntax.tyRef Syntax.erased Syntax.imm (Syntax.tyInt Syntax.w64)) 14, Path'.refl, ((Reads.reads-field 𝓤 H A W Fronts.the-type Laws''.the-laws 0 (Syntax.tyInt Syntax.w64) 0 Path'.refl, Path'.refl), ((Reads.reads-field 𝓤 H A W Fronts.the-type Laws''.the-laws 1 (Syntax.tyInt Syntax.w64) 8 Path'.refl, Path'.refl), ((Reads.reads-field 𝓤 H A W Below.the-type Laws.the-laws 1 (Syntax.tyInt Syntax.w64) 8 Path'.refl, Path'.refl), tt)))))) (Reads'.room-gone 𝓤 H A τ2) (tt, (tt, (tt, tt))) Path'.refl) d47
+          d48 = Typed.s-seq 𝓤 H A W 𝓣 E G61 G62 b23 b48 Δ0 (Typed.both (s60 bs)) (at47 bs) (Plain.t-call-plain 𝓤 H A W 𝓣 3 ps·2 r·2 (claims· .4) (claims· .5) "preamble_records::preamble_of" (known .2) E (λ pos β. β) G61 (record { pos = 1; ty = Syntax.tyRef (Syntax.named 0) Syntax.imm (Syntax.tyInt Syntax.w8); ref = λ x. x }, (record { pos = 31; ty = Syntax.tyRef Syntax.erased Syntax.imm (Syntax.tyInt Syntax.w64); ref = λ x. x }, (record { pos = 33; ty = Syntax.tyRef Syntax.erased Syntax.imm (Syntax.tyInt Syntax.w64); ref = λ x. x }, (Num.vFld 11 (List._∷_ (Syntax.field 0) List.[]) 0 λ x. Fronts.struct .as-values x .0, (Num.vFld 11 (List._∷_ (Syntax.field 1) List.[]) 8 λ x. Fronts.struct .as-values x .1 .0, (Num.vFld 10 (List._∷_ (Syntax.field 1) List.[]) 8 λ x. Below.struct .as-values x .1 .0, tt)))))) 12 (List._∷_ 0 (List._∷_ 13 (List._∷_ 14 List.[]))) (Call.sub-id 𝓤 H A W (G61 .slots)) (ShrSlice.spares-sslice 𝓤 H A W (TReferent.rtF (TReferent.fInt Syntax.w8)) (Syntax.tyRef (Syntax.named 0) Syntax.imm (Syntax.tyInt Syntax.w8)) 0, SShared.reads-sslice 𝓤 H A W (TReferent.rtF (TReferent.fInt Syntax.w8)) (Syntax.tyRef (Syntax.named 0) Syntax.imm (Syntax.tyInt Syntax.w8)) 0, Path'.refl, (ShrSlice.spares-sslice 𝓤 H A W (TReferent.rtF (TReferent.fInt Syntax.w64)) (Syntax.tyRef Syntax.erased Syntax.imm (Syntax.tyInt Syntax.w64)) 13, SShared.reads-sslice 𝓤 H A W (TReferent.rtF (TReferent.fInt Syntax.w64)) (Syntax.tyRef Syntax.erased Syntax.imm (Syntax.tyInt Syntax.w64)) 13, Path'.refl, (ShrSlice.spares-sslice 𝓤 H A W (TReferent.rtF (TReferent.fInt Syntax.w64)) (Syntax.tyRef Syntax.erased Syntax.imm (Syntax.tyInt Syntax.w64)) 14, SShared.reads-sslice 𝓤 H A W (TReferent.rtF (TReferent.fInt Syntax.w64)) (Syntax.tyRef Syntax.erased Syntax.imm (Syntax.tyInt Syntax.w64)) 14, Path'.refl, ((Reads.reads-field 𝓤 H A W Fronts.the-type Laws''.the-laws 0 (Syntax.tyInt Syntax.w64) 0 Path'.refl, Path'.refl), ((Reads.reads-field 𝓤 H A W Fronts.the-type Laws''.the-laws 1 (Syntax.tyInt Syntax.w64) 8 Path'.refl, Path'.refl), ((Reads.reads-field 𝓤 H A W Below.the-type Laws.the-laws 1 (Syntax.tyInt Syntax.w64) 8 Path'.refl, Path'.refl), tt)))))) (Reads'.room-gone 𝓤 H A τ2) (tt, (tt, (tt, tt))) Path'.refl) d47
 
           d49 : Typed.Typed 𝓤 H A 𝓣 E G60 b50 Δ0 (at49 bs)
           d49 = Typed.s-seq 𝓤 H A W 𝓣 E G60 G61 b22 b49 Δ0 (Typed.ask (s59 bs)) (at48 bs) (Relend.t-sl-aggregate 𝓤 H A W E (TReferent.rtF (TReferent.fInt Syntax.w64)) 𝓣 (Relend.asShr (TReferent.rtF (TReferent.fInt Syntax.w64))) G60 32 33 14 (Syntax.tyRef Syntax.erased Syntax.imm (Syntax.tyArray (Syntax.tyInt Syntax.w64) 33)) (Syntax.tyRef Syntax.erased Syntax.imm (Syntax.tyInt Syntax.w64)) (λ x. x) (RScalar.oInt Syntax.w64 33) (Reads'.as-is 𝓤 H A (Relend.ssptr (TReferent.rtF (TReferent.fInt Syntax.w64)) (Syntax.tyRef Syntax.erased Syntax.imm (Syntax.tyArray (Syntax.tyInt Syntax.w64) 33)) 14)) (Reads'.room-gone 𝓤 H A τ7) tt Path'.refl Path'.refl λ b o k. tt) d48
@@ -2749,6 +2749,6 @@ module _ (claims· : Claims) where
           pub asked : (a : Kinds.Dens κs ps) → (good : Kinds.GoodsP κs ps a) → (pre : Pre· κs a) → (bs : List.List Nat.ℕ) → Φ bs (Any.wantQ 6 ps r xs m κs qs a (Post· κs a)) (Function.init 6 ps r xs m κs qs a)
           asked = λ a good pre bs. laid record { κs = κs; args = record { text = a .0; kept = a .1 .0; counts = a .1 .1 .0; entries = a .1 .1 .1 .0; items = a .1 .1 .1 .1 .0; expectations = a .1 .1 .1 .1 .1 .0; store = a .1 .1 .1 .1 .1 .1 .0 }; blocks = bs; good = good; pre = pre }
 
-        module _ {M : Type 1} (𝓤 : URA.URA M) (H : Wp.Heap 𝓤) (A : Atoms.Atoms 𝓤) (W : Kit.Given 𝓤 H A) (𝓣 : Wp.Tables 𝓤 H) (known0 : Plain.Known 𝓤 H A W 𝓣 6 ps·0 r·0 (claims· .0) (claims· .1) "below::lines::read_lines") (known1 : Plain.Known 𝓤 H A W 𝓣 4 ps·1 r·1 (claims· .2) (claims· .3) "closing::front::put_front") (known2 : Plain.Known 𝓤 H A W 𝓣 3 ps·2 r·2 (claims· .4) (claims· .5) "records::preamble::preamble_of") (known3 : Plain.Known 𝓤 H A W 𝓣 6 ps·3 r·3 (claims· .6) (claims· .7) "entries::entries::read_entries") (known4 : Plain.Known 𝓤 H A W 𝓣 0 ps·4 r·4 (claims· .8) (claims· .9) "entries::scripts::script_of") where
+        module _ {M : Type 1} (𝓤 : URA.URA M) (H : Wp.Heap 𝓤) (A : Atoms.Atoms 𝓤) (W : Kit.Given 𝓤 H A) (𝓣 : Wp.Tables 𝓤 H) (known0 : Plain.Known 𝓤 H A W 𝓣 6 ps·0 r·0 (claims· .0) (claims· .1) "below::lines::read_lines") (known1 : Plain.Known 𝓤 H A W 𝓣 4 ps·1 r·1 (claims· .2) (claims· .3) "closing::front::put_front") (known2 : Plain.Known 𝓤 H A W 𝓣 3 ps·2 r·2 (claims· .4) (claims· .5) "preamble_records::preamble_of") (known3 : Plain.Known 𝓤 H A W 𝓣 6 ps·3 r·3 (claims· .6) (claims· .7) "entries::entries::read_entries") (known4 : Plain.Known 𝓤 H A W 𝓣 0 ps·4 r·4 (claims· .8) (claims· .9) "entries::scripts::script_of") where
           pub spec : Statement.Triple 𝓤 (Wp.WpFn 𝓤 H (𝓣 .C) (𝓣 .Λ) (Function.fnOf 6 ps r xs m hs body)) (Function.plainOf 𝓤 H A 6 ps r Pre· Post·)
           spec = Plain.t-fn-plain 𝓤 H A W 𝓣 6 ps r xs m hs body (λ κs qs bs. Φ bs) (λ κs qs bs bd. typed κs qs 𝓤 H A W 𝓣 (known0, known1, known2, known3, known4) bs bd) Pre· Post· asked

@@ -18,9 +18,9 @@ use Rattle.entries.proofs.scripts.read_script.Statement
 use Rattle.entries.proofs.scripts.script_of.Met as Met'3
 use Rattle.entries.proofs.scripts.script_of.Reads as Reads'4
 use Rattle.entries.proofs.scripts.script_of.Symbol as Symbol'3
-use Rattle.records.proofs.preamble.preamble_of.Met as Met'4
-use Rattle.records.proofs.preamble.preamble_of.Reads as Reads'5
-use Rattle.records.proofs.preamble.preamble_of.Symbol as Symbol'4
+use Rattle.preamble_records.proofs.preamble_of.Met as Met'4
+use Rattle.preamble_records.proofs.preamble_of.Reads as Reads'5
+use Rattle.preamble_records.proofs.preamble_of.Symbol as Symbol'4
 use borrow.Fn.Run
 use borrow.Fn.Written
 use contract.Running
@@ -178,4 +178,4 @@ module _ {M : Type 1} where
 
   pub close : Lts.Closed (Reads.Asked, Reads.Learnt, Reads'.Asked, Reads'.Learnt, Reads'5.Asked, Reads'5.Learnt, Reads''.Asked, Reads''.Learnt, Reads'4.Asked, Reads'4.Learnt) Reads'3.Pre Reads'3.Post M → Statement.statement M
   unfolding Code.routine Running.tablesOf
-  close = λ closed 𝓤 H 𝓜 𝓖 𝓡. Written.close 6 Kinds.ps Kinds.r Reads'3.Ghost Reads'3.requires Reads'3.ensures Reads'3.pre-read Reads'3.Pinned Reads'3.Owned Reads'3.post-read record { M = M; 𝓤 = 𝓤; H = H; 𝓜 = 𝓜; 𝓖 = 𝓖; 𝓡 = 𝓡 } Code.env Key.name Code.function (Code.unfolded 𝓤 H 𝓜 𝓡) (λ κs a g. tt) (λ κs. Reads'3.owns κs record { M = M; 𝓤 = 𝓤; H = H; 𝓜 = 𝓜; 𝓖 = 𝓖; 𝓡 = 𝓡 }) (Reads'3.passes record { M = M; 𝓤 = 𝓤; H = H; 𝓜 = 𝓜; 𝓖 = 𝓖; 𝓡 = 𝓡 }) λ g. closed 𝓤 H (𝓖 .A) (Running.givenOf 𝓤 H 𝓜 𝓖) (Run.Over 𝓤 H 𝓜 𝓖 𝓡 Code.env) (Reads.known record { M = M; 𝓤 = 𝓤; H = H; 𝓜 = 𝓜; 𝓖 = 𝓖; 𝓡 = 𝓡 } Code.env Symbol.name Symbol.routine Code.calls-below·lines·read-lines (Met.met 𝓤 H 𝓜 𝓖 𝓡)) (Reads'.known record { M = M; 𝓤 = 𝓤; H = H; 𝓜 = 𝓜; 𝓖 = 𝓖; 𝓡 = 𝓡 } Code.env Symbol'.name Symbol'.routine Code.calls-closing·front·put-front (Met'.met 𝓤 H 𝓜 𝓖 𝓡)) (Reads'5.known record { M = M; 𝓤 = 𝓤; H = H; 𝓜 = 𝓜; 𝓖 = 𝓖; 𝓡 = 𝓡 } Code.env Symbol'4.name Symbol'4.routine Code.calls-records·preamble·preamble-of (Met'4.met 𝓤 H 𝓜 𝓖 𝓡)) (Reads''.known record { M = M; 𝓤 = 𝓤; H = H; 𝓜 = 𝓜; 𝓖 = 𝓖; 𝓡 = 𝓡 } Code.env Symbol''.name Symbol''.routine Code.calls-entries·entries·read-entries (Met''.met 𝓤 H 𝓜 𝓖 𝓡)) (Reads'4.known record { M = M; 𝓤 = 𝓤; H = H; 𝓜 = 𝓜; 𝓖 = 𝓖; 𝓡 = 𝓡 } Code.env Symbol'3.name Symbol'3.routine Code.calls-entries·scripts·script-of (Met'3.met 𝓤 H 𝓜 𝓖 𝓡))
+  close = λ closed 𝓤 H 𝓜 𝓖 𝓡. Written.close 6 Kinds.ps Kinds.r Reads'3.Ghost Reads'3.requires Reads'3.ensures Reads'3.pre-read Reads'3.Pinned Reads'3.Owned Reads'3.post-read record { M = M; 𝓤 = 𝓤; H = H; 𝓜 = 𝓜; 𝓖 = 𝓖; 𝓡 = 𝓡 } Code.env Key.name Code.function (Code.unfolded 𝓤 H 𝓜 𝓡) (λ κs a g. tt) (λ κs. Reads'3.owns κs record { M = M; 𝓤 = 𝓤; H = H; 𝓜 = 𝓜; 𝓖 = 𝓖; 𝓡 = 𝓡 }) (Reads'3.passes record { M = M; 𝓤 = 𝓤; H = H; 𝓜 = 𝓜; 𝓖 = 𝓖; 𝓡 = 𝓡 }) λ g. closed 𝓤 H (𝓖 .A) (Running.givenOf 𝓤 H 𝓜 𝓖) (Run.Over 𝓤 H 𝓜 𝓖 𝓡 Code.env) (Reads.known record { M = M; 𝓤 = 𝓤; H = H; 𝓜 = 𝓜; 𝓖 = 𝓖; 𝓡 = 𝓡 } Code.env Symbol.name Symbol.routine Code.calls-below·lines·read-lines (Met.met 𝓤 H 𝓜 𝓖 𝓡)) (Reads'.known record { M = M; 𝓤 = 𝓤; H = H; 𝓜 = 𝓜; 𝓖 = 𝓖; 𝓡 = 𝓡 } Code.env Symbol'.name Symbol'.routine Code.calls-closing·front·put-front (Met'.met 𝓤 H 𝓜 𝓖 𝓡)) (Reads'5.known record { M = M; 𝓤 = 𝓤; H = H; 𝓜 = 𝓜; 𝓖 = 𝓖; 𝓡 = 𝓡 } Code.env Symbol'4.name Symbol'4.routine Code.calls-preamble-records·preamble-of (Met'4.met 𝓤 H 𝓜 𝓖 𝓡)) (Reads''.known record { M = M; 𝓤 = 𝓤; H = H; 𝓜 = 𝓜; 𝓖 = 𝓖; 𝓡 = 𝓡 } Code.env Symbol''.name Symbol''.routine Code.calls-entries·entries·read-entries (Met''.met 𝓤 H 𝓜 𝓖 𝓡)) (Reads'4.known record { M = M; 𝓤 = 𝓤; H = H; 𝓜 = 𝓜; 𝓖 = 𝓖; 𝓡 = 𝓡 } Code.env Symbol'3.name Symbol'3.routine Code.calls-entries·scripts·script-of (Met'3.met 𝓤 H 𝓜 𝓖 𝓡))

@@ -1,0 +1,21 @@
+-- `option_records::garbage_call` meets its contract. Assumes nothing.
+use Rattle.records.proofs.CallLaws.{block-laws}
+use borrow.Author.Needs.{needs}
+use Rattle.option_records.proofs.garbage_call.Statement.{statement}
+use Rattle.option_records.proofs.garbage_call.Tie as tie
+
+number-of-requires : tie.Need-number-of-requires
+number-of-requires c κs = search needs
+
+number-of-requires-2 : tie.Need-number-of-requires-2
+number-of-requires-2 c κs = search needs
+
+number-of-requires-3 : tie.Need-number-of-requires-3
+number-of-requires-3 c κs = search needs
+
+returns : tie.Need-returns
+returns c = search (needs, block-laws)
+
+pub garbage-call-spec : {M : Type 1} → statement M
+garbage-call-spec =
+    tie.close (tie.spec number-of-requires number-of-requires-2 number-of-requires-3 returns)

@@ -1,0 +1,42 @@
+-- `store_records::store_call` meets its contract. Assumes nothing.
+use Rattle.records.proofs.CallLaws.{block-laws}
+use borrow.Author.Needs.{needs}
+use Rattle.store_records.proofs.store_call.Statement.{statement}
+use Rattle.store_records.proofs.store_call.Tie as tie
+
+add-second : tie.Need-add-second
+add-second c = search needs
+
+add-third : tie.Need-add-third
+add-third c = search needs
+
+placed-requires : tie.Need-placed-requires
+placed-requires c κs = search needs
+
+placed-requires-2 : tie.Need-placed-requires-2
+placed-requires-2 c κs = search needs
+
+range-of-requires : tie.Need-range-of-requires
+range-of-requires c κs = search needs
+
+flag-of-requires : tie.Need-flag-of-requires
+flag-of-requires c κs = search needs
+
+framed-of-requires : tie.Need-framed-of-requires
+framed-of-requires c κs = search needs
+
+returns : tie.Need-returns
+returns c = search (needs, block-laws)
+
+pub store-call-spec : {M : Type 1} → statement M
+store-call-spec =
+    tie.close
+    (tie.spec
+    add-second
+    add-third
+    placed-requires
+    placed-requires-2
+    range-of-requires
+    flag-of-requires
+    framed-of-requires
+    returns)
