@@ -34,25 +34,33 @@ module _ (first last reach : ℕ) (s : List ℕ) where
   apart-none i k l h e f = omega arith
 
   -- a place more
-  pub apart-more : (i j m seen u : ℕ) → m ≡ j + 1 → u ≡ oneIfBoth first last (getD s j 0) (getD s (j + reach) 0)
-      → (seen ≡ 0 → Apart first last reach s i j) → bitOr seen u ≡ 0 → Apart first last reach s i m
+  pub apart-place : (i j u : ℕ) → Apart first last reach s i j → u ≡ oneIfBoth first last (getD s j 0) (getD s (j + reach) 0) → (u ≡ 1 → ⊥) → Apart first last reach s i (j + 1)
   unfolding Apart
-  apart-more i j m seen u n q p z k l h e f = go (eqb k j) refl
+  apart-place i j u p q n k l h e f = go (eqb k j) refl
     where
       go : (t : Bool) → eqb k j ≡ t → ⊥
-      go true t =
-          let o = both-are first last (getD s j 0) (getD s (j + reach) 0) (rw (← eqb-true k j t) e) (rw (← eqb-true k j t) f) in
-          omega (arith, or-none seen u z)
-      go false t = p (or-none seen u z .0) k l (let d = eqb-false k j t in omega arith) e f
+      go true t = n (q ∙ sym (both-are first last (getD s j 0) (getD s (j + reach) 0) (rw (← eqb-true k j t) e) (rw (← eqb-true k j t) f)))
+      go false t = p k l (let d = eqb-false k j t in omega arith) e f
 
-  -- one stretch after the other, which a call has found
-  pub apart-on : (at i j : ℕ) (r : Bool) → Apart first last reach s at i → (r ≡ true → Apart first last reach s i j) → r ≡ true → Apart first last reach s at j
+  -- and one that is looked at with others
+  pub apart-more : (i j m seen u : ℕ) → m ≡ j + 1 → u ≡ oneIfBoth first last (getD s j 0) (getD s (j + reach) 0)
+      → (seen ≡ 0 → Apart first last reach s i j) → bitOr seen u ≡ 0 → Apart first last reach s i m
+  apart-more i j m seen u n q p z =
+      let o = or-none seen u z in
+      rw n (apart-place i j u (p (o .0)) q (λ d. omega (arith, o .1)))
+
+  -- one stretch after the other
+  pub apart-then : (at i j : ℕ) → Apart first last reach s at i → Apart first last reach s i j → Apart first last reach s at j
   unfolding Apart
-  apart-on at i j r p q t k l h e f = go (leb i k) refl
+  apart-then at i j p q k l h e f = go (leb i k) refl
     where
       go : (m : Bool) → leb i k ≡ m → ⊥
-      go true m = q t k (leb-true i k m) h e f
+      go true m = q k (leb-true i k m) h e f
       go false m = p k l (leb-false i k m) e f
+
+  -- and where a call has found the other
+  pub apart-on : (at i j : ℕ) (r : Bool) → Apart first last reach s at i → (r ≡ true → Apart first last reach s i j) → r ≡ true → Apart first last reach s at j
+  apart-on at i j r p q t = apart-then at i j p (q t)
 
 pub ruleset apart-steps = (both-are, last-isnt, first-isnt, apart-none, apart-on)
 

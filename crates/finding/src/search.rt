@@ -33,8 +33,8 @@ fn apart(s: &[u8], first: u8, last: u8, reach: usize, at: usize) -> bool
     seen == 0
 }
 
-// A place up to which first, with last `reach` bytes behind it, does not stand from `at` on.
-fn skip_apart(s: &[u8], first: u8, last: u8, reach: usize, at: usize) -> usize
+// A place up to which first, with last `reach` bytes behind it, does not stand from `at` on: sixteen places at a time.
+fn skip_sixteens(s: &[u8], first: u8, last: u8, reach: usize, at: usize) -> usize
     requires { ⌜ at + reach ≤ length (now s) ⌝ }
     ensures { λ r. ⌜ at ≤ r ⌝ }
     ensures { λ r. ⌜ r + reach ≤ length (now (s .entry)) ⌝ }
@@ -51,7 +51,35 @@ fn skip_apart(s: &[u8], first: u8, last: u8, reach: usize, at: usize) -> usize
     i
 }
 
-// Whether the bytes of the pattern stand somewhere in the value. Only places where its first and its last byte may stand are tried.
+// The same, place by place.
+fn skip_places(s: &[u8], first: u8, last: u8, reach: usize, at: usize) -> usize
+    requires { ⌜ at + reach ≤ length (now s) ⌝ }
+    ensures { λ r. ⌜ at ≤ r ⌝ }
+    ensures { λ r. ⌜ r + reach ≤ length (now (s .entry)) ⌝ }
+    ensures { λ r. ⌜ Apart first last reach (now (s .entry)) at r ⌝ }
+{
+    let mut i = at;
+    while i + reach < s.len() {
+        if one_if_both(first, last, s[i], s[i + reach]) == 1 {
+            return i;
+        }
+        i += 1;
+    }
+    i
+}
+
+// The same. Where sixteen places cannot be passed by together, each is looked at by itself: the caller would try the whole pattern there.
+fn skip_apart(s: &[u8], first: u8, last: u8, reach: usize, at: usize) -> usize
+    requires { ⌜ at + reach ≤ length (now s) ⌝ }
+    ensures { λ r. ⌜ at ≤ r ⌝ }
+    ensures { λ r. ⌜ r + reach ≤ length (now (s .entry)) ⌝ }
+    ensures { λ r. ⌜ Apart first last reach (now (s .entry)) at r ⌝ }
+{
+    let far = skip_sixteens(s, first, last, reach, at);
+    skip_places(s, first, last, reach, far)
+}
+
+// Whether the bytes of the pattern stand somewhere in the value. Only places where its first and its last byte stand are tried.
 pub fn contains(value: &[u8], pattern: &[u8]) -> bool
     ensures { λ r. ⌜ r ≡ decisions.contains (now (pattern .entry)) (now (value .entry)) ⌝ }
 {
