@@ -3,14 +3,13 @@ use Prim.Native.Nat.{ℕ, _+_, _/_, _%_, _^_, _≤_, _<_}
 use mathlib.Core.Path.{_≡_, refl, sym, ap, _∙_}
 use mathlib.Core.List.{List, [], _∷_, _++_}
 use native.Mathlib.Nat.{zero-add}
-use native.Mathlib.Numerals.{add-one}
 use native.Mathlib.Omega.{arith}
-use lib.ListN.{length, take, drop, getD, set, length-append, length-set}
-use lib.Seq.{take-suc, take-all, take-append-seam, length-take-le}
+use lib.ListN.{length, take, drop, set, length-append, length-set}
+use lib.Seq.{take-append-seam}
 use borrow.Author.Tests.{le-leb}
 use Rattle.text.specs.Base.{overlaid}
 use Rattle.tables.specs.Written.{writtenAt}
-use Rattle.tables.proofs.WrittenLaws.{written-none, written-one, written-more, written-twice, written-length}
+use Rattle.tables.proofs.WrittenLaws.{written-none, written-one, written-twice, written-length}
 use Rattle.values.specs.Decimal.{decimal}
 use Rattle.writing.proofs.DecimalLaws.{decimal-small, decimal-more, digits-one, digits-longer, decimal-length}
 
@@ -104,26 +103,6 @@ module _ (at : ℕ) (all t u : List ℕ) (next : ℕ) (left : List ℕ) (o : Owi
           ∙ ap (λ (ys : List ℕ). writtenAt next ys u) (sym e)
           ∙ o .same;
     }
-
--- ---- a word, byte by byte
-
-module _ (at i : ℕ) (w t u : List ℕ) (room : at + length w ≤ length t) (e : u ≡ writtenAt at (take i w) t) where
-  pub word-more : i < length w → set u (at + i) (getD w i 0) ≡ writtenAt at (take (i + 1) w) t
-  word-more h =
-      let l = length-take-le i w (omega arith) in
-      let s : take (i + 1) w ≡ take i w ++ (getD w i 0 ∷ []) = ap (λ (k : ℕ). take k w) (add-one i) ∙ take-suc w i 0 h in
-      ap (λ (v : List ℕ). set v (at + i) (getD w i 0)) e
-      ∙ ap (λ (k : ℕ). set (writtenAt at (take i w) t) (at + k) (getD w i 0)) (sym l)
-      ∙ sym (written-more at (take i w) (getD w i 0) t (omega arith))
-      ∙ ap (λ (xs : List ℕ). writtenAt at xs t) (sym s)
-
-  pub word-all : length w ≤ i → u ≡ writtenAt at w t
-  word-all k = e ∙ ap (λ (xs : List ℕ). writtenAt at xs t) (take-all i w k)
-
-pub word-begun : (at : ℕ) (w t : List ℕ) → at + length w ≤ length t → t ≡ writtenAt at (take 0 w) t
-word-begun at w t h = sym (written-none at t (omega arith))
-
-pub ruleset word-laws = (word-begun, word-more, word-all)
 
 -- ---- a number
 

@@ -7,19 +7,30 @@ ghost use Rattle.tables.specs.Written.{writtenAt};
 ghost use Rattle.values.specs.Decimal.{decimal};
 ghost use Rattle.writing.specs.Room.{numberRoom};
 use crate::decimal::put_decimal;
+use blocks::put_blocks;
+use blocks::put_bytes;
+use blocks::put_eights;
+use blocks::put_wides;
 
-// Writes a word.
+// Writes a word, many bytes at a time where it has as many. One of 32 to 64 bytes, as a store path has, takes no loop.
 pub fn put_word(word: &[u8], out: &mut [u8], at: usize) -> usize
     requires { ⌜ at + length (now word) ≤ length (now out) ⌝ }
     ensures { λ r. ⌜ r ≡ at + length (now (word .entry)) ⌝ }
     ensures { λ _. ⌜ now (out .exit) ≡ writtenAt at (now (word .entry)) (now (out .entry)) ⌝ }
 {
-    let mut i: usize = 0;
-    while i < word.len() {
-        out[at + i] = word[i];
-        i += 1;
+    let n = word.len();
+    if n < 8 {
+        return put_bytes(word, out, at);
     }
-    at + i
+    if n < 16 {
+        return put_eights(word, out, at);
+    }
+    if 32 <= n {
+        if n <= 64 {
+            return put_wides(word, out, at);
+        }
+    }
+    put_blocks(word, out, at)
 }
 
 // Writes a word and a number behind it.

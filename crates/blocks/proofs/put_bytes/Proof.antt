@@ -1,13 +1,13 @@
--- `writing::words::put_word` meets its contract. The loop's invariant: the bytes passed are written. The measure is what is left of the word.
+-- `blocks::put_bytes` meets its contract. The loop's invariant: the bytes passed are written. The measure is what is left of the word.
 -- Assumes nothing.
 use Prim.Native.Nat.{_-_, _≤_}
 use mathlib.Core.Path.{_≡_}
 use lib.ListN.{length, take}
 use borrow.Author.Needs.{needs}
 use Rattle.tables.specs.Written.{writtenAt}
-use Rattle.writing.proofs.PutLaws.{word-laws}
-use Rattle.writing.proofs.words.put_word.Statement.{statement}
-use Rattle.writing.proofs.words.put_word.Tie as tie
+use Rattle.blocks.proofs.BlockLaws.{word-laws}
+use Rattle.blocks.proofs.put_bytes.Statement.{statement}
+use Rattle.blocks.proofs.put_bytes.Tie as tie
 
 abbrev Inv-loop : tie.InvT-loop
 Inv-loop word out₀ at i₀ out i = (i ≤ length word) × (length out ≡ length out₀) × (out ≡ writtenAt at (take i word) out₀)
@@ -45,8 +45,8 @@ same-length c = search needs
 returns : tie.Need-returns Inv-loop μ-loop
 returns c = search (needs, word-laws)
 
-pub put-word-spec : {M : Type 1} → statement M
-put-word-spec =
+pub put-bytes-spec : {M : Type 1} → statement M
+put-bytes-spec =
     tie.close
     (tie.spec
     Inv-loop
