@@ -26,7 +26,7 @@ joined-behind x (y ∷ ys) =
     ∙ append-assoc x (utf8 ", ") (y ++ behind ys)
     ∙ ap (λ (l : List ℕ). x ++ l) (sym (append-assoc (utf8 ", ") y (behind ys)))
 
-comma-length : (x later : List ℕ) → length (utf8 ", " ++ x ++ later) ≡ 2 + (length x + length later)
+comma-length : (x later : List ℕ) → length (utf8 ", " ++ x ++ later) ≡ 2 + length x + length later
 unfolding utf8 encoded
 comma-length x later = let e = length-append x later in omega arith
 
@@ -71,17 +71,12 @@ module _ (bytes : List ℕ) (items : List (List ℕ)) where
   pub room-none : (r whole : Room) (i : ℕ) → length items ≤ i → lessBy r (length (rest i)) ≡ whole → r ≡ whole
   room-none r whole i h e = sym (less-none r) ∙ ap (λ (xs : List ℕ). lessBy r (length xs)) (sym (rest-none i h)) ∙ e
 
-  pub room-more : (r a b whole : Room) (x : List ℕ) (i : ℕ) → i < length items → x ≡ textOf i → a ≡ lessBy r 2 → b ≡ lessBy a (length x) → lessBy r (length (rest i)) ≡ whole
+  pub room-more : (r b whole : Room) (x : List ℕ) (i : ℕ) → i < length items → x ≡ textOf i → b ≡ lessBy r (2 + length x) → lessBy r (length (rest i)) ≡ whole
       → lessBy b (length (rest (i + 1))) ≡ whole
-  room-more r a b whole x i h k p q e =
-      let n = length x in
+  room-more r b whole x i h k q e =
       let m = length (rest (i + 1)) in
-      let l : length (rest i) ≡ 2 + (n + m) = ap length (rest-more i h) ∙ comma-length (textOf i) (rest (i + 1)) ∙ ap (λ (y : List ℕ). 2 + (length y + m)) (sym k) in
-      ap (λ (z : Room). lessBy z m) (q ∙ ap (λ (y : Room). lessBy y n) p)
-      ∙ less-more (lessBy r 2) n m
-      ∙ less-more r 2 (n + m)
-      ∙ ap (lessBy r) (sym l)
-      ∙ e
+      let l : length (rest i) ≡ 2 + length x + m = ap length (rest-more i h) ∙ comma-length (textOf i) (rest (i + 1)) ∙ ap (λ (y : List ℕ). 2 + length y + m) (sym k) in
+      ap (λ (z : Room). lessBy z m) q ∙ less-more r (2 + length x) m ∙ ap (lessBy r) (sym l) ∙ e
 
   pub joined-room-none : (r : Room) → length items ≤ 0 → r ≡ lessBy r (length (joined (itemTexts bytes items)))
   joined-room-none r h = sym (less-none r) ∙ ap (λ (xs : List ℕ). lessBy r (length xs)) (sym (joined-none h))

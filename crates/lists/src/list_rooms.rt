@@ -17,7 +17,7 @@ fn rest_room(bytes: &[u8], items: &[[usize; 2]], room: Room) -> Room
     while i < items.len() {
         let item = items[i];
         let text = part_of(bytes, item[0], item[1]);
-        left = less(less(left, 2), text.len());
+        left = less(left, 2 + text.len());
         i += 1;
     }
     left

@@ -34,11 +34,11 @@ array-read-part-of-2 c = search needs
 part-of-requires : tie.Need-part-of-requires Inv-loop μ-loop
 part-of-requires c κs = search needs
 
+add-less : tie.Need-add-less Inv-loop μ-loop
+add-less c = search needs
+
 less-requires : tie.Need-less-requires Inv-loop μ-loop
 less-requires c κs = search needs
-
-less-requires-2 : tie.Need-less-requires-2 Inv-loop μ-loop
-less-requires-2 c κs = search needs
 
 add-i : tie.Need-add-i Inv-loop μ-loop
 add-i c = search needs
@@ -49,9 +49,9 @@ loop-less c = search needs
 loop-again : tie.Need-loop-again Inv-loop μ-loop
 unfolding itemText
 loop-again c =
-    let L = c .before .before .before .before .before in
-    let A = c .before .before .before .before .before .before .before .args in
-    room-more (A .bytes .now) (A .items .now) (L .loop .left) (c .before .less .result) (c .less2 .result) _ _ (L .loop .i) (search needs) (c .before .before .part-of .ensures) (c .before .less .ensures) (c .less2 .ensures) (L .loop .inv)
+    let L = c .before .before .before .before in
+    let A = c .before .before .before .before .before .before .args in
+    room-more (A .bytes .now) (A .items .now) (L .loop .left) (c .less .result) _ _ (L .loop .i) (search needs) (c .before .part-of .ensures) (c .less .ensures) (L .loop .inv)
 
 returns : tie.Need-returns Inv-loop μ-loop
 returns c =
@@ -70,8 +70,8 @@ rest-room-spec =
     array-read-part-of
     array-read-part-of-2
     part-of-requires
+    add-less
     less-requires
-    less-requires-2
     add-i
     loop-less
     loop-again
