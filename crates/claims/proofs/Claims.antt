@@ -98,7 +98,7 @@ utf-8 s = (λ w. let d = well-formed-are-encodings s w in (scalars s, d .valid, 
 pub decoding : (cs : List ℕ) → allScalars cs ≡ true → scalars (encodedAll cs) ≡ cs
 decoding = encodings-are-decoded
 
--- Trimming (contract of `lines::trim::trim`) takes off exactly the White_Space characters at both ends (`Trimmed`, specs/WhiteSpace.antt): what is left of
+-- Trimming (contract of `trimming::trim`) takes off exactly the White_Space characters at both ends (`Trimmed`, specs/WhiteSpace.antt): what is left of
 -- the bytes encodes what is left of the characters.
 pub white-space : (s : List ℕ) → wellFormed s ≡ true → (kept : List ℕ) × Trimmed (scalars s) kept × (trimmed s ≡ encodedAll kept)
 white-space s w = (scalarsTrimmed (scalars s), trimmed-is (scalars s), trimmed-text s w)

@@ -115,7 +115,7 @@ fn word_count(s: &[u8]) -> usize
     let mut at: usize = 0;
     let mut n: usize = 0;
     while at < s.len() {
-        let w = lines::words::word_at(s, at);
+        let w = words::word_at(s, at);
         if w.start == w.end {
             return n;
         }

@@ -37,7 +37,7 @@ pub extern "C" fn nwscript_trim(s: &[u8], start: &mut usize, len: &mut usize)
     ensures { λ _. ⌜ now (start .exit) ≡ trimPlace (now (s .entry)) .start ⌝ }
     ensures { λ _. ⌜ now (len .exit) ≡ trimPlace (now (s .entry)) .len ⌝ }
 {
-    given::give_place(lines::trim::trim_place(s), start, len)
+    given::give_place(trimming::trim_place(s), start, len)
 }
 
 // How many lines the text has.

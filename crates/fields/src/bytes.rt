@@ -37,7 +37,7 @@ pub fn bytes_at(line: &[u8], from: usize, room: &mut [u8]) -> BytesAt
     ensures { λ r. ⌜ bytesField (now (room .exit)) r ≡ bytesAt (length (now (room .entry))) (now (line .entry)) from ⌝ }
     ensures { λ r. ⌜ fieldCount r ≤ length (now (room .exit)) ⌝ }
 {
-    let w = lines::words::word_at(line, from);
+    let w = words::word_at(line, from);
     let start = w.start;
     let end = w.end;
     if start == end {

@@ -29,7 +29,7 @@ pub fn number_at(line: &[u8], from: usize) -> NumberAt
     requires { ⌜ from ≤ length (now line) ⌝ }
     ensures { λ r. ⌜ numberField r ≡ numberAt (now (line .entry)) from ⌝ }
 {
-    let w = lines::words::word_at(line, from);
+    let w = words::word_at(line, from);
     let start = w.start;
     let end = w.end;
     let Number::Value(v) = values::number::parse_u64(&line[start..end]) else {
@@ -43,7 +43,7 @@ pub fn integer_at(line: &[u8], from: usize) -> IntegerAt
     requires { ⌜ from ≤ length (now line) ⌝ }
     ensures { λ r. ⌜ integerField r ≡ integerAt (now (line .entry)) from ⌝ }
 {
-    let w = lines::words::word_at(line, from);
+    let w = words::word_at(line, from);
     let start = w.start;
     let end = w.end;
     let Integer::Value(v) = values::number::parse_i64(&line[start..end]) else {

@@ -1,4 +1,2 @@
-// Lines and words: white space trimmed off, words, and the lines of a text.
+// The lines of a text.
 pub mod lines;
-pub mod trim;
-pub mod words;

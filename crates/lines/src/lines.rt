@@ -90,7 +90,7 @@ pub fn trimmed_bytes(text: &[u8]) -> usize
         let l = line_at(text, at, number);
         let start = l.start;
         let end = l.end;
-        let bytes = crate::trim::trim(&text[start..end]);
+        let bytes = trimming::trim(&text[start..end]);
         at = l.next;
         number += 1;
         sum += bytes.len();

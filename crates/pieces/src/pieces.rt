@@ -17,7 +17,7 @@ pub fn trimmed(text: &[u8], p: Span) -> Span
 {
     let start = p.start;
     let end = p.end;
-    let t = lines::trim::trim_place(&text[start..end]);
+    let t = trimming::trim_place(&text[start..end]);
     let first = start + t.start;
     Span {
         start: first,

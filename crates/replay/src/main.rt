@@ -59,10 +59,10 @@ fn case_in(word: &[u8], hex: &[u8], room: &mut [u8]) -> Case {
 
 // A line: a word, and bytes in hex.
 fn case_on(line: &[u8]) -> Case {
-    let w = lines::words::word_at(line, 0);
+    let w = words::word_at(line, 0);
     let start = w.start;
     let end = w.end;
-    let v = lines::words::word_at(line, end);
+    let v = words::word_at(line, end);
     let from = v.start;
     let to = v.end;
     let mut bytes = [0u8; 16];
@@ -223,7 +223,7 @@ fn taken_right(room: &[u8], len: usize, surrogate: bool, white: bool) -> bool {
         return !utf8::well_formed(bytes);
     }
     if utf8::well_formed(bytes) {
-        let left = lines::trim::trim(bytes);
+        let left = trimming::trim(bytes);
         if white {
             return left.len() == 0;
         }

@@ -131,7 +131,7 @@ pub fn replay_measure(line: &[u8], from: usize) -> Case
         store: n[5] as usize,
     };
     let mut room = [0u8; 1024];
-    replay_hex(lines::trim::trim(&line[end..]), &mut room, stored)
+    replay_hex(trimming::trim(&line[end..]), &mut room, stored)
 }
 
 impl Tally {

@@ -29,7 +29,7 @@ fn is_dump(line: &[u8], from: usize, store: &[u8], found: &[u8]) -> bool
     let mut at = from;
     let mut p: usize = 0;
     while at < line.len() {
-        let w = lines::words::word_at(line, at);
+        let w = words::word_at(line, at);
         let start = w.start;
         let end = w.end;
         if start == end {

@@ -39,7 +39,7 @@ fn replay_judged(line: &[u8], from: usize) -> Case
 fn replay_line(line: &[u8]) -> Case
     ensures { λ r. ⌜ r ≡ lineReplayed (now (line .entry)) ⌝ }
 {
-    let w = lines::words::word_at(line, 0);
+    let w = words::word_at(line, 0);
     let start = w.start;
     let end = w.end;
     if text::parts::same(&line[start..end], b"measure") {

@@ -146,7 +146,7 @@ fn put_words(text: &[u8], q: Span, items: &mut [[usize; 2]], at: usize) -> usize
     let mut from: usize = 0;
     let mut n: usize = 0;
     while from < size {
-        let w = lines::words::word_at(&text[first..last], from);
+        let w = words::word_at(&text[first..last], from);
         if w.start == w.end {
             return n;
         }
