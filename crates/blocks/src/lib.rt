@@ -1,5 +1,5 @@
 // Words written into a lent slice, many bytes at a time. Each function writes from `at` on and says where the next byte goes. Bytes go through an array
-// of their own: for all the compiler knows, what is written may be read next, and then it would move each byte by itself.
+// of their own: for all the compiler knows, what is written may be read next, and it would test that at each word.
 ghost use mathlib.Core.Path.{_≡_};
 ghost use Prim.Native.Nat.{_+_, _≤_};
 ghost use lib.ListN.{length};
