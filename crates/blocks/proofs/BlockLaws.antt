@@ -26,7 +26,7 @@ module _ (at i : ℕ) (w t u : List ℕ) (room : at + length w ≤ length t) (e 
   word-all k = e ∙ ap (λ (xs : List ℕ). writtenAt at xs t) (take-all i w k)
 
 pub word-begun : (at : ℕ) (w t : List ℕ) → at + length w ≤ length t → t ≡ writtenAt at (take 0 w) t
-word-begun at w t h = sym (written-none at t (omega arith))
+word-begun at w t h = sym (written-none at t)
 
 pub ruleset word-laws = (word-begun, word-more, word-all)
 

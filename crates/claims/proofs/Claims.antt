@@ -51,7 +51,7 @@ use Rattle.listing.proofs.whole.list.Met as list-theorem
 use Rattle.script_run.proofs.running.run_script as run
 use Rattle.script_run.proofs.running.run_script.Symbol as run-code
 use Rattle.script_run.proofs.running.run_script.Met as run-theorem
-use Rattle.script_run.proofs.DemandThree as three
+use Rattle.ran.proofs.DemandThree as three
 use Rattle.claims.specs.Total.{Total}
 use Rattle.claims.specs.WhiteSpace.{Trimmed}
 use Rattle.claims.proofs.DemandOne.{total}

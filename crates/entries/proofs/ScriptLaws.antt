@@ -194,7 +194,7 @@ module _ (text : List ℕ) where
           unfolding itemsFor
           items-written t u w x h d e f =
               let front-items : List (List ℕ) = map itemOf (map place front) in
-              let same : u ≡ t = d ∙ ap (λ (l : List (List ℕ)). writtenAt 0 l t) no-pairs ∙ written-none 0 t (omega arith) in
+              let same : u ≡ t = d ∙ ap (λ (l : List (List ℕ)). writtenAt 0 l t) no-pairs ∙ written-none 0 t in
               f
               ∙ ap₂ (λ (k : ℕ) (l : List (List ℕ)). writtenAt k l w) (front-count ∙ sym (items-length front) ∙ sym (zero-add (length front-items))) (ap (λ (y : Tables). map itemOf (y .items)) tables-are)
               ∙ ap (writtenAt (0 + length front-items) (map itemOf (rest .items))) (e ∙ ap₂ (λ (l v : List (List ℕ)). writtenAt 0 l v) (ap itemsFor (sym front-is)) same)

@@ -6,4 +6,5 @@ pub mod History
 pub mod Ours
 pub mod LentRead
 pub mod DemandThree
+pub mod RunLaws
 pub mod JudgeExamples

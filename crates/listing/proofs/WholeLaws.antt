@@ -42,7 +42,7 @@ module _ (es : List Entry) (n at : ℕ) (first : List ℕ) where
   -- none is written yet
   pub printed-none : n ≤ length es → at + n * 63 ≤ length first → Printed es n at first first at 0
   unfolding entryLines
-  printed-none h room = record { few = omega arith; there = h; room = room; done = (omega arith, (sym (written-none at first (omega arith)), omega arith)) }
+  printed-none h room = record { few = omega arith; there = h; room = room; done = (omega arith, (sym (written-none at first), omega arith)) }
 
   module _ (now : List ℕ) (next i : ℕ) (p : Printed es n at first now next i) where
     pub printed-length : length now ≡ length first

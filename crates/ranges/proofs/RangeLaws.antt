@@ -3,12 +3,11 @@
 use mathlib.Core.Path.{_≡_, refl, sym, ap, _∙_}
 use mathlib.Core.Bool.{false}
 use mathlib.Core.Option.{Option, none, some}
-use mathlib.Core.List.{List, [], _∷_, map, append-nil}
+use mathlib.Core.List.{List, [], _∷_, map}
 use Prim.Native.Nat.{ℕ, suc, _+_, _-_, _≤_, _<_}
 use native.Mathlib.Omega.{arith}
 use native.Mathlib.Decide.{decLe}
-use native.Mathlib.Nat.{add-zero}
-use lib.ListN.{length, take, drop, getD, set, length-set, length-take, take-append-drop}
+use lib.ListN.{length, take, drop, getD, set, length-set, length-take}
 use lib.Seq.{drop-cons}
 use lib.Dec.{ltb}
 use borrow.Author.Tests.{le-leb, ltb-false}
@@ -21,7 +20,7 @@ use Rattle.verdicts.specs.Verdicts.{code}
 use Rattle.verdicts.specs.Held.{expectedOf, ranged}
 use Rattle.verdicts.specs.declared.Verdict.{Verdict}
 use Rattle.tables.specs.Written.{writtenAt}
-use Rattle.tables.proofs.WrittenLaws.{written-one, written-twice}
+use Rattle.tables.proofs.WrittenLaws.{written-none, written-one, written-twice}
 use Rattle.slots.specs.Blank.{blankExpectation}
 use Rattle.tallies.specs.declared.tally.Counts.{Counts}
 use Rattle.tallies.specs.Tally.{added, addedAll}
@@ -64,11 +63,6 @@ codes-length text f (e ∷ es) = ap suc (codes-length text f es)
 nothing-said : (text : List ℕ) → said text [] ≡ []
 unfolding said
 nothing-said text = refl
-
--- nothing is written, wherever it begins
-pub written-nothing : (at : ℕ) (t : List ℕ) → writtenAt at [] t ≡ t
-unfolding writtenAt
-written-nothing at t = rw (add-zero at, append-nil (take at t)) (take-append-drop at t)
 
 -- ---- the scratch
 
@@ -202,8 +196,8 @@ module _ (text : List ℕ) (table : List Expectation) (r : Items) (f : Expected 
 
       pub judging-stored : verdicts ≡ writtenAt (r .first) (map code (map f whole)) old
       judging-stored = sym (elim (decLe 1 (r .count)) [
-        | yes h ↦ at-first ∙ s .stored h ∙ ap (λ (l : List Expected). writtenAt (r .first + i) (map code (map f l)) verdicts) said-none ∙ written-nothing (r .first + i) verdicts
-        | no h ↦ ap (λ (l : List Expected). writtenAt (r .first) (map code (map f l)) old) (whole-none (omega arith)) ∙ written-nothing (r .first) old ∙ s .kept (omega arith)
+        | yes h ↦ at-first ∙ s .stored h ∙ ap (λ (l : List Expected). writtenAt (r .first + i) (map code (map f l)) verdicts) said-none ∙ written-none (r .first + i) verdicts
+        | no h ↦ ap (λ (l : List Expected). writtenAt (r .first) (map code (map f l)) old) (whole-none (omega arith)) ∙ written-none (r .first) old ∙ s .kept (omega arith)
       ])
         where
           z : r .first ≡ r .first + 0

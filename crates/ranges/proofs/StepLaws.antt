@@ -22,6 +22,7 @@ use Rattle.verdicts.specs.Verdicts.{verdict, code}
 use Rattle.verdicts.specs.Held.{ranged, inside}
 use Rattle.verdicts.specs.declared.Verdict.{Verdict}
 use Rattle.tables.specs.Written.{writtenAt}
+use Rattle.tables.proofs.WrittenLaws.{written-none}
 use Rattle.verdicts.specs.Subjects.{heldBy, partsIn}
 use Rattle.verdicts.specs.declared.handed.Handed.{Handed}
 use Rattle.verdicts.specs.declared.handed.Handed.the-variants.{Info, Response}
@@ -36,7 +37,6 @@ use Rattle.judging.specs.Scratch.{overwritten, overwrittenOr, scratchOn}
 use Rattle.ranges.specs.Judging.{refusalBy, settledAs, stepped, lentOf, askedOf}
 use Rattle.judging.proofs.Orders.{neither}
 use Rattle.tallies.proofs.Refusals.{no-test, hit, pass, passed-by}
-use Rattle.ranges.proofs.RangeLaws.{written-nothing}
 use Rattle.ranges.proofs.JudgeLaws.{refuse-36, refuse-33, refuse-range, refuse-31, refuse-32, refuse-35, refuse-34, refuse-none, Clear, clear}
 
 -- ---- a range that is settled
@@ -75,7 +75,7 @@ module _ (r : Items) where
   unfolding said
   settled-written f text table old =
       settled-by (λ (q : Items). writtenAt (q .first) (map code (map f (said text (ranged table q)))) old ≡ writtenAt (r .first) (map code (map f (said text (ranged table r)))) old)
-      (λ z. written-nothing 0 old ∙ sym (written-nothing (r .first) old) ∙ ap (λ (n : ℕ). writtenAt (r .first) (map code (map f (said text (ranged table (record { first = r .first; count = n }))))) old) (sym z))
+      (λ z. written-none 0 old ∙ sym (written-none (r .first) old) ∙ ap (λ (n : ℕ). writtenAt (r .first) (map code (map f (said text (ranged table (record { first = r .first; count = n }))))) old) (sym z))
       (λ z. refl)
 
 -- ---- refusals by their numbers

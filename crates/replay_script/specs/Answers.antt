@@ -5,11 +5,11 @@ use Rattle.text.specs.Base.{if_then_else_}
 use Rattle.text.specs.Literal.{spells}
 use Rattle.text.specs.Words.{wordAt}
 use Rattle.fields.specs.Fields.{wordBytes}
-use Rattle.replay_measure.specs.Answers.{measureReplayed}
-use Rattle.replay_measure.specs.declared.Case.{Case}
-use Rattle.replay_measure.specs.declared.Case.the-variants.{Dumped, Judged, Wrong}
-use Rattle.replay_read.specs.Agreed.{agreed}
-use Rattle.replay_verdicts.specs.Said as Said
+use Rattle.replayed.specs.declared.cases.Case.{Case}
+use Rattle.replayed.specs.declared.cases.Case.the-variants.{Dumped, Judged, Wrong}
+use Rattle.replay_script.specs.Measured.{measureReplayed}
+use Rattle.replay_script.specs.Dumped.{agreed}
+use Rattle.replay_script.specs.Judged as Judged
 
 -- what follows the word `read`
 unfoldable pub readReplayed : (line : List ℕ) → (at : ℕ) → Case
@@ -17,7 +17,7 @@ readReplayed line at = if agreed line at then Dumped else Wrong
 
 -- what follows the word `judged`
 unfoldable pub judgedReplayed : (line : List ℕ) → (at : ℕ) → Case
-judgedReplayed line at = if Said.agreed line at then Judged else Wrong
+judgedReplayed line at = if Judged.agreed line at then Judged else Wrong
 
 -- a line by its first word; one with another word is wrong
 unfoldable pub lineReplayed : (line : List ℕ) → Case

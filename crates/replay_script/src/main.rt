@@ -1,25 +1,29 @@
 // Replays stored answers of the Rust. Standard input has a case a line. `measure`, six numbers (the refusal's number or 0, its line, entries, items,
-// expectations, store bytes) and the text in hex: Measure is asked, and what it answers is compared with the numbers. `read` and what crate replay_read
-// says: Read is asked, and what it leaves is compared. `judged` and what crate replay_verdicts says: Message is asked, and its verdict and message are
+// expectations, store bytes) and the text in hex: Measure is asked, and what it answers is compared with the numbers. `read` and what dumped.rt
+// says: Read is asked, and what it leaves is compared. `judged` and what judged.rt says: Message is asked, and its verdict and message are
 // compared. Said is how many texts were read and refused by Measure as the Rust did, how many were left by Read as the Rust has them, how many expectations
 // were judged as the Rust does, and how many cases were wrong.
 ghost use mathlib.Core.Path.{_≡_};
 ghost use Prim.Native.Nat.{_≤_};
 ghost use lib.ListN.{length};
-ghost use Rattle.replay_measure.specs.Cases.{total};
+ghost use Rattle.replayed.specs.Cases.{total};
 ghost use Rattle.replay_script.specs.Answers.{readReplayed, judgedReplayed, lineReplayed};
 ghost use Rattle.replay_script.specs.Tallies.{allCounted};
+
+mod dumped;
+mod judged;
+mod measured;
+
 use libc::STDOUT_FILENO;
-use replay_measure::Case;
-use replay_measure::Tally;
-use replay_measure::replay_measure;
+use replayed::cases::Case;
+use replayed::cases::Tally;
 
 // What follows the word `read`.
 fn replay_read(line: &[u8], from: usize) -> Case
     requires { ⌜ from ≤ length (now line) ⌝ }
     ensures { λ r. ⌜ r ≡ readReplayed (now (line .entry)) from ⌝ }
 {
-    if replay_read::line::agrees(line, from) {
+    if dumped::agrees(line, from) {
         return Case::Dumped;
     }
     Case::Wrong
@@ -30,7 +34,7 @@ fn replay_judged(line: &[u8], from: usize) -> Case
     requires { ⌜ from ≤ length (now line) ⌝ }
     ensures { λ r. ⌜ r ≡ judgedReplayed (now (line .entry)) from ⌝ }
 {
-    if replay_verdicts::line::agrees(line, from) {
+    if judged::agrees(line, from) {
         return Case::Judged;
     }
     Case::Wrong
@@ -43,7 +47,7 @@ fn replay_line(line: &[u8]) -> Case
     let start = w.start;
     let end = w.end;
     if text::parts::same(&line[start..end], b"measure") {
-        return replay_measure(line, end);
+        return measured::replay_measure(line, end);
     }
     if text::parts::same(&line[start..end], b"read") {
         return replay_read(line, end);

@@ -10,8 +10,8 @@ use Rattle.script.specs.declared.records.Expectation.{Expectation}
 use Rattle.slots.specs.Blank.{blankEntry, blankExpectation}
 use Rattle.read.specs.Read.{lentOf, scriptOr}
 use Rattle.calls.specs.CallRows.{callsOf}
-use Rattle.script_run.specs.Ran.{plainLeft, ranOf}
-use Rattle.script_run.specs.declared.running.Ran.{Ran}
+use Rattle.ran.specs.Ran.{plainLeft, ranOf}
+use Rattle.ran.specs.declared.Ran.{Ran}
 use Rattle.run_alone.specs.Alone.{ownTables, ranAlone}
 
 module _ (es : List Entry) (is : List (List ℕ)) (xs : List Expectation) (bs : List ℕ)

@@ -5,8 +5,8 @@ use Rattle.script.specs.Reading.{readInto}
 use Rattle.script.specs.declared.records.Counts.{Counts}
 use Rattle.read.specs.Read.{scriptOr}
 use Rattle.calls.specs.CallRows.{callsOf}
-use Rattle.script_run.specs.Ran.{plainLeft, ranOf}
-use Rattle.script_run.specs.declared.running.Ran.{Ran}
+use Rattle.ran.specs.Ran.{plainLeft, ranOf}
+use Rattle.ran.specs.declared.Ran.{Ran}
 
 -- how many records and bytes its tables have
 abbrev pub ownTables : Counts

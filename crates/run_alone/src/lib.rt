@@ -6,9 +6,10 @@ ghost use lib.ListN.{length};
 ghost use Rattle.tables.specs.Written.{writtenAt};
 ghost use Rattle.judging.specs.PlainJudge.{plainRun};
 ghost use Rattle.calls.specs.CallRows.{callsOf, answerCode};
-ghost use Rattle.script_run.specs.Ran.{plainLeft, plainScratch, ifDone};
+ghost use Rattle.judging.specs.Runs.{plainScratch};
+ghost use Rattle.ran.specs.Ran.{plainLeft, ifDone};
 ghost use Rattle.run_alone.specs.Alone.{ranAlone};
-use script_run::running::Ran;
+use ran::Ran;
 use script_run::running::run_script;
 
 pub fn run_alone(

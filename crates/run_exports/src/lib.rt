@@ -5,44 +5,13 @@ ghost use lib.ListN.{length};
 ghost use Rattle.tables.specs.Written.{writtenAt};
 ghost use Rattle.judging.specs.PlainJudge.{plainRun};
 ghost use Rattle.calls.specs.CallRows.{callsOf, answerCode};
-ghost use Rattle.script_run.specs.Ran.{plainLeft, plainScratch, ifDone};
+ghost use Rattle.judging.specs.Runs.{plainScratch};
+ghost use Rattle.ran.specs.Ran.{plainLeft, ifDone};
+ghost use Rattle.ran.specs.Told.{statusOf, ranLine, ranTally};
 ghost use Rattle.run_alone.specs.Alone.{ranAlone};
-ghost use Rattle.run_exports.specs.Running.{statusOf, ranLine, ranTally};
-use judge::tally::Tally;
-use script_run::running::Ran;
-
-fn status_of(r: Ran) -> u64
-    ensures { λ n. ⌜ n ≡ statusOf r ⌝ }
-{
-    match r {
-        Ran::FewAnswers => 201,
-        Ran::MuchScratch => 202,
-        Ran::Refused(q) => q.number,
-        Ran::Done(_) => 0,
-    }
-}
-
-fn ran_line(r: Ran) -> usize
-    ensures { λ n. ⌜ n ≡ ranLine r ⌝ }
-{
-    match r {
-        Ran::FewAnswers => 0,
-        Ran::MuchScratch => 0,
-        Ran::Refused(q) => q.line,
-        Ran::Done(_) => 0,
-    }
-}
-
-fn ran_tally(r: Ran) -> Tally
-    ensures { λ t. ⌜ t ≡ ranTally r ⌝ }
-{
-    match r {
-        Ran::FewAnswers => Tally::new(),
-        Ran::MuchScratch => Tally::new(),
-        Ran::Refused(_) => Tally::new(),
-        Ran::Done(t) => t,
-    }
-}
+use ran::ran_line;
+use ran::ran_tally;
+use ran::status_of;
 
 // Reads a script and makes every call in turn: 0, or why it is not done and on which line; the tally. Where it is not done the tally's numbers are 0 and
 // the slices are as they were.

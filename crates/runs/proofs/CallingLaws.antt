@@ -23,7 +23,8 @@ use Rattle.judging.specs.Scratch.{scratchAfter}
 use Rattle.ranges.proofs.JudgeLaws.{no-entries, no-entries-scratch}
 use Rattle.judge.specs.Tally.{tallyOf, turned}
 use Rattle.calls.specs.CallRows.{handedOf, judgingOf, callOf}
-use Rattle.runs.specs.Runs.{onFront, scratchCall}
+use Rattle.judging.specs.Runs.{scratchCall}
+use Rattle.judging.proofs.RunLaws.{front-left}
 
 -- what a row judges, where it hands over h
 abbrev pub judging : (bytes : List ℕ) → (lists : List (List ℕ)) → (number scratch : ℕ) → Handed → Judging
@@ -62,12 +63,11 @@ module _ (k : Lent) (s : JudgeState) (bytes : List ℕ) (lists : List (List ℕ)
     pub judged-by-row : turned r v ≡ judgeStep k s (judge (judging bytes lists (at row 1) (length lent) h))
         → part ≡ scratchAfter k s (judging bytes lists (at row 1) (length lent) h) lent
         → Called k s bytes lists row scratch r v (part ++ drop (at row 2) scratch)
-    unfolding scratchCall onFront
     judged-by-row e f =
         let l : length lent ≡ at row 2 = length-take-le (at row 2) scratch fits in
         rw c (
           e ∙ ap (λ (n : ℕ). judgeStep k s (judge (judging bytes lists (at row 1) n h))) l,
-          ap (λ (p : List ℕ). p ++ drop (at row 2) scratch) (f ∙ ap (λ (n : ℕ). scratchAfter k s (judging bytes lists (at row 1) n h) lent) l),
+          front-left k s (judging bytes lists (at row 1) (at row 2) h) part scratch (f ∙ ap (λ (n : ℕ). scratchAfter k s (judging bytes lists (at row 1) n h) lent) l),
         )
 
 -- an entry

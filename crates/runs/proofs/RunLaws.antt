@@ -1,13 +1,12 @@
 -- The loop over the calls: what is left of a run once i calls are done. Assumes nothing.
-use Prim.Native.Nat.{ℕ, suc, _+_, _-_, _≤_, _<_}
+use Prim.Native.Nat.{ℕ, _+_, _-_, _≤_, _<_}
 use mathlib.Core.Path.{_≡_, refl, sym, ap, _∙_}
 use mathlib.Core.Bool.{false}
-use mathlib.Core.List.{List, [], _∷_, map, append-nil}
+use mathlib.Core.List.{List, [], _∷_, map}
 use native.Mathlib.Omega.{arith}
-use native.Mathlib.Nat.{add-zero}
-use lib.ListN.{length, take, drop, getD, set, length-set, length-map, length-drop, take-append-drop, drop-of-length-le}
+use lib.ListN.{length, drop, getD, set, length-set, length-map, length-drop, drop-of-length-le}
 use Rattle.tables.specs.Written.{writtenAt}
-use Rattle.tables.proofs.WrittenLaws.{written-one, written-twice}
+use Rattle.tables.proofs.WrittenLaws.{written-none, written-one, written-twice}
 use Rattle.rows.specs.Rows.{at}
 use Rattle.judge.specs.declared.tally.Tally.{Tally}
 use Rattle.tallies.specs.declared.calls.Answer.{Answer}
@@ -15,35 +14,10 @@ use Rattle.judge.specs.Tally.{freshTally, stateOf}
 use Rattle.judging.specs.Calls.{Call, run}
 use Rattle.judging.specs.Judge.{Lent, JudgeState, judgeStart, judgeStep}
 use Rattle.calls.specs.CallRows.{callOf, callsOf, answerCode}
-use Rattle.runs.specs.Runs.{scratchCall, scratchRun}
+use Rattle.judging.specs.Runs.{scratchCall, scratchRun}
+use Rattle.judging.proofs.RunLaws.{run-length, run-first, scratch-first}
 use Rattle.asking.specs.Asking.{asksMore}
 use Rattle.asking.proofs.AskLaws.{rows-from, lent-here, lent-later}
-
--- ---- a run
-
-module _ {State : Type 0} (step : State → Call → Answer × State) where
-  pub run-length : (cs : List Call) (s : State) → length (run step s cs .0) ≡ length cs
-  unfolding run
-  run-length [] s = refl
-  run-length (c ∷ cs) s = ap suc (run-length cs (step s c .1))
-
-  -- where the first call is known, so is the run
-  pub run-first : (s next : State) (a : Answer) (c : Call) (cs : List Call) → (a, next) ≡ step s c → run step s (c ∷ cs) ≡ (a ∷ run step next cs .0, run step next cs .1)
-  unfolding run
-  run-first s next a c cs e = rw (← e) refl
-
-  module _ (writes : State → Call → List ℕ → List ℕ) where
-    pub scratch-first : (s next : State) (a : Answer) (c : Call) (cs : List Call) (old new : List ℕ) → (a, next) ≡ step s c → new ≡ writes s c old
-        → scratchRun step writes s (c ∷ cs) old ≡ scratchRun step writes next cs new
-    unfolding scratchRun
-    scratch-first s next a c cs old new e f = rw (← e, f) refl
-
--- nothing is written, wherever it begins
-pub written-nothing : {A : Type 0} (at : ℕ) (t : List A) → writtenAt at [] t ≡ t
-unfolding writtenAt
-written-nothing at t = rw (add-zero at, append-nil (take at t)) (take-append-drop at t)
-
--- ---- a run on its way
 
 module _ (k : Lent) (bytes : List ℕ) (lists : List (List ℕ)) (rows : List (List ℕ)) where
   abbrev ran : JudgeState → List (List ℕ) → List Answer × JudgeState
@@ -131,7 +105,7 @@ module _ (k : Lent) (bytes : List ℕ) (lists : List (List ℕ)) (rows : List (L
 
         pub all-answered : ans ≡ writtenAt 0 (map answerCode (ran (judgeStart v₀) rows .0)) ans₀
         unfolding run
-        all-answered = sym (g .answered ∙ ap (λ (cs : List Call). writtenAt i (map answerCode (run (judgeStep k) s cs .0)) ans) calls-none ∙ written-nothing i ans)
+        all-answered = sym (g .answered ∙ ap (λ (cs : List Call). writtenAt i (map answerCode (run (judgeStep k) s cs .0)) ans) calls-none ∙ written-none i ans)
 
         pub all-written : scr ≡ after (judgeStart v₀) rows scr₀
         unfolding scratchRun

@@ -10,7 +10,7 @@ ghost use Rattle.judging.specs.Calls.{run};
 ghost use Rattle.judging.specs.Judge.{judgeStart, judgeStep};
 ghost use Rattle.judge.specs.Tally.{stateOf, turned};
 ghost use Rattle.calls.specs.CallRows.{callOf, callsOf, answerCode};
-ghost use Rattle.runs.specs.Runs.{scratchCall, scratchRun};
+ghost use Rattle.judging.specs.Runs.{scratchCall, scratchRun};
 ghost use Rattle.asking.specs.Asking.{asksMore};
 use calls::answers::answer_code;
 use calls::handed::info_in;

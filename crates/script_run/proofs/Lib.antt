@@ -1,4 +1,1 @@
-pub mod DemandThree
-pub mod RanLaws
-pub mod ScratchLaws
 pub mod Made

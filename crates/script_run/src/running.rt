@@ -7,22 +7,14 @@ ghost use Rattle.tables.specs.Written.{itemOf, writtenAt};
 ghost use Rattle.read.specs.Read.{scriptOr, tablesOr, lentOf};
 ghost use Rattle.judging.specs.PlainJudge.{plainRun};
 ghost use Rattle.calls.specs.CallRows.{callsOf, answerCode};
-ghost use Rattle.script_run.specs.Ran.{plainLeft, plainScratch, ranOf, ifDone};
+ghost use Rattle.judging.specs.Runs.{plainScratch};
+ghost use Rattle.ran.specs.Ran.{plainLeft, ranOf, ifDone};
 use asking::asks_more;
-use judge::tally::Tally;
+use ran::Ran;
 use read::reading::Answer;
 use runs::calling::run_calls;
 use script::records::Entry;
 use script::records::Expectation;
-use script::records::Refusal;
-
-// What a run answers. Only where it is done is anything written.
-pub enum Ran {
-    FewAnswers,
-    MuchScratch,
-    Refused(Refusal),
-    Done(Tally),
-}
 
 // Reads a script into the lent tables and makes every call in turn, from a fresh tally. The answers and what is left are those of the plain judge, which
 // sees the text alone. Tried first: that there is a place for each answer, then that no call asks for more of the scratch than is lent.

@@ -52,7 +52,7 @@ items-append (p ∷ ps) qs = ap (λ (xs : List (List ℕ)). itemOf (place p) ∷
 -- no pieces: nothing is written
 pub items-none : (ps : List Span) (at : ℕ) (t : List (List ℕ)) → ps ≡ [] → at + length ps ≤ length t → t ≡ writtenAt at (itemsFor ps) t
 unfolding itemsFor
-items-none ps at t e h = rw e (sym (written-none at t (omega arith)))
+items-none ps at t e h = rw e (sym (written-none at t))
 
 -- the items ys that are written are those of the pieces ps
 module _ (ps : List Span) (ys : List (List ℕ)) (e : itemsFor ps ≡ ys) where

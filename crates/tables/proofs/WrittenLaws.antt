@@ -4,7 +4,7 @@ use mathlib.Core.Path.{_≡_, sym, ap, _∙_}
 use mathlib.Core.List.{List, [], _∷_, _++_, append-assoc, append-nil}
 use native.Mathlib.Nat.{add-zero, zero-add}
 use native.Mathlib.Omega.{arith}
-use lib.ListN.{length, take, drop, set, length-append, length-drop, drop-of-length-le}
+use lib.ListN.{length, take, drop, set, length-append, length-drop, take-append-drop, drop-of-length-le}
 use lib.Seq.{sets, sets-eq, length-sets, length-take-le, take-add, take-all, take-append-seam, drop-append-seam, drop-drop}
 use borrow.Author.Tests.{le-leb}
 use borrow.Rule.Slice.PartMut.{midOf, putMid}
@@ -21,9 +21,10 @@ module _ {A : Type 0} where
   sets-twice at [] ys t = rw (add-zero at)
   sets-twice at (x ∷ xs) ys t = let e : at + suc (length xs) ≡ suc at + length xs = omega arith in rw e (sets-twice (suc at) xs ys (set t at x))
 
-  -- writing nothing changes nothing
-  pub written-none : (at : ℕ) (t : List A) → at ≤ length t → writtenAt at [] t ≡ t
-  written-none at t h = written-sets at [] t (omega arith)
+  -- writing nothing changes nothing, wherever it begins
+  pub written-none : (at : ℕ) (t : List A) → writtenAt at [] t ≡ t
+  unfolding writtenAt
+  written-none at t = rw (add-zero at, append-nil (take at t)) (take-append-drop at t)
 
   -- a table keeps its length
   pub written-length : (at : ℕ) (xs t : List A) → at + length xs ≤ length t → length (writtenAt at xs t) ≡ length t
@@ -71,7 +72,7 @@ module _ {A : Type 0} (xs : List A) where
   none-count e = sym (ap length e)
 
   pub none-written : (at : ℕ) (t : List A) → xs ≡ [] → at + length xs ≤ length t → t ≡ writtenAt at xs t
-  none-written at t e h = rw e (sym (written-none at t (omega arith)))
+  none-written at t e h = rw e (sym (written-none at t))
 
   module _ (x : A) (e : xs ≡ x ∷ []) where
     pub one-count : 1 ≡ length xs
@@ -114,7 +115,7 @@ pub record Filling {A : Type 0} (at : ℕ) (all first now : List A) (n : ℕ) (l
 module _ {A : Type 0} (at : ℕ) (all first : List A) where
   -- nothing is written yet
   pub filling-begun : (left : List A) → all ≡ left → at + length all ≤ length first → Filling at all first first 0 left
-  filling-begun left e h = record { room = h; count = zero-add (length left) ∙ sym (ap length e); rest = e; done = sym (written-none at first (omega arith)) }
+  filling-begun left e h = record { room = h; count = zero-add (length left) ∙ sym (ap length e); rest = e; done = sym (written-none at first) }
 
   module _ (now : List A) (n : ℕ) (left : List A) (f : Filling at all first now n left) where
     so-far : length (take n all) ≡ n

@@ -38,7 +38,7 @@ wrote-same xs ys e at t u next w = rw e w
 
 -- nothing
 pub wrote-none : (xs : List ℕ) → xs ≡ [] → (at : ℕ) (t : List ℕ) → at ≤ length t → Wrote at xs t t at
-wrote-none xs e at t h = rw e (omega arith, sym (written-none at t h))
+wrote-none xs e at t h = rw e (omega arith, sym (written-none at t))
 
 -- one byte
 pub wrote-one : (at x : ℕ) (t : List ℕ) → at < length t → Wrote at (x ∷ []) t (set t at x) (at + 1)
@@ -78,7 +78,7 @@ module _ (at : ℕ) (all t u : List ℕ) (next : ℕ) (left : List ℕ) (o : Owi
   owing-none e =
       let l : length left ≡ 0 = ap length e in (
         omega (arith, o .count),
-        sym (written-none next u (omega (arith, o .count, o .room, o .kept))) ∙ ap (λ (xs : List ℕ). writtenAt next xs u) (sym e) ∙ o .same,
+        sym (written-none next u) ∙ ap (λ (xs : List ℕ). writtenAt next xs u) (sym e) ∙ o .same,
       )
 
   -- xs come next

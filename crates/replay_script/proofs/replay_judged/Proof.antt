@@ -3,8 +3,8 @@ use Prim.Native.Nat.{ℕ}
 use mathlib.Core.Path.{_≡_}
 use mathlib.Core.Bool.{Bool, true, false}
 use mathlib.Core.List.{List}
-use Rattle.replay_verdicts.specs.Said.{agreed}
-use Rattle.replay_measure.specs.declared.Case.the-variants.{Judged, Wrong}
+use Rattle.replay_script.specs.Judged.{agreed}
+use Rattle.replayed.specs.declared.cases.Case.the-variants.{Judged, Wrong}
 use Rattle.replay_script.specs.Answers.{judgedReplayed}
 use borrow.Author.Needs.{needs}
 use Rattle.replay_script.proofs.replay_judged.Statement.{statement}

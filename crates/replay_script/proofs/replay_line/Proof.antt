@@ -9,9 +9,9 @@ use Rattle.text.specs.declared.parts.Span.{Span}
 use Rattle.text.proofs.LiteralLaws.{codes, spells-as}
 use Rattle.text.proofs.WordLaws.{word-places}
 use Rattle.fields.specs.Fields.{wordBytes}
-use Rattle.replay_measure.specs.declared.Case.{Case}
-use Rattle.replay_measure.specs.declared.Case.the-variants.{Wrong}
-use Rattle.replay_measure.specs.Answers.{measureReplayed}
+use Rattle.replayed.specs.declared.cases.Case.{Case}
+use Rattle.replayed.specs.declared.cases.Case.the-variants.{Wrong}
+use Rattle.replay_script.specs.Measured.{measureReplayed}
 use Rattle.replay_script.specs.Answers.{readReplayed, judgedReplayed, lineReplayed}
 use borrow.Author.Needs.{needs}
 use Rattle.replay_script.proofs.replay_line.Statement.{statement}

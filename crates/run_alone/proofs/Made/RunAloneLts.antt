@@ -1,8 +1,8 @@
 -- The derivation of `run_alone`, with a need for each thing that is left. Made by tools/walk.py, from what Rattle makes for a twin in which the elements are arrays.
 -- Assumes nothing.
 use Prim.Native.Nat
-use Rattle.script_run.proofs.running.Ran
-use Rattle.script_run.proofs.running.Ran.Laws
+use Rattle.ran.proofs.Ran
+use Rattle.ran.proofs.Ran.Laws
 use Rattle.slots.proofs.Made.EntryElem
 use Rattle.slots.proofs.Made.ExpectationElem
 use borrow.Author.Called
@@ -64,7 +64,7 @@ abbrev τ2 : Syntax.Ty
 τ2 = Syntax.tyStruct (List._∷_ 38 (List._∷_ 91 (List._∷_ 93 List.[]))) (Syntax.tcons (Syntax.tyRef Syntax.erased Syntax.mut (Syntax.tyInt Syntax.w64)) (Syntax.tcons (Syntax.tyInt Syntax.w64) Syntax.tnil))
 
 abbrev τ3 : Syntax.Ty
-τ3 = Syntax.tyEnum (List._∷_ 115 (List._∷_ 99 (List._∷_ 114 (List._∷_ 105 (List._∷_ 112 (List._∷_ 116 (List._∷_ 95 (List._∷_ 114 (List._∷_ 117 (List._∷_ 110 (List._∷_ 58 (List._∷_ 58 (List._∷_ 114 (List._∷_ 117 (List._∷_ 110 (List._∷_ 110 (List._∷_ 105 (List._∷_ 110 (List._∷_ 103 (List._∷_ 58 (List._∷_ 58 (List._∷_ 82 (List._∷_ 97 (List._∷_ 110 List.[])))))))))))))))))))))))) (Syntax.ttcons Syntax.tnil (Syntax.ttcons Syntax.tnil (Syntax.ttcons (Syntax.tcons (Syntax.tyStruct (List._∷_ 115 (List._∷_ 99 (List._∷_ 114 (List._∷_ 105 (List._∷_ 112 (List._∷_ 116 (List._∷_ 58 (List._∷_ 58 (List._∷_ 114 (List._∷_ 101 (List._∷_ 99 (List._∷_ 111 (List._∷_ 114 (List._∷_ 100 (List._∷_ 115 (List._∷_ 58 (List._∷_ 58 (List._∷_ 82 (List._∷_ 101 (List._∷_ 102 (List._∷_ 117 (List._∷_ 115 (List._∷_ 97 (List._∷_ 108 List.[])))))))))))))))))))))))) (Syntax.tcons (Syntax.tyInt Syntax.w64) (Syntax.tcons (Syntax.tyInt Syntax.w64) Syntax.tnil))) Syntax.tnil) (Syntax.ttcons (Syntax.tcons (Syntax.tyStruct (List._∷_ 106 (List._∷_ 117 (List._∷_ 100 (List._∷_ 103 (List._∷_ 101 (List._∷_ 58 (List._∷_ 58 (List._∷_ 116 (List._∷_ 97 (List._∷_ 108 (List._∷_ 108 (List._∷_ 121 (List._∷_ 58 (List._∷_ 58 (List._∷_ 84 (List._∷_ 97 (List._∷_ 108 (List._∷_ 108 (List._∷_ 121 List.[]))))))))))))))))))) (Syntax.tcons (Syntax.tyInt Syntax.w64) (Syntax.tcons (Syntax.tyStruct (List._∷_ 116 (List._∷_ 97 (List._∷_ 108 (List._∷_ 108 (List._∷_ 105 (List._∷_ 101 (List._∷_ 115 (List._∷_ 58 (List._∷_ 58 (List._∷_ 116 (List._∷_ 97 (List._∷_ 108 (List._∷_ 108 (List._∷_ 121 (List._∷_ 58 (List._∷_ 58 (List._∷_ 67 (List._∷_ 111 (List._∷_ 117 (List._∷_ 110 (List._∷_ 116 (List._∷_ 115 List.[])))))))))))))))))))))) (Syntax.tcons (Syntax.tyInt Syntax.w64) (Syntax.tcons (Syntax.tyInt Syntax.w64) (Syntax.tcons (Syntax.tyInt Syntax.w64) Syntax.tnil)))) Syntax.tnil))) Syntax.tnil) Syntax.ttnil))))
+τ3 = Syntax.tyEnum (List._∷_ 114 (List._∷_ 97 (List._∷_ 110 (List._∷_ 58 (List._∷_ 58 (List._∷_ 82 (List._∷_ 97 (List._∷_ 110 List.[])))))))) (Syntax.ttcons Syntax.tnil (Syntax.ttcons Syntax.tnil (Syntax.ttcons (Syntax.tcons (Syntax.tyStruct (List._∷_ 115 (List._∷_ 99 (List._∷_ 114 (List._∷_ 105 (List._∷_ 112 (List._∷_ 116 (List._∷_ 58 (List._∷_ 58 (List._∷_ 114 (List._∷_ 101 (List._∷_ 99 (List._∷_ 111 (List._∷_ 114 (List._∷_ 100 (List._∷_ 115 (List._∷_ 58 (List._∷_ 58 (List._∷_ 82 (List._∷_ 101 (List._∷_ 102 (List._∷_ 117 (List._∷_ 115 (List._∷_ 97 (List._∷_ 108 List.[])))))))))))))))))))))))) (Syntax.tcons (Syntax.tyInt Syntax.w64) (Syntax.tcons (Syntax.tyInt Syntax.w64) Syntax.tnil))) Syntax.tnil) (Syntax.ttcons (Syntax.tcons (Syntax.tyStruct (List._∷_ 106 (List._∷_ 117 (List._∷_ 100 (List._∷_ 103 (List._∷_ 101 (List._∷_ 58 (List._∷_ 58 (List._∷_ 116 (List._∷_ 97 (List._∷_ 108 (List._∷_ 108 (List._∷_ 121 (List._∷_ 58 (List._∷_ 58 (List._∷_ 84 (List._∷_ 97 (List._∷_ 108 (List._∷_ 108 (List._∷_ 121 List.[]))))))))))))))))))) (Syntax.tcons (Syntax.tyInt Syntax.w64) (Syntax.tcons (Syntax.tyStruct (List._∷_ 116 (List._∷_ 97 (List._∷_ 108 (List._∷_ 108 (List._∷_ 105 (List._∷_ 101 (List._∷_ 115 (List._∷_ 58 (List._∷_ 58 (List._∷_ 116 (List._∷_ 97 (List._∷_ 108 (List._∷_ 108 (List._∷_ 121 (List._∷_ 58 (List._∷_ 58 (List._∷_ 67 (List._∷_ 111 (List._∷_ 117 (List._∷_ 110 (List._∷_ 116 (List._∷_ 115 List.[])))))))))))))))))))))) (Syntax.tcons (Syntax.tyInt Syntax.w64) (Syntax.tcons (Syntax.tyInt Syntax.w64) (Syntax.tcons (Syntax.tyInt Syntax.w64) Syntax.tnil)))) Syntax.tnil))) Syntax.tnil) Syntax.ttnil))))
 
 abbrev kind0 : KValue.Valued
 kind0 = record { ty = Declared.row Ran.the-type; one = Path'.refl; val = Laws'.val Ran.the-type Laws.the-laws; tells = Laws'.tells Ran.the-type Laws.the-laws; still = Laws'.still Ran.the-type Laws.the-copy Exit.yes; row = Rows'.whole (Declared.row Ran.the-type); rd = λ x. x; mk = λ x. x }

@@ -6,9 +6,10 @@ use Rattle.tables.specs.Written.{writtenAt}
 use Rattle.judging.specs.Calls.{Call}
 use Rattle.judging.specs.PlainJudge.{plainRun}
 use Rattle.calls.specs.CallRows.{callsOf, answerCode}
-use Rattle.script_run.specs.Ran.{plainLeft, plainScratch, ifDone}
-use Rattle.script_run.specs.declared.running.Ran.{Ran}
-use Rattle.run_exports.specs.Running.{statusOf, ranLine, ranTally}
+use Rattle.judging.specs.Runs.{plainScratch}
+use Rattle.ran.specs.Ran.{plainLeft, ifDone}
+use Rattle.ran.specs.Told.{statusOf, ranLine, ranTally}
+use Rattle.ran.specs.declared.Ran.{Ran}
 use borrow.Author.Needs.{needs}
 use Rattle.run_exports.proofs.nwscript_run.Statement.{statement}
 use Rattle.run_exports.proofs.nwscript_run.Tie as tie

@@ -1,7 +1,7 @@
 -- The kinds of the parameters and of the result of `running::run_script`. Made by tools/walk.py, from what Rattle makes for a twin in which the elements are arrays.
 -- Assumes nothing.
-use Rattle.script_run.proofs.running.Ran
-use Rattle.script_run.proofs.running.Ran.Laws
+use Rattle.ran.proofs.Ran
+use Rattle.ran.proofs.Ran.Laws
 use Rattle.slots.proofs.Made.EntryElem
 use Rattle.slots.proofs.Made.ExpectationElem
 use borrow.Fn.Kinds

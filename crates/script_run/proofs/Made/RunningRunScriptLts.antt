@@ -11,8 +11,8 @@ use Rattle.script.proofs.records.Refusal
 use Rattle.script.proofs.records.Refusal.Laws as Laws'3
 use Rattle.script.proofs.records.Script
 use Rattle.script.proofs.records.Script.Laws as Laws'4
-use Rattle.script_run.proofs.running.Ran
-use Rattle.script_run.proofs.running.Ran.Laws as Laws'5
+use Rattle.ran.proofs.Ran
+use Rattle.ran.proofs.Ran.Laws as Laws'5
 use Rattle.slots.proofs.Made.EntryElem
 use Rattle.slots.proofs.Made.ExpectationElem
 use borrow.Author.Called
@@ -94,7 +94,7 @@ abbrev τ4 : Syntax.Ty
 τ4 = Syntax.tyStruct (List._∷_ 38 (List._∷_ 91 (List._∷_ 93 List.[]))) (Syntax.tcons (Syntax.tyRef Syntax.erased Syntax.mut (Syntax.tyInt Syntax.w8)) (Syntax.tcons (Syntax.tyInt Syntax.w64) Syntax.tnil))
 
 abbrev τ5 : Syntax.Ty
-τ5 = Syntax.tyEnum (List._∷_ 115 (List._∷_ 99 (List._∷_ 114 (List._∷_ 105 (List._∷_ 112 (List._∷_ 116 (List._∷_ 95 (List._∷_ 114 (List._∷_ 117 (List._∷_ 110 (List._∷_ 58 (List._∷_ 58 (List._∷_ 114 (List._∷_ 117 (List._∷_ 110 (List._∷_ 110 (List._∷_ 105 (List._∷_ 110 (List._∷_ 103 (List._∷_ 58 (List._∷_ 58 (List._∷_ 82 (List._∷_ 97 (List._∷_ 110 List.[])))))))))))))))))))))))) (Syntax.ttcons Syntax.tnil (Syntax.ttcons Syntax.tnil (Syntax.ttcons (Syntax.tcons (Syntax.tyStruct (List._∷_ 115 (List._∷_ 99 (List._∷_ 114 (List._∷_ 105 (List._∷_ 112 (List._∷_ 116 (List._∷_ 58 (List._∷_ 58 (List._∷_ 114 (List._∷_ 101 (List._∷_ 99 (List._∷_ 111 (List._∷_ 114 (List._∷_ 100 (List._∷_ 115 (List._∷_ 58 (List._∷_ 58 (List._∷_ 82 (List._∷_ 101 (List._∷_ 102 (List._∷_ 117 (List._∷_ 115 (List._∷_ 97 (List._∷_ 108 List.[])))))))))))))))))))))))) (Syntax.tcons (Syntax.tyInt Syntax.w64) (Syntax.tcons (Syntax.tyInt Syntax.w64) Syntax.tnil))) Syntax.tnil) (Syntax.ttcons (Syntax.tcons (Syntax.tyStruct (List._∷_ 106 (List._∷_ 117 (List._∷_ 100 (List._∷_ 103 (List._∷_ 101 (List._∷_ 58 (List._∷_ 58 (List._∷_ 116 (List._∷_ 97 (List._∷_ 108 (List._∷_ 108 (List._∷_ 121 (List._∷_ 58 (List._∷_ 58 (List._∷_ 84 (List._∷_ 97 (List._∷_ 108 (List._∷_ 108 (List._∷_ 121 List.[]))))))))))))))))))) (Syntax.tcons (Syntax.tyInt Syntax.w64) (Syntax.tcons (Syntax.tyStruct (List._∷_ 116 (List._∷_ 97 (List._∷_ 108 (List._∷_ 108 (List._∷_ 105 (List._∷_ 101 (List._∷_ 115 (List._∷_ 58 (List._∷_ 58 (List._∷_ 116 (List._∷_ 97 (List._∷_ 108 (List._∷_ 108 (List._∷_ 121 (List._∷_ 58 (List._∷_ 58 (List._∷_ 67 (List._∷_ 111 (List._∷_ 117 (List._∷_ 110 (List._∷_ 116 (List._∷_ 115 List.[])))))))))))))))))))))) (Syntax.tcons (Syntax.tyInt Syntax.w64) (Syntax.tcons (Syntax.tyInt Syntax.w64) (Syntax.tcons (Syntax.tyInt Syntax.w64) Syntax.tnil)))) Syntax.tnil))) Syntax.tnil) Syntax.ttnil))))
+τ5 = Syntax.tyEnum (List._∷_ 114 (List._∷_ 97 (List._∷_ 110 (List._∷_ 58 (List._∷_ 58 (List._∷_ 82 (List._∷_ 97 (List._∷_ 110 List.[])))))))) (Syntax.ttcons Syntax.tnil (Syntax.ttcons Syntax.tnil (Syntax.ttcons (Syntax.tcons (Syntax.tyStruct (List._∷_ 115 (List._∷_ 99 (List._∷_ 114 (List._∷_ 105 (List._∷_ 112 (List._∷_ 116 (List._∷_ 58 (List._∷_ 58 (List._∷_ 114 (List._∷_ 101 (List._∷_ 99 (List._∷_ 111 (List._∷_ 114 (List._∷_ 100 (List._∷_ 115 (List._∷_ 58 (List._∷_ 58 (List._∷_ 82 (List._∷_ 101 (List._∷_ 102 (List._∷_ 117 (List._∷_ 115 (List._∷_ 97 (List._∷_ 108 List.[])))))))))))))))))))))))) (Syntax.tcons (Syntax.tyInt Syntax.w64) (Syntax.tcons (Syntax.tyInt Syntax.w64) Syntax.tnil))) Syntax.tnil) (Syntax.ttcons (Syntax.tcons (Syntax.tyStruct (List._∷_ 106 (List._∷_ 117 (List._∷_ 100 (List._∷_ 103 (List._∷_ 101 (List._∷_ 58 (List._∷_ 58 (List._∷_ 116 (List._∷_ 97 (List._∷_ 108 (List._∷_ 108 (List._∷_ 121 (List._∷_ 58 (List._∷_ 58 (List._∷_ 84 (List._∷_ 97 (List._∷_ 108 (List._∷_ 108 (List._∷_ 121 List.[]))))))))))))))))))) (Syntax.tcons (Syntax.tyInt Syntax.w64) (Syntax.tcons (Syntax.tyStruct (List._∷_ 116 (List._∷_ 97 (List._∷_ 108 (List._∷_ 108 (List._∷_ 105 (List._∷_ 101 (List._∷_ 115 (List._∷_ 58 (List._∷_ 58 (List._∷_ 116 (List._∷_ 97 (List._∷_ 108 (List._∷_ 108 (List._∷_ 121 (List._∷_ 58 (List._∷_ 58 (List._∷_ 67 (List._∷_ 111 (List._∷_ 117 (List._∷_ 110 (List._∷_ 116 (List._∷_ 115 List.[])))))))))))))))))))))) (Syntax.tcons (Syntax.tyInt Syntax.w64) (Syntax.tcons (Syntax.tyInt Syntax.w64) (Syntax.tcons (Syntax.tyInt Syntax.w64) Syntax.tnil)))) Syntax.tnil))) Syntax.tnil) Syntax.ttnil))))
 
 abbrev τ6 : Syntax.Ty
 τ6 = Syntax.tyStruct (List._∷_ 106 (List._∷_ 117 (List._∷_ 100 (List._∷_ 103 (List._∷_ 101 (List._∷_ 58 (List._∷_ 58 (List._∷_ 116 (List._∷_ 97 (List._∷_ 108 (List._∷_ 108 (List._∷_ 121 (List._∷_ 58 (List._∷_ 58 (List._∷_ 84 (List._∷_ 97 (List._∷_ 108 (List._∷_ 108 (List._∷_ 121 List.[]))))))))))))))))))) (Syntax.tcons (Syntax.tyInt Syntax.w64) (Syntax.tcons (Syntax.tyStruct (List._∷_ 116 (List._∷_ 97 (List._∷_ 108 (List._∷_ 108 (List._∷_ 105 (List._∷_ 101 (List._∷_ 115 (List._∷_ 58 (List._∷_ 58 (List._∷_ 116 (List._∷_ 97 (List._∷_ 108 (List._∷_ 108 (List._∷_ 121 (List._∷_ 58 (List._∷_ 58 (List._∷_ 67 (List._∷_ 111 (List._∷_ 117 (List._∷_ 110 (List._∷_ 116 (List._∷_ 115 List.[])))))))))))))))))))))) (Syntax.tcons (Syntax.tyInt Syntax.w64) (Syntax.tcons (Syntax.tyInt Syntax.w64) (Syntax.tcons (Syntax.tyInt Syntax.w64) Syntax.tnil)))) Syntax.tnil))

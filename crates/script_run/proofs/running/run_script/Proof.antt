@@ -2,7 +2,7 @@
 mod Tie
 use mathlib.Core.Path.{sym, _∙_}
 use borrow.Author.Needs.{needs}
-use Rattle.script_run.proofs.RanLaws.{few-answers, much-scratch, refused, done}
+use Rattle.ran.proofs.RanLaws.{few-answers, much-scratch, refused, done}
 use Rattle.script_run.proofs.running.run_script.Statement.{statement}
 use Rattle.script_run.proofs.running.run_script.Proof.Tie as tie
 

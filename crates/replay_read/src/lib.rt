@@ -1,2 +1,0 @@
-// Stored answers of the Rust to Read, replayed.
-pub mod line;

@@ -1,0 +1,2 @@
+pub mod DumpedLaws
+pub mod JudgedLaws

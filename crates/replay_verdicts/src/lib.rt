@@ -1,2 +1,0 @@
-// Stored answers of the Rust to Message, replayed.
-pub mod line;

@@ -1,0 +1,4 @@
+pub mod Answers
+pub mod Cases
+pub mod Dumps
+pub mod Told

@@ -1,0 +1,4 @@
+// What stored answers of the Rust are compared with: nothing is asked of Measure, Read or Message here.
+pub mod cases;
+pub mod dumps;
+pub mod told;
