@@ -15,7 +15,7 @@ use Rattle.text.proofs.Scan.{both, never}
 use Rattle.verdicts.specs.Decisions.{contains}
 use Rattle.finding.specs.Places.{Apart, oneIfBoth}
 use Rattle.finding.proofs.EqualLaws.{or-none}
-use Rattle.finding.proofs.SearchLaws.{tried}
+use Rattle.finding.proofs.SearchLaws.{none-left, tried, stands}
 
 -- ---- stretches of places
 
@@ -34,7 +34,7 @@ module _ (first last reach : ℕ) (s : List ℕ) where
   apart-none i k l h e f = omega arith
 
   -- a place more
-  pub apart-place : (i j u : ℕ) → Apart first last reach s i j → u ≡ oneIfBoth first last (getD s j 0) (getD s (j + reach) 0) → (u ≡ 1 → ⊥) → Apart first last reach s i (j + 1)
+  apart-place : (i j u : ℕ) → Apart first last reach s i j → u ≡ oneIfBoth first last (getD s j 0) (getD s (j + reach) 0) → (u ≡ 1 → ⊥) → Apart first last reach s i (j + 1)
   unfolding Apart
   apart-place i j u p q n k l h e f = go (eqb k j) refl
     where
@@ -86,7 +86,7 @@ refuted true n = absurd (n refl)
 refuted false n = refl
 
 -- fewer bytes than the pattern has
-pub too-short : (p s : List ℕ) → length s < length p → contains p s ≡ false
+too-short : (p s : List ℕ) → length s < length p → contains p s ≡ false
 unfolding contains
 too-short p [] h = refuted (startsWith p []) (λ t. omega (arith, begins p [] t .0))
 too-short p (x ∷ s) h =
@@ -94,8 +94,20 @@ too-short p (x ∷ s) h =
 
 -- from i on
 module _ (p s : List ℕ) (i : ℕ) where
-  pub short-left : length s < i + length p → i ≤ length s → contains p (drop i s) ≡ false
-  short-left h k = too-short p (drop i s) (omega (arith, length-drop i s))
+  module _ (n : length p ≡ 0 → ⊥) where
+    pub short-left : length s < i + length p → contains p (drop i s) ≡ false
+    short-left h = too-short p (drop i s) (omega (arith, length-drop i s))
+
+    pub found-at : startsWith p (drop i s) ≡ true → contains p (drop i s) ≡ true
+    found-at t = stands p s i n (omega (arith, begins p (drop i s) t .0, length-drop i s)) t
+
+    -- also where the value has no byte there
+    pub not-at : startsWith p (drop i s) ≡ false → contains p (drop i s) ≡ contains p (drop (i + 1) s)
+    not-at f = go (leb (length s) i) refl
+      where
+        go : (t : Bool) → leb (length s) i ≡ t → contains p (drop i s) ≡ contains p (drop (i + 1) s)
+        go true t = let l = leb-true (length s) i t in none-left p s i n l ∙ sym (none-left p s (i + 1) n (omega arith))
+        go false t = tried p s i n (leb-false (length s) i t) f
 
   module _ (reach : ℕ) (r : reach + 1 ≡ length p) where
     other : (getD s i 0 ≡ getD p 0 0 → getD s (i + reach) 0 ≡ getD p reach 0 → ⊥) → startsWith p (drop i s) ≡ false

@@ -27,16 +27,16 @@ module _ (first last reach : ℕ) (s : List ℕ) (at : ℕ) where
     again : (u : ℕ) → u ≡ oneIfBoth first last (getD s (at + k) 0) (getD s (at + k + reach) 0) → Here first last reach s at (k + 1) (bitOr seen u)
     again u q z = apart-more first last reach s at (at + k) (at + (k + 1)) seen u (omega arith) q p z
 
-    done : k ≤ 16 → 16 ≤ k → eqb seen 0 ≡ true → Apart first last reach s at (at + 16)
-    done l h t = let n : k ≡ 16 = omega arith in rw n at (p (eqb-true seen 0 t))
+    done : (n : ℕ) → k ≤ n → n ≤ k → eqb seen 0 ≡ true → Apart first last reach s at (at + n)
+    done n l h t = let e : k ≡ n = omega arith in rw e at (p (eqb-true seen 0 t))
 
 ruleset walk = (begun, again, done)
 
 abbrev Inv-loop : tie.InvT-loop
-Inv-loop s first last reach at seen₀ k₀ seen k = (k ≤ 16) × Here first last reach s at k seen
+Inv-loop s first last reach at n seen₀ k₀ seen k = (k ≤ n) × Here first last reach s at k seen
 
 abbrev μ-loop : tie.MeasureT-loop
-μ-loop s first last reach at seen₀ k₀ seen k = 16 - k
+μ-loop s first last reach at n seen₀ k₀ seen k = n - k
 
 loop-holds : tie.Need-loop-holds Inv-loop μ-loop
 loop-holds c = search (needs, walk)

@@ -4,14 +4,17 @@ use borrow.Author.Needs.{needs}
 use Rattle.finding.proofs.search.skip_apart.Statement.{statement}
 use Rattle.finding.proofs.search.skip_apart.Tie as tie
 
-skip-sixteens-requires : tie.Need-skip-sixteens-requires
-skip-sixteens-requires c κs = search needs
+skip-steps-requires : tie.Need-skip-steps-requires
+skip-steps-requires c κs = search needs
 
-skip-places-requires : tie.Need-skip-places-requires
-skip-places-requires c κs = search needs
+skip-steps-requires-2 : tie.Need-skip-steps-requires-2
+skip-steps-requires-2 c κs = search needs
+
+skip-steps-requires-3 : tie.Need-skip-steps-requires-3
+skip-steps-requires-3 c κs = search needs
 
 returns : tie.Need-returns
 returns c = search (needs, apart-then)
 
 pub skip-apart-spec : {M : Type 1} → statement M
-skip-apart-spec = tie.close (tie.spec skip-sixteens-requires skip-places-requires returns)
+skip-apart-spec = tie.close (tie.spec skip-steps-requires skip-steps-requires-2 skip-steps-requires-3 returns)

@@ -1,17 +1,17 @@
--- `finding::search::skip_sixteens` meets its contract. The loop's invariant: the places so far are passed by. Assumes nothing.
+-- `finding::search::skip_steps` meets its contract. The loop's invariant: the places so far are passed by. Assumes nothing.
 use Prim.Native.Nat.{_+_, _-_, _≤_}
 use lib.ListN.{length}
 use Rattle.finding.specs.Places.{Apart}
 use Rattle.finding.proofs.PlaceLaws.{apart-steps}
 use borrow.Author.Needs.{needs}
-use Rattle.finding.proofs.search.skip_sixteens.Statement.{statement}
-use Rattle.finding.proofs.search.skip_sixteens.Tie as tie
+use Rattle.finding.proofs.search.skip_steps.Statement.{statement}
+use Rattle.finding.proofs.search.skip_steps.Tie as tie
 
 abbrev Inv-loop : tie.InvT-loop
-Inv-loop s first last reach at i₀ i = (at ≤ i) × (i + reach ≤ length s) × Apart first last reach s at i
+Inv-loop s first last reach at n i₀ i = (at ≤ i) × (i + reach ≤ length s) × Apart first last reach s at i
 
 abbrev μ-loop : tie.MeasureT-loop
-μ-loop s first last reach at i₀ i = length s - i
+μ-loop s first last reach at n i₀ i = length s - i
 
 loop-holds : tie.Need-loop-holds Inv-loop μ-loop
 loop-holds c = search (needs, apart-steps)
@@ -19,8 +19,8 @@ loop-holds c = search (needs, apart-steps)
 add-loop : tie.Need-add-loop Inv-loop μ-loop
 add-loop c = search (needs, apart-steps)
 
-add-loop-2 : tie.Need-add-loop-2 Inv-loop μ-loop
-add-loop-2 c = search (needs, apart-steps)
+sub-loop : tie.Need-sub-loop Inv-loop μ-loop
+sub-loop c = search (needs, apart-steps)
 
 apart-requires : tie.Need-apart-requires Inv-loop μ-loop
 apart-requires c κs = search (needs, apart-steps)
@@ -40,15 +40,15 @@ returns c = search (needs, apart-steps)
 returns-2 : tie.Need-returns-2 Inv-loop μ-loop
 returns-2 c = search (needs, apart-steps)
 
-pub skip-sixteens-spec : {M : Type 1} → statement M
-skip-sixteens-spec =
+pub skip-steps-spec : {M : Type 1} → statement M
+skip-steps-spec =
     tie.close
     (tie.spec
     Inv-loop
     μ-loop
     loop-holds
     add-loop
-    add-loop-2
+    sub-loop
     apart-requires
     add-i
     loop-less
