@@ -6,7 +6,7 @@ use mathlib.Core.List.{List, map}
 use lib.ListN.{drop}
 use lib.Dec.{eqb}
 use Rattle.text.specs.Base.{if_then_else_}
-use Rattle.expect.specs.Told.{counted}
+use Rattle.told.specs.Told.{counted}
 use Rattle.rows.specs.Rows.{at, infoRow, responseRow}
 use Rattle.tallies.specs.declared.tally.Outcome.{Outcome}
 use Rattle.tallies.specs.declared.tally.Outcome.the-variants.{Failed, Undecided, NothingChecked, Passed}

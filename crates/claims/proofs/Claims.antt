@@ -55,7 +55,7 @@ use Rattle.ran.proofs.DemandThree as three
 use Rattle.claims.specs.Total.{Total}
 use Rattle.claims.specs.WhiteSpace.{Trimmed}
 use Rattle.claims.proofs.DemandOne.{total}
-use Rattle.claims.proofs.Table.{Rows, table}
+use Rattle.table.proofs.Table.{Rows, table}
 use Rattle.claims.proofs.WhiteSpace.{trimmed-is}
 
 -- ---- DEMAND 1: total and in bounds
@@ -129,7 +129,7 @@ module _
   pub in-words : InWords lent before calls (ourRun lent before calls .0) (ourRun lent before calls .1)
   in-words = three.in-words text entries items expectations store script entries-left expectations-left answers leaves-entries leaves-expectations before calls
 
--- ---- THE TABLE, "Proved in a single table": P1 to P16, sixteen rows (`Rows`, proofs/Table.antt)
+-- ---- THE TABLE, "Proved in a single table": P1 to P16, sixteen rows (`Rows`, crates/table/proofs/Table.antt)
 
 pub the-table : Rows
 the-table = table

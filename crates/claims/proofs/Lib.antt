@@ -1,4 +1,3 @@
 pub mod Claims
 pub mod DemandOne
-pub mod Table
 pub mod WhiteSpace

@@ -32,7 +32,7 @@ fn put_features_of(
 {
     match said::said::value_of(starts, ends, k) {
         Piece::Absent => 0,
-        Piece::Is(v) => tables::sets::put_features(text, v, items, at),
+        Piece::Is(v) => item_sets::put_features(text, v, items, at),
     }
 }
 

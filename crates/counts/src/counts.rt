@@ -134,7 +134,7 @@ pub fn feature_count(text: &[u8], v: Span) -> usize
     let q = pieces::pieces::trimmed(text, v);
     let start = q.start;
     let end = q.end;
-    if tables::sets::in_braces(text, q) {
+    if item_sets::in_braces(text, q) {
         return filled_count(
             text,
             Span {

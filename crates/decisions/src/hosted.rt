@@ -3,7 +3,7 @@ ghost use mathlib.Core.Path.{_≡_};
 ghost use Rattle.verdicts.specs.Decisions.{decides};
 ghost use Rattle.verdicts.specs.Expected as expected;
 ghost use Rattle.verdicts.specs.Verdicts.{code};
-ghost use Rattle.decisions.specs.Orders.{matching, orderOf};
+ghost use Rattle.orders.specs.Orders.{matching, orderOf};
 
 pub fn exact(text: &[u8], value: &[u8]) -> u8
     ensures { λ r. ⌜ r ≡ code (decides (expected.exact (now (text .entry))) (now (value .entry))) ⌝ }
@@ -21,5 +21,5 @@ pub fn pattern(pattern: &[u8], value: &[u8]) -> u8
 pub fn ordering(kind: u8, n: i64, value: &[u8]) -> u8
     ensures { λ r. ⌜ r ≡ code (decides (matching (orderOf kind) n) (now (value .entry))) ⌝ }
 {
-    verdicts::code_of(crate::orders::compare(crate::orders::order_of(kind), n, value))
+    verdicts::code_of(orders::compare(orders::order_of(kind), n, value))
 }

@@ -1,2 +1,1 @@
 pub mod ExpectRead
-pub mod Told

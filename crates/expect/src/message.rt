@@ -3,14 +3,14 @@ ghost use mathlib.Core.Path.{_≡_};
 ghost use Prim.Native.Nat.{_≤_};
 ghost use lib.ListN.{length, take};
 ghost use Rattle.text.specs.Base.{overlaid};
-ghost use Rattle.verdicts.specs.Lookup.{lookedIn, toldIn};
+ghost use Rattle.verdicts.specs.Lookup.{lookedIn, toldIn, presentBytes};
 ghost use Rattle.verdicts.specs.Messages.{entryMessage, handshakeMessage};
 ghost use Rattle.verdicts.specs.Told.{greeting, reply};
 ghost use Rattle.verdicts.specs.Held.{expectedOf, responseOf, infoOf, expectIn, responseIn, infoIn};
-ghost use Rattle.frames.specs.Frames.{frameBytes, presentBytes};
+ghost use Rattle.frames.specs.Frames.{frameBytes};
 ghost use Rattle.sought.specs.Values.{valueText};
 ghost use Rattle.expect.specs.ExpectRead.{noValue};
-ghost use Rattle.expect.specs.Told.{counted, toldOf, framedAs, unlessRefused};
+ghost use Rattle.told.specs.Told.{counted, toldOf, framedAs, unlessRefused};
 use frames::frames::Frame;
 use lookups::looked::looked_entry;
 use lookups::looked::looked_handshake;
@@ -21,26 +21,16 @@ use messages::writes::put_frame;
 use scratch::rooms::value_room;
 use scratch::written::write_value;
 use script::records::Expect;
-use script::records::Refusal;
 use script::response::DaemonResponse;
 use script::response::HandshakeInfo;
 use sought::value::Value;
+use told::Told;
+use told::counted_of;
+use told::refused;
 use verdict_of::entry_verdict;
 use verdict_of::handshake_verdict;
 use verdicts::Verdict;
 use writing::room::Room;
-
-// What Message answers: a refusal; or the verdict, and how many bytes the message has.
-pub enum Told {
-    Refused(Refusal),
-    Says(Verdict, usize),
-}
-
-fn refused(number: u64) -> Told
-    ensures { λ r. ⌜ r ≡ Told.Refused (record { number = number; line = 0 }) ⌝ }
-{
-    Told::Refused(Refusal { number, line: 0 })
-}
 
 fn is_missing(v: Value) -> bool
     ensures { λ r. ⌜ r ≡ noValue v ⌝ }
@@ -55,16 +45,6 @@ fn is_missing(v: Value) -> bool
         Value::List(_) => false,
         Value::Features(_) => false,
     }
-}
-
-// The first 32,768 records of a table of places.
-pub fn counted_of(lists: &[[usize; 2]]) -> &[[usize; 2]]
-    ensures { λ r. ⌜ now r ≡ counted (now (lists .entry)) ⌝ }
-{
-    if lists.len() <= 0x8000 {
-        return lists;
-    }
-    &lists[..0x8000]
 }
 
 // Writes a value and a message, once it is known that both fit: 34, then 38.
@@ -112,9 +92,9 @@ pub fn entry_message(
     ensures { λ t. ⌜ now (scratch .exit) ≡ unlessRefused t (presentBytes (lookedIn (responseOf (now (bytes .entry)) (counted (now (lists .entry))) r) (expectedOf (now (text .entry)) e))) (now (scratch .entry)) ⌝ }
     ensures { λ t. ⌜ now (buffer .exit) ≡ unlessRefused t (entryMessage (responseOf (now (bytes .entry)) (counted (now (lists .entry))) r) (expectedOf (now (text .entry)) e)) (now (buffer .entry)) ⌝ }
 {
-    if places::inside::expect_in(text.len(), e) {
+    if places::expect_in(text.len(), e) {
         let table = counted_of(lists);
-        if places::inside::response_in(bytes.len(), table, r) {
+        if response_places::response_in(bytes.len(), table, r) {
             let value = looked_entry(e, text, r);
             let v = entry_verdict(e, value, text, r, bytes, table);
             let terminal = r.terminal;
@@ -140,9 +120,9 @@ pub fn handshake_message(
     ensures { λ t. ⌜ now (scratch .exit) ≡ unlessRefused t (presentBytes (toldIn (infoOf (now (bytes .entry)) (counted (now (lists .entry))) i) (expectedOf (now (text .entry)) e))) (now (scratch .entry)) ⌝ }
     ensures { λ t. ⌜ now (buffer .exit) ≡ unlessRefused t (handshakeMessage (infoOf (now (bytes .entry)) (counted (now (lists .entry))) i) (expectedOf (now (text .entry)) e)) (now (buffer .entry)) ⌝ }
 {
-    if places::inside::expect_in(text.len(), e) {
+    if places::expect_in(text.len(), e) {
         let table = counted_of(lists);
-        if places::inside::info_in(bytes.len(), table, i) {
+        if response_places::info_in(bytes.len(), table, i) {
             let value = looked_handshake(e, i);
             let v = handshake_verdict(e, value, text, i, bytes, table);
             let f = handshake_frame(e, v);

@@ -13,7 +13,7 @@ ghost use Rattle.script.specs.Reading.{measured};
 ghost use Rattle.verdicts.specs.Decisions.{decides};
 ghost use Rattle.verdicts.specs.Expected.{exact, regex};
 ghost use Rattle.verdicts.specs.Verdicts.{code};
-ghost use Rattle.decisions.specs.Orders.{matching, orderOf};
+ghost use Rattle.orders.specs.Orders.{matching, orderOf};
 ghost use Rattle.exports.specs.Answered.{refusedAs, lineOf, countsOr};
 ghost use Rattle.given.specs.Given.{isGiven, givenOr};
 ghost use Rattle.dump.specs.Dump.{readDump};

@@ -1,12 +1,11 @@
 // Message, as a host calls it: an expectation, a response and the handshake's information come in rows of numbers.
 ghost use mathlib.Core.Path.{_≡_};
 ghost use lib.ListN.{length};
-ghost use Rattle.verdicts.specs.Lookup.{lookedIn, toldIn};
+ghost use Rattle.verdicts.specs.Lookup.{lookedIn, toldIn, presentBytes};
 ghost use Rattle.verdicts.specs.Messages.{entryMessage, handshakeMessage};
 ghost use Rattle.verdicts.specs.Held.{expectedOf, responseOf, infoOf};
-ghost use Rattle.frames.specs.Frames.{presentBytes};
 ghost use Rattle.rows.specs.Rows.{expectRow, responseRow, infoRow};
-ghost use Rattle.expect.specs.Told.{counted, unlessRefused};
+ghost use Rattle.told.specs.Told.{counted, unlessRefused};
 ghost use Rattle.given.specs.Told.{refusalOf, verdictOf, lengthOf};
 ghost use Rattle.row_messages.specs.Messages.{entryTold, handshakeTold};
 

@@ -1,3 +1,2 @@
-pub mod EqualLaws
 pub mod SearchLaws
 pub mod PlaceLaws

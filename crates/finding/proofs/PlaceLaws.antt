@@ -14,7 +14,7 @@ use Rattle.text.specs.Parts.{startsWith}
 use Rattle.text.proofs.Scan.{both, never}
 use Rattle.verdicts.specs.Decisions.{contains}
 use Rattle.finding.specs.Places.{Apart, oneIfBoth}
-use Rattle.finding.proofs.EqualLaws.{or-none}
+use Rattle.same_values.proofs.EqualLaws.{or-none}
 use Rattle.finding.proofs.SearchLaws.{none-left, tried, stands}
 
 -- ---- stretches of places

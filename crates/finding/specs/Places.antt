@@ -1,4 +1,4 @@
--- What only the code that looks for a pattern, or compares two values, many bytes at a time needs. Assumes nothing.
+-- What only the code that looks for a pattern, many places at a time, needs. Assumes nothing.
 use Prim.Native.Nat.{ℕ, _+_, _≤_, _<_}
 use mathlib.Core.Path.{_≡_}
 use mathlib.Core.List.{List}
@@ -13,7 +13,3 @@ Apart first last reach s i j = (k : ℕ) → i ≤ k → k < j → getD s k 0 �
 -- 1 where both bytes are the ones that are looked for, else 0
 abbrev pub oneIfBoth : (first last x y : ℕ) → ℕ
 oneIfBoth first last x y = if eqb x first & eqb y last then 1 else 0
-
--- 0 where the bytes are the same, else 1
-abbrev pub oneUnless : (x y : ℕ) → ℕ
-oneUnless x y = if eqb x y then 0 else 1

@@ -1,3 +1,2 @@
-// Values compared byte by byte, and the search for a plain pattern.
-pub mod equal;
+// The search for a plain pattern.
 pub mod search;

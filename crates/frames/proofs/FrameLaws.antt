@@ -24,7 +24,7 @@ use Rattle.verdicts.specs.declared.Verdict.the-variants.{Passed, Failed, Undeci
 use Rattle.verdicts.specs.Expected as expected
 use Rattle.verdicts.specs.Expected.{Matching, exact, regex, greaterThan, lessThan, greaterOrEqual, lessOrEqual, Expected}
 use Rattle.verdicts.specs.Told.{Response, Info, Subject, greeting, reply}
-use Rattle.verdicts.specs.Lookup.{daemonText, trustText, featuresText, looked, lookedIn, toldIn}
+use Rattle.verdicts.specs.Lookup.{daemonText, trustText, featuresText, looked, lookedIn, toldIn, presentBytes}
 use Rattle.verdicts.specs.Decisions.{passedIf, patternDecides, ordered, decides}
 use Rattle.verdicts.specs.Verdicts.{namedBy, valued, verdict}
 use Rattle.verdicts.specs.Held.{textAt, matchingOf, expectedOf, terminalBytes, responseOf, infoOf}
@@ -37,7 +37,7 @@ use Rattle.frames.specs.declared.frames.Piece.{Piece}
 use Rattle.frames.specs.declared.frames.Piece.the-variants as pieces
 use Rattle.frames.specs.declared.frames.Frame.{Frame}
 use Rattle.frames.specs.declared.frames.Heading.{Heading}
-use Rattle.frames.specs.Frames.{nowhere, pieceBytes, endingBytes, frameBytes, shownAs, wordFrame, noFrame, undecidedFrame, failedFrame, valuedFrame, terminalFrame, isMissing, presentBytes, missingOr, headed, alone, errorHeaded, entryFrame, handshakeFrame}
+use Rattle.frames.specs.Frames.{nowhere, pieceBytes, endingBytes, frameBytes, shownAs, wordFrame, noFrame, undecidedFrame, failedFrame, valuedFrame, terminalFrame, isMissing, missingOr, headed, alone, errorHeaded, entryFrame, handshakeFrame}
 
 -- ---- words and pieces in a row
 

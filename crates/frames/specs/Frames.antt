@@ -34,10 +34,6 @@ unfoldable pub isMissing : Option (List ℕ) → Bool
 isMissing none = true
 isMissing (some value) = false
 
-unfoldable pub presentBytes : Option (List ℕ) → List ℕ
-presentBytes none = []
-presentBytes (some value) = value
-
 -- ---- what a frame comes to
 
 unfoldable pub endingBytes : (value : List ℕ) → Ending → List ℕ

@@ -4,8 +4,8 @@ use mathlib.Core.Path.{_≡_, sym, ap, _∙_}
 use Rattle.script.specs.declared.records.Refusal.{Refusal}
 use Rattle.verdicts.specs.Verdicts.{code}
 use Rattle.verdicts.specs.declared.Verdict.{Verdict}
-use Rattle.expect.specs.declared.message.Told.{Told}
-use Rattle.expect.specs.declared.message.Told.the-variants.{Refused, Says}
+use Rattle.told.specs.declared.Told.{Told}
+use Rattle.told.specs.declared.Told.the-variants.{Refused, Says}
 use Rattle.given.specs.Told.{refusalOf, verdictOf, lengthOf}
 
 module _ (t : Told) where

@@ -2,8 +2,8 @@
 -- it is refused. Assumes nothing.
 use Prim.Native.Nat.{ℕ}
 use Rattle.verdicts.specs.Verdicts.{code}
-use Rattle.expect.specs.declared.message.Told.{Told}
-use Rattle.expect.specs.declared.message.Told.the-variants.{Refused, Says}
+use Rattle.told.specs.declared.Told.{Told}
+use Rattle.told.specs.declared.Told.the-variants.{Refused, Says}
 
 unfoldable pub refusalOf : Told → ℕ
 refusalOf (Refused r) = r .number

@@ -3,8 +3,8 @@ ghost use mathlib.Core.Path.{_≡_};
 ghost use Rattle.values.specs.Numbers.{numberOf, integerOf};
 ghost use Rattle.given.specs.Given.{isGiven, givenOr};
 ghost use Rattle.given.specs.Told.{refusalOf, verdictOf, lengthOf};
-use expect::message::Told;
 use text::trim::Place;
+use told::Told;
 use values::number::Integer;
 use values::number::Number;
 

@@ -15,7 +15,7 @@ fn exact(text: &[u8], braces: bool, r: Items, bytes: &[u8], lists: &[[usize; 2]]
     requires { ⌜ r .count ≤ 0x8000 ⌝ }
     ensures { λ v. ⌜ v ≡ decides (expected.exact (now (text .entry))) (listText braces (textsIn (now (bytes .entry)) (now (lists .entry)) r)) ⌝ }
 {
-    decisions::passed_if(list_pieces::compare::same(text, braces, r, bytes, lists))
+    orders::passed_if(list_pieces::compare::same(text, braces, r, bytes, lists))
 }
 
 fn regex(pattern: &[u8], braces: bool, r: Items, bytes: &[u8], lists: &[[usize; 2]]) -> Verdict
@@ -23,8 +23,8 @@ fn regex(pattern: &[u8], braces: bool, r: Items, bytes: &[u8], lists: &[[usize; 
     requires { ⌜ r .count ≤ 0x8000 ⌝ }
     ensures { λ v. ⌜ v ≡ decides (expected.regex (now (pattern .entry))) (listText braces (textsIn (now (bytes .entry)) (now (lists .entry)) r)) ⌝ }
 {
-    if decisions::patterns::is_plain(pattern) {
-        decisions::passed_if(crate::search::contains(pattern, braces, r, bytes, lists))
+    if signs::is_plain(pattern) {
+        orders::passed_if(crate::search::contains(pattern, braces, r, bytes, lists))
     } else {
         Verdict::Undecided
     }
@@ -44,8 +44,8 @@ pub fn decide_list(
     ensures { λ v. ⌜ v ≡ decides (matchingOf (now (text .entry)) m) (listText braces (textsIn (now (bytes .entry)) (now (lists .entry)) r)) ⌝ }
 {
     match m {
-        Matcher::Exact(p) => exact(places::texts::text_at(text, p), braces, r, bytes, lists),
-        Matcher::Regex(p) => regex(places::texts::text_at(text, p), braces, r, bytes, lists),
+        Matcher::Exact(p) => exact(texts::text_at(text, p), braces, r, bytes, lists),
+        Matcher::Regex(p) => regex(texts::text_at(text, p), braces, r, bytes, lists),
         Matcher::GreaterThan(_) => Verdict::Failed,
         Matcher::LessThan(_) => Verdict::Failed,
         Matcher::GreaterOrEqual(_) => Verdict::Failed,

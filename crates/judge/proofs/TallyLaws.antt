@@ -16,7 +16,7 @@ use Rattle.script.specs.declared.records.Entry.{Entry}
 use Rattle.script.specs.declared.response.HandshakeInfo.{HandshakeInfo}
 use Rattle.script.specs.declared.response.DaemonResponse.{DaemonResponse}
 use Rattle.slots.specs.Blank.{blankEntry}
-use Rattle.expect.specs.Told.{counted}
+use Rattle.told.specs.Told.{counted}
 use Rattle.verdicts.specs.declared.handed.Handed.the-variants.{Info, Response}
 use Rattle.tallies.specs.declared.tally.Counts.{Counts}
 use Rattle.judging.specs.Calls.{judge, wrongNumber}

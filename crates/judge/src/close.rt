@@ -3,8 +3,8 @@ ghost use mathlib.Core.Path.{_≡_};
 ghost use Rattle.tallies.specs.Answers.{closeAnswer};
 use crate::calls::Turn;
 use crate::tally::Tally;
+use closes::close_answer;
 use script::records::Script;
-use tallies::close::close_answer;
 
 impl Tally {
     // Gives the same tally back.

@@ -2,7 +2,7 @@
 ghost use mathlib.Core.Path.{_≡_};
 ghost use mathlib.Core.List.{[]};
 ghost use lib.ListN.{length};
-ghost use Rattle.expect.specs.Told.{counted};
+ghost use Rattle.told.specs.Told.{counted};
 ghost use Rattle.verdicts.specs.declared.handed.Handed.the-variants.{Info, Response};
 ghost use Rattle.judging.specs.Calls.{judge};
 ghost use Rattle.judging.specs.Judge.{judgeStep};
@@ -11,7 +11,6 @@ ghost use Rattle.ranges.specs.Judging.{lentOf, askedOf};
 ghost use Rattle.judge.specs.Tally.{freshTally, stateOf, turned};
 use crate::calls::Turn;
 use crate::calls::turn_of;
-use expect::message::counted_of;
 use ranges::checks::counting;
 use ranges::steps::entry_range;
 use ranges::steps::handshake_range;
@@ -22,6 +21,7 @@ use script::records::Script;
 use script::response::DaemonResponse;
 use script::response::HandshakeInfo;
 use tallies::tally::Counts;
+use told::counted_of;
 use verdicts::handed::Handed;
 
 // The number that is judged next (0 is the handshake, entries are from 1 on), and the verdicts so far.

@@ -20,7 +20,7 @@ fn begins(value: &[u8], front: &[u8]) -> bool
     if value.len() < n {
         return false;
     }
-    finding::equal::same_value(&value[..n], front)
+    same_values::same_value(&value[..n], front)
 }
 
 // Whether the list, from the byte at o of its piece at j on, is the pattern, or only begins with it.

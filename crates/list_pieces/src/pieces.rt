@@ -34,14 +34,14 @@ pub fn piece_at<'a>(
     let i = j / 2;
     let first = r.first;
     if j == 0 {
-        return places::texts::part_of(signs, 0, n);
+        return texts::part_of(signs, 0, n);
     }
     if r.count <= i {
-        return places::texts::part_of(signs, n + 2, n);
+        return texts::part_of(signs, n + 2, n);
     }
     if j % 2 == 0 {
-        return places::texts::part_of(signs, n, 2);
+        return texts::part_of(signs, n, 2);
     }
     let item = lists[first + i];
-    places::texts::part_of(bytes, item[0], item[1])
+    texts::part_of(bytes, item[0], item[1])
 }

@@ -5,7 +5,7 @@ ghost use lib.ListN.{length, drop};
 ghost use Rattle.tables.specs.Written.{writtenAt};
 ghost use Rattle.verdicts.specs.Lookup.{joined, bracketed, braced};
 ghost use Rattle.lists.specs.Lists.{itemTexts, behind};
-use places::texts::part_of;
+use texts::part_of;
 use writing::words::put_word;
 
 // The texts from the second on, `, ` in front of each.

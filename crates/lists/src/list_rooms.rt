@@ -4,7 +4,7 @@ ghost use lib.ListN.{length, drop};
 ghost use Rattle.verdicts.specs.Lookup.{joined};
 ghost use Rattle.writing.specs.Room.{lessBy};
 ghost use Rattle.lists.specs.Lists.{itemTexts, behind};
-use places::texts::part_of;
+use texts::part_of;
 use writing::room::Room;
 use writing::room::less;
 

@@ -6,7 +6,6 @@ ghost use Rattle.verdicts.specs.Lookup.{lookedIn, toldIn, trustOf};
 ghost use Prim.Native.Nat.{ℕ};
 ghost use mathlib.Core.List.{List};
 ghost use mathlib.Core.Option.{some, Option·map, Option·getD};
-use places::texts::text_at;
 use script::records::Expect;
 use script::records::Maybe;
 use script::response::DaemonResponse;
@@ -16,6 +15,7 @@ use sought::fields::field_value;
 use sought::value::Value;
 use sought::value::text_value;
 use sought::value::whole_value;
+use texts::text_at;
 
 // In a response; the field's name is a part of the text.
 pub fn looked_entry(e: Expect, text: &[u8], r: DaemonResponse) -> Value

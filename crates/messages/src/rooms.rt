@@ -8,7 +8,7 @@ use frames::frames::Frame;
 use frames::frames::Piece;
 use frames::words::head_len;
 use frames::words::middle_len;
-use places::texts::text_at;
+use texts::text_at;
 use writing::integer::integer_len;
 use writing::room::Room;
 use writing::room::less;

@@ -10,7 +10,7 @@ use frames::frames::Frame;
 use frames::frames::Piece;
 use phrases::put_head;
 use phrases::put_middle;
-use places::texts::text_at;
+use texts::text_at;
 use writing::integer::put_integer;
 use writing::words::put_word;
 

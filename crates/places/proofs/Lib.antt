@@ -1,2 +1,1 @@
 pub mod InsideLaws
-pub mod PartLaws

@@ -13,7 +13,7 @@ use Rattle.script.specs.declared.records.Items.{Items}
 use Rattle.script.specs.declared.records.Expectation.{Expectation}
 use Rattle.verdicts.specs.Expected.{Expected}
 use Rattle.verdicts.specs.Held.{expectedOf, expectIn, ranged}
-use Rattle.frames.specs.Frames.{presentBytes}
+use Rattle.verdicts.specs.Lookup.{presentBytes}
 use Rattle.slots.specs.Blank.{blankExpectation}
 use Rattle.subjects.specs.Fits.{fits}
 use Rattle.judging.specs.Calls.{said, tooLong}

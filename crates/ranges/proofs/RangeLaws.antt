@@ -15,10 +15,10 @@ use Rattle.text.specs.Base.{overlaid}
 use Rattle.script.specs.declared.records.Items.{Items}
 use Rattle.script.specs.declared.records.Expectation.{Expectation}
 use Rattle.verdicts.specs.Expected.{Expected}
-use Rattle.frames.specs.Frames.{presentBytes}
 use Rattle.verdicts.specs.Verdicts.{code}
 use Rattle.verdicts.specs.Held.{expectedOf, ranged}
 use Rattle.verdicts.specs.declared.Verdict.{Verdict}
+use Rattle.verdicts.specs.Lookup.{presentBytes}
 use Rattle.tables.specs.Written.{writtenAt}
 use Rattle.tables.proofs.WrittenLaws.{written-none, written-one, written-twice}
 use Rattle.slots.specs.Blank.{blankExpectation}

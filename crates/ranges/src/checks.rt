@@ -11,7 +11,7 @@ ghost use Rattle.tallies.specs.Tally.{overLimit};
 ghost use Rattle.tallies.specs.Answers.{refusedIf, firstRefusal};
 ghost use Rattle.judging.specs.Calls.{wrongNumber};
 ghost use Rattle.ranges.specs.Judging.{refusalBy, settledAs};
-use places::inside::inside;
+use places::inside;
 use script::records::Items;
 use tallies::tally::Counts;
 use verdicts::handed::Handed;

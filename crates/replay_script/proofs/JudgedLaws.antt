@@ -18,16 +18,15 @@ use Rattle.script.specs.declared.response.HandshakeInfo.{HandshakeInfo}
 use Rattle.verdicts.specs.Told.{Subject, greeting, reply}
 use Rattle.verdicts.specs.Held.{expectedOf, responseOf, infoOf, expectIn, responseIn, infoIn}
 use Rattle.verdicts.specs.Expected.{Expected}
-use Rattle.verdicts.specs.Lookup.{looked}
+use Rattle.verdicts.specs.Lookup.{looked, presentBytes}
 use Rattle.verdicts.specs.Messages.{message, entryMessage, handshakeMessage}
 use Rattle.verdicts.specs.Verdicts.{verdict}
 use Rattle.verdicts.specs.declared.Verdict.{Verdict}
-use Rattle.frames.specs.Frames.{presentBytes}
 use Rattle.writing.proofs.PutLaws.{front-taken}
 use Rattle.rows.specs.Rows.{expectRow, responseRow, infoRow}
-use Rattle.expect.specs.Told.{counted, framedAs, toldOf, unlessRefused}
-use Rattle.expect.specs.declared.message.Told.{Told}
-use Rattle.expect.specs.declared.message.Told.the-variants.{Refused, Says}
+use Rattle.told.specs.Told.{counted, framedAs, toldOf, unlessRefused}
+use Rattle.told.specs.declared.Told.{Told}
+use Rattle.told.specs.declared.Told.the-variants.{Refused, Says}
 use Rattle.fields.specs.declared.numbers.NumbersAt.{NumbersAt}
 use Rattle.fields.specs.declared.numbers.NumbersAt.the-variants as NumbersAt
 use Rattle.fields.specs.declared.numbers.IntegerAt.{IntegerAt}

@@ -5,8 +5,8 @@ use Rattle.text.specs.Base.{if_then_else_}
 use Rattle.text.specs.Literal.{spells}
 use Rattle.text.specs.Words.{wordAt}
 use Rattle.fields.specs.Fields.{wordBytes}
-use Rattle.replayed.specs.declared.cases.Case.{Case}
-use Rattle.replayed.specs.declared.cases.Case.the-variants.{Dumped, Judged, Wrong}
+use Rattle.cases.specs.declared.Case.{Case}
+use Rattle.cases.specs.declared.Case.the-variants.{Dumped, Judged, Wrong}
 use Rattle.replay_script.specs.Measured.{measureReplayed}
 use Rattle.replay_script.specs.Dumped.{agreed}
 use Rattle.replay_script.specs.Judged as Judged

@@ -11,7 +11,7 @@ use Rattle.verdicts.specs.Held.{expectedOf, responseOf, infoOf, expectIn, respo
 use Rattle.verdicts.specs.Expected.{Expected}
 use Rattle.verdicts.specs.Messages.{message}
 use Rattle.rows.specs.Rows.{expectRow, responseRow, infoRow}
-use Rattle.expect.specs.Told.{counted, toldOf}
+use Rattle.told.specs.Told.{counted, toldOf}
 use Rattle.fields.specs.Fields.{after, numbersAt, integerAt, bytesAt}
 use Rattle.replayed.specs.Told.{ofHandshake, tableOf, saysSo}
 

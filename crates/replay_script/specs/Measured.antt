@@ -10,10 +10,10 @@ use Rattle.text.specs.Trim.{trimmed}
 use Rattle.script.specs.Reading.{Parsed, measured}
 use Rattle.script.specs.declared.records.Counts.{Counts}
 use Rattle.fields.specs.Fields.{after, numbersAt, hexFor}
-use Rattle.replayed.specs.Answers.{answer, matched}
-use Rattle.replayed.specs.declared.cases.Answer.{Answer}
-use Rattle.replayed.specs.declared.cases.Case.{Case}
-use Rattle.replayed.specs.declared.cases.Case.the-variants.{Read, Refused, Wrong}
+use Rattle.cases.specs.Answers.{answer, matched}
+use Rattle.cases.specs.declared.Answer.{Answer}
+use Rattle.cases.specs.declared.Case.{Case}
+use Rattle.cases.specs.declared.Case.the-variants.{Read, Refused, Wrong}
 
 -- a case that agrees counts as what it is, a text that is read or one that is refused
 unfoldable pub replayed : Parsed Counts → Answer → Case

@@ -3,8 +3,8 @@ use Prim.Native.Nat.{ℕ}
 use mathlib.Core.List.{List, [], _∷_}
 use Rattle.text.specs.Lines.{lines, lineBytes}
 use Rattle.text.specs.declared.lines.Line.{Line}
-use Rattle.replayed.specs.declared.cases.Tally.{Tally}
-use Rattle.replayed.specs.Cases.{tally, counted}
+use Rattle.cases.specs.declared.Tally.{Tally}
+use Rattle.cases.specs.Cases.{tally, counted}
 use Rattle.replay_script.specs.Answers.{lineReplayed}
 
 -- every line is a case

@@ -7,9 +7,9 @@ ghost use Rattle.replay_script.specs.Judged.{entrySays, handshakeSays, s
 use fields::bytes::BytesAt;
 use fields::numbers::IntegerAt;
 use fields::numbers::NumbersAt;
-use replayed::told::is_told;
-use replayed::told::of_handshake;
-use replayed::told::table_of;
+use replayed::judged::is_told;
+use replayed::judged::of_handshake;
+use replayed::judged::table_of;
 
 fn entry_says(n: [u64; 39], m: i64, text: &[u8], bytes: &[u8], message: &[u8]) -> bool
     ensures { λ r. ⌜ r ≡ entrySays n m (now (text .entry)) (now (bytes .entry)) (now (message .entry)) ⌝ }

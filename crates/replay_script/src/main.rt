@@ -6,7 +6,7 @@
 ghost use mathlib.Core.Path.{_≡_};
 ghost use Prim.Native.Nat.{_≤_};
 ghost use lib.ListN.{length};
-ghost use Rattle.replayed.specs.Cases.{total};
+ghost use Rattle.cases.specs.Cases.{total};
 ghost use Rattle.replay_script.specs.Answers.{readReplayed, judgedReplayed, lineReplayed};
 ghost use Rattle.replay_script.specs.Tallies.{allCounted};
 
@@ -14,9 +14,9 @@ mod dumped;
 mod judged;
 mod measured;
 
+use cases::Case;
+use cases::Tally;
 use libc::STDOUT_FILENO;
-use replayed::cases::Case;
-use replayed::cases::Tally;
 
 // What follows the word `read`.
 fn replay_read(line: &[u8], from: usize) -> Case

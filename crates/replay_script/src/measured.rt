@@ -4,11 +4,11 @@ ghost use Prim.Native.Nat.{_≤_};
 ghost use lib.ListN.{length};
 ghost use Rattle.script.specs.Reading.{measured};
 ghost use Rattle.replay_script.specs.Measured.{replayed, hexReplayed, measureReplayed};
+use cases::Answer;
+use cases::Case;
+use cases::agrees;
 use fields::bytes::Bytes;
 use fields::numbers::NumbersAt;
-use replayed::cases::Answer;
-use replayed::cases::Case;
-use replayed::cases::agrees;
 
 // A text and its stored answer.
 fn replay(text: &[u8], stored: Answer) -> Case

@@ -9,8 +9,8 @@ use Rattle.text.specs.Parts.{sameBytes}
 use Rattle.script.specs.declared.records.Refusal.{Refusal}
 use Rattle.verdicts.specs.Verdicts.{code}
 use Rattle.verdicts.specs.declared.Verdict.{Verdict}
-use Rattle.expect.specs.declared.message.Told.{Told}
-use Rattle.expect.specs.declared.message.Told.the-variants.{Refused, Says}
+use Rattle.told.specs.declared.Told.{Told}
+use Rattle.told.specs.declared.Told.the-variants.{Refused, Says}
 use Rattle.replayed.specs.Told.{writtenAs}
 
 module _ (t : Told) (stored : List ℕ) (v : ℕ) (left : List ℕ) where

@@ -8,8 +8,8 @@ use lib.ListN.{length, getD, take}
 use Rattle.text.specs.Base.{_&_}
 use Rattle.text.specs.Parts.{sameBytes}
 use Rattle.verdicts.specs.Verdicts.{code}
-use Rattle.expect.specs.declared.message.Told.{Told}
-use Rattle.expect.specs.declared.message.Told.the-variants.{Refused, Says}
+use Rattle.told.specs.declared.Told.{Told}
+use Rattle.told.specs.declared.Told.the-variants.{Refused, Says}
 
 abbrev pub ofHandshake : (n : List ℕ) → Bool
 ofHandshake n = eqb (getD n 0 0) 0

@@ -1,4 +1,3 @@
 // What stored answers of the Rust are compared with: nothing is asked of Measure, Read or Message here.
-pub mod cases;
 pub mod dumps;
-pub mod told;
+pub mod judged;

@@ -9,13 +9,12 @@ use mir.ValLaws.{toZ-ofZ}
 use Rattle.script.specs.declared.records.Expect.{Expect}
 use Rattle.script.specs.declared.response.DaemonResponse.{DaemonResponse}
 use Rattle.script.specs.declared.response.HandshakeInfo.{HandshakeInfo}
-use Rattle.verdicts.specs.Lookup.{lookedIn, toldIn}
+use Rattle.verdicts.specs.Lookup.{lookedIn, toldIn, presentBytes}
 use Rattle.verdicts.specs.Messages.{entryMessage, handshakeMessage}
 use Rattle.verdicts.specs.Held.{expectedOf, responseOf, infoOf}
-use Rattle.frames.specs.Frames.{presentBytes}
 use Rattle.rows.specs.Rows.{expectRow, responseRow, infoRow}
-use Rattle.expect.specs.Told.{counted, unlessRefused}
-use Rattle.expect.specs.declared.message.Told.{Told}
+use Rattle.told.specs.Told.{counted, unlessRefused}
+use Rattle.told.specs.declared.Told.{Told}
 use Rattle.row_messages.specs.Messages.{entryTold, handshakeTold}
 
 -- the machine hands the matcher's number on as bits, and reads it back

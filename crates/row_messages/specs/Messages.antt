@@ -7,8 +7,8 @@ use Rattle.script.specs.declared.response.DaemonResponse.{DaemonResponse}
 use Rattle.script.specs.declared.response.HandshakeInfo.{HandshakeInfo}
 use Rattle.verdicts.specs.Told.{greeting, reply}
 use Rattle.verdicts.specs.Held.{expectedOf, responseOf, infoOf, expectIn, responseIn, infoIn}
-use Rattle.expect.specs.Told.{counted, toldOf}
-use Rattle.expect.specs.declared.message.Told.{Told}
+use Rattle.told.specs.Told.{counted, toldOf}
+use Rattle.told.specs.declared.Told.{Told}
 
 -- by the lengths of the scratch and of the buffer
 module _ (text : List ℕ) (e : Expect) (bytes : List ℕ) (lists : List (List ℕ)) where

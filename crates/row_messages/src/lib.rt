@@ -1,14 +1,13 @@
 // Message, of an expectation, a response and the handshake's information that come in rows of numbers.
 ghost use mathlib.Core.Path.{_≡_};
 ghost use lib.ListN.{length};
-ghost use Rattle.verdicts.specs.Lookup.{lookedIn, toldIn};
+ghost use Rattle.verdicts.specs.Lookup.{lookedIn, toldIn, presentBytes};
 ghost use Rattle.verdicts.specs.Messages.{entryMessage, handshakeMessage};
 ghost use Rattle.verdicts.specs.Held.{expectedOf, responseOf, infoOf};
-ghost use Rattle.frames.specs.Frames.{presentBytes};
 ghost use Rattle.rows.specs.Rows.{expectRow, responseRow, infoRow};
-ghost use Rattle.expect.specs.Told.{counted, unlessRefused};
+ghost use Rattle.told.specs.Told.{counted, unlessRefused};
 ghost use Rattle.row_messages.specs.Messages.{entryTold, handshakeTold};
-use expect::message::Told;
+use told::Told;
 
 // The message of an expectation that is judged against a response, at the front of the buffer; a present value at the front of the scratch. On a
 // refusal both are as they were.

@@ -6,7 +6,7 @@ use mathlib.Core.List.{List, [], _++_}
 use lib.ListN.{length, take, drop}
 use lib.Seq.{length-take-le}
 use borrow.Author.Tests.{eq-eqb, ne-eqb}
-use Rattle.expect.specs.Told.{counted}
+use Rattle.told.specs.Told.{counted}
 use Rattle.rows.specs.Rows.{at, infoRow, responseRow}
 use Rattle.script.specs.declared.records.Entry.{Entry}
 use Rattle.script.specs.declared.records.Expectation.{Expectation}

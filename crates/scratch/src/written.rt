@@ -8,8 +8,8 @@ ghost use Rattle.sought.specs.Values.{valueText};
 use lists::items::items_at;
 use lists::joined::put_braced;
 use lists::joined::put_bracketed;
-use places::texts::text_at;
 use sought::value::Value;
+use texts::text_at;
 use writing::decimal::put_decimal;
 use writing::words::put_word;
 

@@ -1,9 +1,10 @@
 -- Which value is meant: of a flag, of a field by its name, of the number of a trust. Assumes nothing.
 use Prim.Native.Nat.{ℕ}
 use Prim.Native.String.{String}
-use mathlib.Core.Path.{_≡_, sym, ap, _∙_}
+use mathlib.Core.Path.{_≡_, refl, sym, ap, _∙_}
 use mathlib.Core.Bool.{Bool, true, false}
-use mathlib.Core.List.{List}
+use mathlib.Core.List.{List, []}
+use mathlib.Core.Option.{Option, none, some, Option·getD}
 use native.Mathlib.Omega.{arith}
 use borrow.Author.Tests.{eq-eqb, ne-eqb}
 use Rattle.text.specs.Literal.{utf8, spells}
@@ -12,7 +13,9 @@ use Rattle.text.specs.Unicode.{encoded}
 use Rattle.text.proofs.LiteralLaws.{codes, spells-as}
 use Rattle.values.specs.Decimal.{decimal}
 use Rattle.writing.proofs.DecimalLaws.{decimal-small}
-use Rattle.verdicts.specs.Lookup.{flag, trustOf}
+use Rattle.verdicts.specs.Lookup.{flag, trustOf, presentBytes}
+use Rattle.sought.specs.Values.{valueBytes, valueText}
+use Rattle.sought.specs.declared.value.Value.{Value}
 
 -- a flag is a number of one digit
 pub flag-on : (b : Bool) → b ≡ true → decimal 1 ≡ flag b
@@ -40,3 +43,14 @@ trust-two n k e = rw (ne-eqb n 1 k, eq-eqb n 2 e)
 pub trust-other : (n : ℕ) → (n ≡ 1 → ⊥) → (n ≡ 2 → ⊥) → utf8 "unknown" ≡ trustOf n
 unfolding trustOf
 trust-other n k l = rw (ne-eqb n 1 k, ne-eqb n 2 l)
+
+-- ---- what is written
+
+-- what is written of a value is its bytes, if it is there
+pub text-is : (bytes : List ℕ) (lists : List (List ℕ)) (v : Value) (o : Option (List ℕ)) → valueBytes bytes lists v ≡ o → valueText bytes lists v ≡ presentBytes o
+unfolding valueText presentBytes
+text-is bytes lists v o e = ap (λ (x : Option (List ℕ)). Option·getD x []) e ∙ given o
+  where
+    given : (o : Option (List ℕ)) → Option·getD o [] ≡ presentBytes o
+    given none = refl
+    given (some x) = refl

@@ -38,7 +38,7 @@ fn put_set_of(
 {
     match said::said::value_of(starts, ends, k) {
         Piece::Absent => 0,
-        Piece::Is(v) => tables::sets::put_set(text, v, items, at),
+        Piece::Is(v) => item_sets::put_set(text, v, items, at),
     }
 }
 
@@ -51,10 +51,10 @@ fn put_line_set(text: &[u8], op: Op, args: Span, items: &mut [[usize; 2]], at: u
 {
     match openings::set_place(op) {
         SetPlace::NoSet => 0,
-        SetPlace::AllOf => tables::sets::put_set(text, args, items, at),
+        SetPlace::AllOf => item_sets::put_set(text, args, items, at),
         SetPlace::BehindBlank => {
             let c = openings::cut_or(text, args, 0x20);
-            tables::sets::put_set(text, c.after, items, at)
+            item_sets::put_set(text, c.after, items, at)
         }
     }
 }

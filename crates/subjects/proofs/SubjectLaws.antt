@@ -8,11 +8,11 @@ use native.Mathlib.Omega.{arith}
 use lib.ListN.{length}
 use lib.Dec.{leb}
 use Rattle.text.specs.Base.{if_then_else_}
-use Rattle.frames.specs.Frames.{presentBytes}
 use Rattle.writing.specs.Room.{left}
 use Rattle.writing.specs.declared.room.Room.{Room}
 use Rattle.writing.specs.declared.room.Room.the-variants.{Left, Short}
 use Rattle.subjects.specs.Fits.{fits}
+use Rattle.verdicts.specs.Lookup.{presentBytes}
 
 module _ (room : ℕ) (value : List ℕ) (o : Option (List ℕ)) (is : value ≡ presentBytes o) (r : Room) (e : r ≡ left room (length value)) where
   pub room-left : (k : ℕ) → r ≡ Left k → true ≡ fits room o

@@ -5,7 +5,7 @@ use mathlib.Core.List.{List}
 use mathlib.Core.Option.{Option}
 use lib.ListN.{length}
 use lib.Dec.{leb}
-use Rattle.frames.specs.Frames.{presentBytes}
+use Rattle.verdicts.specs.Lookup.{presentBytes}
 
 -- a value, unless it is missing, has a place in so much room
 unfoldable pub fits : (room : ℕ) → Option (List ℕ) → Bool

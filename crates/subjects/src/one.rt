@@ -4,9 +4,8 @@ ghost use Prim.Native.Nat.{_≤_};
 ghost use lib.ListN.{length};
 ghost use Rattle.text.specs.Base.{overlaid};
 ghost use Rattle.verdicts.specs.Held.{expectedOf, expectIn};
-ghost use Rattle.verdicts.specs.Lookup.{looked};
+ghost use Rattle.verdicts.specs.Lookup.{looked, presentBytes};
 ghost use Rattle.verdicts.specs.Verdicts.{verdict};
-ghost use Rattle.frames.specs.Frames.{presentBytes};
 ghost use Rattle.verdicts.specs.Subjects.{heldBy};
 ghost use Rattle.subjects.specs.Fits.{fits};
 use crate::handed::looked_value;
@@ -23,7 +22,7 @@ pub fn reaches(x: Expectation, n: usize) -> bool
     ensures { λ r. ⌜ r ≡ expectIn n (x .expect) ⌝ }
 {
     let e = x.expect;
-    places::inside::expect_in(n, e)
+    places::expect_in(n, e)
 }
 
 // A present value has a place in so much room.

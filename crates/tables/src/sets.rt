@@ -1,16 +1,15 @@
 // Items: places in the text, each two numbers of the table, its start and its length.
 ghost use mathlib.Core.Path.{_≡_};
-ghost use mathlib.Core.Bool.{true, not};
+ghost use mathlib.Core.Bool.{not};
 ghost use mathlib.Core.List.{[], _∷_};
 ghost use Prim.Native.Nat.{_+_, _≤_, _<_};
 ghost use lib.ListN.{length};
-ghost use Rattle.text.specs.Base.{_&_, _or_};
+ghost use Rattle.text.specs.Base.{_or_};
 ghost use Rattle.script.specs.Inside.{In};
-ghost use Rattle.script.specs.Pieces.{begins, ends, isEmpty, place, words};
-ghost use Rattle.script.specs.Sets.{CLOSING-BRACE, trimmedItems, pathItems};
-ghost use Rattle.tables.specs.Written.{itemOf, itemsFor, writtenAt, itemsOf, featuresOf};
-ghost use Rattle.tables.specs.SetRead.{taken, bracedItems};
-use text::parts::Found;
+ghost use Rattle.script.specs.Pieces.{isEmpty, place, words};
+ghost use Rattle.script.specs.Sets.{trimmedItems};
+ghost use Rattle.tables.specs.Written.{itemOf, itemsFor, writtenAt};
+ghost use Rattle.tables.specs.SetRead.{taken};
 use text::parts::Span;
 
 // Writes one item.
@@ -47,7 +46,7 @@ fn is_taken(keep: bool, p: Span) -> bool
 }
 
 // Writes the items between commas, trimmed; empty ones only where they are kept.
-fn put_parts(text: &[u8], p: Span, keep: bool, items: &mut [[usize; 2]], at: usize) -> usize
+pub fn put_parts(text: &[u8], p: Span, keep: bool, items: &mut [[usize; 2]], at: usize) -> usize
     requires { ⌜ In (now text) p ⌝ }
     requires { ⌜ at + length (itemsFor (taken keep (trimmedItems (now text) p))) ≤ length (now items) ⌝ }
     ensures { λ r. ⌜ r ≡ length (itemsFor (taken keep (trimmedItems (now (text .entry)) p))) ⌝ }
@@ -73,68 +72,8 @@ fn put_parts(text: &[u8], p: Span, keep: bool, items: &mut [[usize; 2]], at: usi
     n
 }
 
-// Writes the items between the braces of a path set; where nothing stands there it has none. The piece is trimmed.
-fn put_path(text: &[u8], p: Span, items: &mut [[usize; 2]], at: usize) -> usize
-    requires { ⌜ In (now text) p ⌝ }
-    requires { ⌜ at + length (itemsFor (pathItems (now text) p)) ≤ length (now items) ⌝ }
-    ensures { λ r. ⌜ r ≡ length (itemsFor (pathItems (now (text .entry)) p)) ⌝ }
-    ensures { λ _. ⌜ now (items .exit) ≡ writtenAt at (itemsFor (pathItems (now (text .entry)) p)) (now (items .entry)) ⌝ }
-{
-    if p.start == p.end {
-        return 0;
-    }
-    put_parts(text, p, true, items, at)
-}
-
-// Writes the items of a path set behind its opening brace; none where it is not closed.
-fn put_braced(text: &[u8], p: Span, items: &mut [[usize; 2]], at: usize) -> usize
-    requires { ⌜ In (now text) p ⌝ }
-    requires { ⌜ at + length (itemsFor (bracedItems (now text) p)) ≤ length (now items) ⌝ }
-    ensures { λ r. ⌜ r ≡ length (itemsFor (bracedItems (now (text .entry)) p)) ⌝ }
-    ensures { λ _. ⌜ now (items .exit) ≡ writtenAt at (itemsFor (bracedItems (now (text .entry)) p)) (now (items .entry)) ⌝ }
-{
-    let Found::At(n) = pieces::pieces::find_in(text, p, 0x7D) else {
-        return 0;
-    };
-    let start = p.start;
-    let inside = pieces::pieces::trimmed(
-        text,
-        Span {
-            start,
-            end: start + n,
-        },
-    );
-    put_path(text, inside, items, at)
-}
-
-// Writes the items of a path set, and says how many they are.
-pub fn put_set(text: &[u8], v: Span, items: &mut [[usize; 2]], at: usize) -> usize
-    requires { ⌜ In (now text) v ⌝ }
-    requires { ⌜ at + length (itemsOf (now text) v) ≤ length (now items) ⌝ }
-    ensures { λ r. ⌜ r ≡ length (itemsOf (now (text .entry)) v) ⌝ }
-    ensures { λ _. ⌜ now (items .exit) ≡ writtenAt at (itemsOf (now (text .entry)) v) (now (items .entry)) ⌝ }
-{
-    let q = pieces::pieces::trimmed(text, v);
-    if pieces::pieces::begins(text, q, b"{") {
-        return put_braced(
-            text,
-            Span {
-                start: q.start + 1,
-                end: q.end,
-            },
-            items,
-            at,
-        );
-    }
-    if q.start == q.end {
-        return 0;
-    }
-    put_place(items, at, q);
-    1
-}
-
 // Writes the words of a piece.
-fn put_words(text: &[u8], q: Span, items: &mut [[usize; 2]], at: usize) -> usize
+pub fn put_words(text: &[u8], q: Span, items: &mut [[usize; 2]], at: usize) -> usize
     requires { ⌜ In (now text) q ⌝ }
     requires { ⌜ at + length (itemsFor (words (now text) q)) ≤ length (now items) ⌝ }
     ensures { λ r. ⌜ r ≡ length (itemsFor (words (now (text .entry)) q)) ⌝ }
@@ -157,39 +96,4 @@ fn put_words(text: &[u8], q: Span, items: &mut [[usize; 2]], at: usize) -> usize
         n += 1;
     }
     n
-}
-
-// Whether the piece stands in braces.
-pub fn in_braces(text: &[u8], q: Span) -> bool
-    requires { ⌜ In (now text) q ⌝ }
-    ensures { λ r. ⌜ r ≡ begins (now (text .entry)) "{" q & ends (now (text .entry)) q CLOSING-BRACE ⌝ }
-    ensures { λ r. ⌜ (r ≡ true → q .start + 2 ≤ q .end) ⌝ }
-{
-    if pieces::pieces::begins(text, q, b"{") {
-        return pieces::pieces::ends_in(text, q, 0x7D);
-    }
-    false
-}
-
-// Writes the items of a feature set, and says how many they are.
-pub fn put_features(text: &[u8], v: Span, items: &mut [[usize; 2]], at: usize) -> usize
-    requires { ⌜ In (now text) v ⌝ }
-    requires { ⌜ at + length (featuresOf (now text) v) ≤ length (now items) ⌝ }
-    ensures { λ r. ⌜ r ≡ length (featuresOf (now (text .entry)) v) ⌝ }
-    ensures { λ _. ⌜ now (items .exit) ≡ writtenAt at (featuresOf (now (text .entry)) v) (now (items .entry)) ⌝ }
-{
-    let q = pieces::pieces::trimmed(text, v);
-    if in_braces(text, q) {
-        return put_parts(
-            text,
-            Span {
-                start: q.start + 1,
-                end: q.end - 1,
-            },
-            false,
-            items,
-            at,
-        );
-    }
-    put_words(text, q, items, at)
 }

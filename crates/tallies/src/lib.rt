@@ -1,4 +1,3 @@
-// The counts of a tally: one verdict more, what closing says of them, and what Close answers.
+// The counts of a tally: one verdict more, and what closing says of them; as definitions what Close answers.
 pub mod calls;
-pub mod close;
 pub mod tally;

@@ -17,13 +17,12 @@ use Rattle.script.specs.declared.response.HandshakeInfo.{HandshakeInfo}
 use Rattle.slots.specs.Blank.{blankExpectation}
 use Rattle.verdicts.specs.Held.{expectedOf, responseOf, infoOf, expectIn, responseIn, infoIn}
 use Rattle.verdicts.specs.Told.{greeting, reply}
-use Rattle.verdicts.specs.Lookup.{looked, lookedIn, toldIn}
+use Rattle.verdicts.specs.Lookup.{looked, lookedIn, toldIn, presentBytes}
 use Rattle.verdicts.specs.Messages.{message, entryMessage, handshakeMessage}
-use Rattle.frames.specs.Frames.{presentBytes}
-use Rattle.expect.specs.Told.{counted, toldOf, unlessRefused}
-use Rattle.expect.specs.declared.message.Told.{Told}
-use Rattle.expect.specs.declared.message.Told.the-variants.{Refused}
-use Rattle.expect.proofs.TellLaws.{outside-text}
+use Rattle.told.specs.Told.{counted, toldOf, unlessRefused}
+use Rattle.told.specs.declared.Told.{Told}
+use Rattle.told.specs.declared.Told.the-variants.{Refused}
+use Rattle.told.proofs.ToldLaws.{outside-text}
 use Rattle.tell.specs.Tell.{placed, expectAt}
 use Rattle.tell.specs.Pick.{pickedAt}
 use Rattle.tell.specs.declared.picks.Picked.{Picked}

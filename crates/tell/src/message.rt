@@ -3,16 +3,14 @@
 ghost use mathlib.Core.Path.{_≡_};
 ghost use lib.ListN.{length};
 ghost use Rattle.text.specs.Base.{_&_};
-ghost use Rattle.verdicts.specs.Lookup.{lookedIn, toldIn};
+ghost use Rattle.verdicts.specs.Lookup.{lookedIn, toldIn, presentBytes};
 ghost use Rattle.verdicts.specs.Messages.{entryMessage, handshakeMessage};
 ghost use Rattle.verdicts.specs.Told.{greeting, reply};
 ghost use Rattle.verdicts.specs.Held.{expectedOf, responseOf, infoOf, expectIn, responseIn, infoIn};
-ghost use Rattle.frames.specs.Frames.{presentBytes};
-ghost use Rattle.expect.specs.Told.{counted, toldOf, unlessRefused};
+ghost use Rattle.told.specs.Told.{counted, toldOf, unlessRefused};
 ghost use Rattle.tell.specs.Tell.{placed, expectAt};
 use crate::picks::Picked;
 use crate::picks::pick;
-use expect::message::Told;
 use expect::message::entry_message;
 use expect::message::handshake_message;
 use script::records::Expectation;
@@ -20,6 +18,7 @@ use script::records::Refusal;
 use script::records::Script;
 use script::response::DaemonResponse;
 use script::response::HandshakeInfo;
+use told::Told;
 
 // 31: no expectation counts at that place.
 fn no_expectation() -> Told

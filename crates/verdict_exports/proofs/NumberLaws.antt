@@ -17,7 +17,7 @@ use Rattle.verdicts.specs.Held.{expectedOf, responseOf, infoOf, expectIn, respo
 use Rattle.verdicts.specs.Verdicts.{verdict, code}
 use Rattle.verdicts.specs.declared.Verdict.{Verdict}
 use Rattle.rows.specs.Rows.{expectRow, responseRow, infoRow}
-use Rattle.expect.specs.Told.{counted}
+use Rattle.told.specs.Told.{counted}
 use Rattle.verdict_exports.specs.Numbered.{numbered, entryNumber, handshakeNumber}
 
 module _ (inText inBytes : Bool) (s : Subject) (x : Expected) (a : Bool) (p : a ≡ inText) where

@@ -11,7 +11,7 @@ use Rattle.verdicts.specs.Expected.{Expected}
 use Rattle.verdicts.specs.Told.{Subject, greeting, reply}
 use Rattle.verdicts.specs.Held.{expectedOf, responseOf, infoOf, expectIn, responseIn, infoIn}
 use Rattle.verdicts.specs.Verdicts.{verdict, code}
-use Rattle.expect.specs.Told.{counted}
+use Rattle.told.specs.Told.{counted}
 
 -- whether every part of the expectation lies inside the text, and every part of what it is judged against inside its bytes
 unfoldable pub numbered : (inText inBytes : Bool) → Subject → Expected → ℕ

@@ -14,7 +14,6 @@ ghost use Rattle.verdicts.specs.Held.{textAt, textsIn, matchingOf, expectedOf, 
 ghost use Rattle.sought.specs.Values.{valueBytes};
 use decisions::decide::decide;
 use joined::decide::decide_list;
-use places::texts::text_at;
 use script::records::Expect;
 use script::records::Items;
 use script::records::Matcher;
@@ -22,6 +21,7 @@ use script::records::Place;
 use script::response::DaemonResponse;
 use script::response::HandshakeInfo;
 use sought::value::Value;
+use texts::text_at;
 use verdicts::Verdict;
 use writing::decimal::put_decimal;
 
@@ -93,7 +93,7 @@ pub fn value_verdict(
 fn terminal_verdict(text: &[u8], name: Place, bytes: &[u8], terminal: Place) -> Verdict
     ensures { λ v. ⌜ v ≡ passedIf (sameBytes (textAt (now (bytes .entry)) terminal) (textAt (now (text .entry)) name)) ⌝ }
 {
-    decisions::passed_if(text::parts::same(text_at(bytes, terminal), text_at(text, name)))
+    orders::passed_if(text::parts::same(text_at(bytes, terminal), text_at(text, name)))
 }
 
 // Judged against a response; the value is the one looked up in it.

@@ -117,3 +117,8 @@ toldIn i (serverFeatures m) = some (featuresText i)
 unfoldable pub looked : Subject → Expected → Option (List ℕ)
 looked (greeting i) e = toldIn i e
 looked (reply r) e = lookedIn r e
+
+-- the bytes of a value that is there; a missing one has none
+unfoldable pub presentBytes : Option (List ℕ) → List ℕ
+presentBytes none = []
+presentBytes (some value) = value

@@ -8,8 +8,8 @@ use mir.Val.{SFits}
 use borrow.Author.Needs.{needs}
 use Rattle.verdicts.specs.Decisions.{decides}
 use Rattle.verdicts.specs.Verdicts.{code}
-use Rattle.decisions.specs.Orders.{matching, orderOf}
-use Rattle.decisions.proofs.SignedLaws.{back, back-is}
+use Rattle.orders.specs.Orders.{matching, orderOf}
+use Rattle.orders.proofs.SignedLaws.{back, back-is}
 use Rattle.exports.proofs.nwscript_ordering.Statement.{statement}
 use Rattle.exports.proofs.nwscript_ordering.Tie as tie
 

@@ -225,7 +225,7 @@ abbrev b3 : Syntax.Body
 b3 = Syntax.assign (Syntax.place 14 List.[]) (Syntax.aggregate (List._∷_ (Syntax.int Syntax.w8 1) (List._∷_ (Syntax.copy (Syntax.place 7 List.[])) List.[])))
 
 abbrev b4 : Syntax.Body
-b4 = Syntax.call "expect::message::counted_of" (List._∷_ (Syntax.copy (Syntax.place 9 List.[])) List.[]) (Syntax.place 15 List.[])
+b4 = Syntax.call "told::counted_of" (List._∷_ (Syntax.copy (Syntax.place 9 List.[])) List.[]) (Syntax.place 15 List.[])
 
 abbrev b5 : Syntax.Body
 b5 = Syntax.assign (Syntax.place 18 List.[]) (Syntax.addrOf (Syntax.place 10 (List._∷_ (Syntax.field 0) (List._∷_ (Syntax.deref (Syntax.tyInt Syntax.w8)) List.[]))))
@@ -555,7 +555,7 @@ module _ (claims· : Claims) where
   module _ (Pre· : (κs : Lifetimes.Lfts 7) → Kinds.Dens κs ps → Type 0) (Post· : (κs : Lifetimes.Lfts 7) → (a : Kinds.Dens κs ps) → Kinds.Plain 7 ps r κs) where
     module _ (M : Type 1) where
       abbrev pub Closed : Type 2
-      Closed = (𝓤 : URA.URA M) (H : Wp.Heap 𝓤) (A : Atoms.Atoms 𝓤) (W : Kit.Given 𝓤 H A) (𝓣 : Wp.Tables 𝓤 H) (known0 : Plain.Known 𝓤 H A W 𝓣 0 ps·0 r·0 (claims· .0) (claims· .1) "ranges::checks::counting") (known1 : Plain.Known 𝓤 H A W 𝓣 1 ps·1 r·1 (claims· .2) (claims· .3) "ranges::steps::entry_range") (known2 : Plain.Known 𝓤 H A W 𝓣 1 ps·2 r·2 (claims· .4) (claims· .5) "expect::message::counted_of") (known3 : Plain.Known 𝓤 H A W 𝓣 6 ps·3 r·3 (claims· .6) (claims· .7) "ranges::steps::judge_on") (known4 : Plain.Known 𝓤 H A W 𝓣 0 ps·4 r·4 (claims· .8) (claims· .9) "judge::calls::turn_of") → Statement.Triple 𝓤 (Wp.WpFn 𝓤 H (𝓣 .C) (𝓣 .Λ) (Function.fnOf 7 ps r xs m hs body)) (Function.plainOf 𝓤 H A 7 ps r Pre· Post·)
+      Closed = (𝓤 : URA.URA M) (H : Wp.Heap 𝓤) (A : Atoms.Atoms 𝓤) (W : Kit.Given 𝓤 H A) (𝓣 : Wp.Tables 𝓤 H) (known0 : Plain.Known 𝓤 H A W 𝓣 0 ps·0 r·0 (claims· .0) (claims· .1) "ranges::checks::counting") (known1 : Plain.Known 𝓤 H A W 𝓣 1 ps·1 r·1 (claims· .2) (claims· .3) "ranges::steps::entry_range") (known2 : Plain.Known 𝓤 H A W 𝓣 1 ps·2 r·2 (claims· .4) (claims· .5) "told::counted_of") (known3 : Plain.Known 𝓤 H A W 𝓣 6 ps·3 r·3 (claims· .6) (claims· .7) "ranges::steps::judge_on") (known4 : Plain.Known 𝓤 H A W 𝓣 0 ps·4 r·4 (claims· .8) (claims· .9) "judge::calls::turn_of") → Statement.Triple 𝓤 (Wp.WpFn 𝓤 H (𝓣 .C) (𝓣 .Λ) (Function.fnOf 7 ps r xs m hs body)) (Function.plainOf 𝓤 H A 7 ps r Pre· Post·)
 
     module _ where
       abbrev at0 : Typed.TF T36 O0
@@ -671,7 +671,7 @@ module _ (claims· : Claims) where
 
       module _ {M : Type 1} (𝓤 : URA.URA M) (H : Wp.Heap 𝓤) (A : Atoms.Atoms 𝓤) (W : Kit.Given 𝓤 H A) (𝓣 : Wp.Tables 𝓤 H) where
         abbrev Knowns : Type 1
-        Knowns = Plain.Known 𝓤 H A W 𝓣 0 ps·0 r·0 (claims· .0) (claims· .1) "ranges::checks::counting" × Plain.Known 𝓤 H A W 𝓣 1 ps·1 r·1 (claims· .2) (claims· .3) "ranges::steps::entry_range" × Plain.Known 𝓤 H A W 𝓣 1 ps·2 r·2 (claims· .4) (claims· .5) "expect::message::counted_of" × Plain.Known 𝓤 H A W 𝓣 6 ps·3 r·3 (claims· .6) (claims· .7) "ranges::steps::judge_on" × Plain.Known 𝓤 H A W 𝓣 0 ps·4 r·4 (claims· .8) (claims· .9) "judge::calls::turn_of"
+        Knowns = Plain.Known 𝓤 H A W 𝓣 0 ps·0 r·0 (claims· .0) (claims· .1) "ranges::checks::counting" × Plain.Known 𝓤 H A W 𝓣 1 ps·1 r·1 (claims· .2) (claims· .3) "ranges::steps::entry_range" × Plain.Known 𝓤 H A W 𝓣 1 ps·2 r·2 (claims· .4) (claims· .5) "told::counted_of" × Plain.Known 𝓤 H A W 𝓣 6 ps·3 r·3 (claims· .6) (claims· .7) "ranges::steps::judge_on" × Plain.Known 𝓤 H A W 𝓣 0 ps·4 r·4 (claims· .8) (claims· .9) "judge::calls::turn_of"
 
       module _ (κs : Lifetimes.Lfts 7) (qs : Lifetimes.Shares 7) where
         abbrev g9 : List.List Row.Entry
@@ -892,7 +892,7 @@ module _ (claims· : Claims) where
           d24 = Typed.g-pre 𝓤 H A W 𝓣 E G12 G13 b17 Δ0 (λ Ψ. Ψ) at23 (Lifetime.g-begin 𝓤 H A W E G12 7 (tt, (tt, (tt, (tt, (tt, (tt, (tt, (tt, (tt, (tt, (tt, (tt, (tt, (tt, (tt, (tt, (tt, (tt, (tt, (tt, (tt, (tt, tt))))))))))))))))))))))) d23
 
           d25 : Typed.Typed 𝓤 H A 𝓣 E G11 b18 Δ0 at25
-          d25 = Typed.s-seq 𝓤 H A W 𝓣 E G11 G12 b4 b17 Δ0 (Typed.both s10) at24 (Plain.t-call-plain 𝓤 H A W 𝓣 1 ps·2 r·2 (claims· .4) (claims· .5) "expect::message::counted_of" (known .2) E (λ pos β. β) G11 (record { pos = 9; ty = Syntax.tyRef (Syntax.named 4) Syntax.imm (Syntax.tyArray (Syntax.tyInt Syntax.w64) 2); ref = λ x. x }, tt) 15 (List._∷_ 4 List.[]) (Call.sub-id 𝓤 H A W (G11 .slots)) (ShrSlice.spares-sslice 𝓤 H A W (DArray.Array (TReferent.rtF (TReferent.fInt Syntax.w64)) 2) (Syntax.tyRef (Syntax.named 4) Syntax.imm (Syntax.tyArray (Syntax.tyInt Syntax.w64) 2)) 4, SShared.reads-sslice 𝓤 H A W (DArray.Array (TReferent.rtF (TReferent.fInt Syntax.w64)) 2) (Syntax.tyRef (Syntax.named 4) Syntax.imm (Syntax.tyArray (Syntax.tyInt Syntax.w64) 2)) 4, Path'.refl, tt) (Reads'.room-gone 𝓤 H A τ2) (tt, tt) (Path'.refl, λ b o k. tt)) d24
+          d25 = Typed.s-seq 𝓤 H A W 𝓣 E G11 G12 b4 b17 Δ0 (Typed.both s10) at24 (Plain.t-call-plain 𝓤 H A W 𝓣 1 ps·2 r·2 (claims· .4) (claims· .5) "told::counted_of" (known .2) E (λ pos β. β) G11 (record { pos = 9; ty = Syntax.tyRef (Syntax.named 4) Syntax.imm (Syntax.tyArray (Syntax.tyInt Syntax.w64) 2); ref = λ x. x }, tt) 15 (List._∷_ 4 List.[]) (Call.sub-id 𝓤 H A W (G11 .slots)) (ShrSlice.spares-sslice 𝓤 H A W (DArray.Array (TReferent.rtF (TReferent.fInt Syntax.w64)) 2) (Syntax.tyRef (Syntax.named 4) Syntax.imm (Syntax.tyArray (Syntax.tyInt Syntax.w64) 2)) 4, SShared.reads-sslice 𝓤 H A W (DArray.Array (TReferent.rtF (TReferent.fInt Syntax.w64)) 2) (Syntax.tyRef (Syntax.named 4) Syntax.imm (Syntax.tyArray (Syntax.tyInt Syntax.w64) 2)) 4, Path'.refl, tt) (Reads'.room-gone 𝓤 H A τ2) (tt, tt) (Path'.refl, λ b o k. tt)) d24
 
           d26 : Typed.Typed 𝓤 H A 𝓣 E G10 b18 Δ0 at26
           d26 = Typed.g-pre 𝓤 H A W 𝓣 E G10 G11 b18 Δ0 (Typed.pass T10 T11 s9) at25 (RScalar.g-room 𝓤 H A W E G10 7 τ8 (RLocal.room-whole 𝓤 H A W (Declared'.row DaemonResponse.the-type) τ8 Path'.refl)) d25
@@ -1230,6 +1230,6 @@ module _ (claims· : Claims) where
           pub asked : (a : Kinds.Dens κs ps) → (good : Kinds.GoodsP κs ps a) → (pre : Pre· κs a) → (bs : List.List Nat.ℕ) → Φ (Any.wantQ 7 ps r xs m κs qs a (Post· κs a)) (Function.init 7 ps r xs m κs qs a)
           asked = λ a good pre bs. laid record { κs = κs; args = record { self = a .0; text = a .1 .0; script = a .1 .1 .0; entries = a .1 .1 .1 .0; expectations = a .1 .1 .1 .1 .0; number = a .1 .1 .1 .1 .1 .0; response = a .1 .1 .1 .1 .1 .1 .0; bytes = a .1 .1 .1 .1 .1 .1 .1 .0; lists = a .1 .1 .1 .1 .1 .1 .1 .1 .0; verdicts = a .1 .1 .1 .1 .1 .1 .1 .1 .1 .0; scratch = a .1 .1 .1 .1 .1 .1 .1 .1 .1 .1 .0 }; good = good; fits = record { number = record { fits = good .1 .1 .1 .1 .1 .0 .1 } }; pre = pre }
 
-        module _ {M : Type 1} (𝓤 : URA.URA M) (H : Wp.Heap 𝓤) (A : Atoms.Atoms 𝓤) (W : Kit.Given 𝓤 H A) (𝓣 : Wp.Tables 𝓤 H) (known0 : Plain.Known 𝓤 H A W 𝓣 0 ps·0 r·0 (claims· .0) (claims· .1) "ranges::checks::counting") (known1 : Plain.Known 𝓤 H A W 𝓣 1 ps·1 r·1 (claims· .2) (claims· .3) "ranges::steps::entry_range") (known2 : Plain.Known 𝓤 H A W 𝓣 1 ps·2 r·2 (claims· .4) (claims· .5) "expect::message::counted_of") (known3 : Plain.Known 𝓤 H A W 𝓣 6 ps·3 r·3 (claims· .6) (claims· .7) "ranges::steps::judge_on") (known4 : Plain.Known 𝓤 H A W 𝓣 0 ps·4 r·4 (claims· .8) (claims· .9) "judge::calls::turn_of") where
+        module _ {M : Type 1} (𝓤 : URA.URA M) (H : Wp.Heap 𝓤) (A : Atoms.Atoms 𝓤) (W : Kit.Given 𝓤 H A) (𝓣 : Wp.Tables 𝓤 H) (known0 : Plain.Known 𝓤 H A W 𝓣 0 ps·0 r·0 (claims· .0) (claims· .1) "ranges::checks::counting") (known1 : Plain.Known 𝓤 H A W 𝓣 1 ps·1 r·1 (claims· .2) (claims· .3) "ranges::steps::entry_range") (known2 : Plain.Known 𝓤 H A W 𝓣 1 ps·2 r·2 (claims· .4) (claims· .5) "told::counted_of") (known3 : Plain.Known 𝓤 H A W 𝓣 6 ps·3 r·3 (claims· .6) (claims· .7) "ranges::steps::judge_on") (known4 : Plain.Known 𝓤 H A W 𝓣 0 ps·4 r·4 (claims· .8) (claims· .9) "judge::calls::turn_of") where
           pub spec : Statement.Triple 𝓤 (Wp.WpFn 𝓤 H (𝓣 .C) (𝓣 .Λ) (Function.fnOf 7 ps r xs m hs body)) (Function.plainOf 𝓤 H A 7 ps r Pre· Post·)
           spec = Plain.t-fn-plain 𝓤 H A W 𝓣 7 ps r xs m hs body (λ κs qs bs. Φ) (λ κs qs bs bd. typed κs qs 𝓤 H A W 𝓣 (known0, known1, known2, known3, known4) bs bd) Pre· Post· asked

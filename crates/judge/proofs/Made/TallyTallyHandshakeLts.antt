@@ -203,7 +203,7 @@ abbrev b1 : Syntax.Body
 b1 = Syntax.assign (Syntax.place 12 List.[]) (Syntax.aggregate (List._∷_ (Syntax.int Syntax.w8 0) (List._∷_ (Syntax.copy (Syntax.place 6 List.[])) List.[])))
 
 abbrev b2 : Syntax.Body
-b2 = Syntax.call "expect::message::counted_of" (List._∷_ (Syntax.copy (Syntax.place 8 List.[])) List.[]) (Syntax.place 13 List.[])
+b2 = Syntax.call "told::counted_of" (List._∷_ (Syntax.copy (Syntax.place 8 List.[])) List.[]) (Syntax.place 13 List.[])
 
 abbrev b3 : Syntax.Body
 b3 = Syntax.assign (Syntax.place 15 List.[]) (Syntax.addrOf (Syntax.place 9 (List._∷_ (Syntax.field 0) (List._∷_ (Syntax.deref (Syntax.tyInt Syntax.w8)) List.[]))))
@@ -497,7 +497,7 @@ module _ (claims· : Claims) where
   module _ (Pre· : (κs : Lifetimes.Lfts 6) → Kinds.Dens κs ps → Type 0) (Post· : (κs : Lifetimes.Lfts 6) → (a : Kinds.Dens κs ps) → Kinds.Plain 6 ps r κs) where
     module _ (M : Type 1) where
       abbrev pub Closed : Type 2
-      Closed = (𝓤 : URA.URA M) (H : Wp.Heap 𝓤) (A : Atoms.Atoms 𝓤) (W : Kit.Given 𝓤 H A) (𝓣 : Wp.Tables 𝓤 H) (known0 : Plain.Known 𝓤 H A W 𝓣 0 ps·0 r·0 (claims· .0) (claims· .1) "ranges::steps::handshake_range") (known1 : Plain.Known 𝓤 H A W 𝓣 1 ps·1 r·1 (claims· .2) (claims· .3) "expect::message::counted_of") (known2 : Plain.Known 𝓤 H A W 𝓣 6 ps·2 r·2 (claims· .4) (claims· .5) "ranges::steps::judge_on") (known3 : Plain.Known 𝓤 H A W 𝓣 0 ps·3 r·3 (claims· .6) (claims· .7) "judge::calls::turn_of") → Statement.Triple 𝓤 (Wp.WpFn 𝓤 H (𝓣 .C) (𝓣 .Λ) (Function.fnOf 6 ps r xs m hs body)) (Function.plainOf 𝓤 H A 6 ps r Pre· Post·)
+      Closed = (𝓤 : URA.URA M) (H : Wp.Heap 𝓤) (A : Atoms.Atoms 𝓤) (W : Kit.Given 𝓤 H A) (𝓣 : Wp.Tables 𝓤 H) (known0 : Plain.Known 𝓤 H A W 𝓣 0 ps·0 r·0 (claims· .0) (claims· .1) "ranges::steps::handshake_range") (known1 : Plain.Known 𝓤 H A W 𝓣 1 ps·1 r·1 (claims· .2) (claims· .3) "told::counted_of") (known2 : Plain.Known 𝓤 H A W 𝓣 6 ps·2 r·2 (claims· .4) (claims· .5) "ranges::steps::judge_on") (known3 : Plain.Known 𝓤 H A W 𝓣 0 ps·3 r·3 (claims· .6) (claims· .7) "judge::calls::turn_of") → Statement.Triple 𝓤 (Wp.WpFn 𝓤 H (𝓣 .C) (𝓣 .Λ) (Function.fnOf 6 ps r xs m hs body)) (Function.plainOf 𝓤 H A 6 ps r Pre· Post·)
 
     module _ where
       abbrev at0 : Typed.TF T32 O0
@@ -601,7 +601,7 @@ module _ (claims· : Claims) where
 
       module _ {M : Type 1} (𝓤 : URA.URA M) (H : Wp.Heap 𝓤) (A : Atoms.Atoms 𝓤) (W : Kit.Given 𝓤 H A) (𝓣 : Wp.Tables 𝓤 H) where
         abbrev Knowns : Type 1
-        Knowns = Plain.Known 𝓤 H A W 𝓣 0 ps·0 r·0 (claims· .0) (claims· .1) "ranges::steps::handshake_range" × Plain.Known 𝓤 H A W 𝓣 1 ps·1 r·1 (claims· .2) (claims· .3) "expect::message::counted_of" × Plain.Known 𝓤 H A W 𝓣 6 ps·2 r·2 (claims· .4) (claims· .5) "ranges::steps::judge_on" × Plain.Known 𝓤 H A W 𝓣 0 ps·3 r·3 (claims· .6) (claims· .7) "judge::calls::turn_of"
+        Knowns = Plain.Known 𝓤 H A W 𝓣 0 ps·0 r·0 (claims· .0) (claims· .1) "ranges::steps::handshake_range" × Plain.Known 𝓤 H A W 𝓣 1 ps·1 r·1 (claims· .2) (claims· .3) "told::counted_of" × Plain.Known 𝓤 H A W 𝓣 6 ps·2 r·2 (claims· .4) (claims· .5) "ranges::steps::judge_on" × Plain.Known 𝓤 H A W 𝓣 0 ps·3 r·3 (claims· .6) (claims· .7) "judge::calls::turn_of"
 
       module _ (κs : Lifetimes.Lfts 6) (qs : Lifetimes.Shares 6) where
         abbrev g7 : List.List Row.Entry
@@ -813,7 +813,7 @@ module _ (claims· : Claims) where
           d23 = Typed.g-pre 𝓤 H A W 𝓣 E G9 G10 b15 Δ0 (λ Ψ. Ψ) at22 (Lifetime.g-begin 𝓤 H A W E G9 6 (tt, (tt, (tt, (tt, (tt, (tt, (tt, (tt, (tt, (tt, (tt, (tt, (tt, (tt, (tt, (tt, (tt, (tt, (tt, tt)))))))))))))))))))) d22
 
           d24 : Typed.Typed 𝓤 H A 𝓣 E G8 b16 Δ0 at24
-          d24 = Typed.s-seq 𝓤 H A W 𝓣 E G8 G9 b2 b15 Δ0 (Typed.both s7) at23 (Plain.t-call-plain 𝓤 H A W 𝓣 1 ps·1 r·1 (claims· .2) (claims· .3) "expect::message::counted_of" (known .1) E (λ pos β. β) G8 (record { pos = 8; ty = Syntax.tyRef (Syntax.named 3) Syntax.imm (Syntax.tyArray (Syntax.tyInt Syntax.w64) 2); ref = λ x. x }, tt) 13 (List._∷_ 3 List.[]) (Call.sub-id 𝓤 H A W (G8 .slots)) (ShrSlice.spares-sslice 𝓤 H A W (DArray.Array (TReferent.rtF (TReferent.fInt Syntax.w64)) 2) (Syntax.tyRef (Syntax.named 3) Syntax.imm (Syntax.tyArray (Syntax.tyInt Syntax.w64) 2)) 3, SShared.reads-sslice 𝓤 H A W (DArray.Array (TReferent.rtF (TReferent.fInt Syntax.w64)) 2) (Syntax.tyRef (Syntax.named 3) Syntax.imm (Syntax.tyArray (Syntax.tyInt Syntax.w64) 2)) 3, Path'.refl, tt) (Reads'.room-gone 𝓤 H A τ2) (tt, tt) (Path'.refl, λ b o k. tt)) d23
+          d24 = Typed.s-seq 𝓤 H A W 𝓣 E G8 G9 b2 b15 Δ0 (Typed.both s7) at23 (Plain.t-call-plain 𝓤 H A W 𝓣 1 ps·1 r·1 (claims· .2) (claims· .3) "told::counted_of" (known .1) E (λ pos β. β) G8 (record { pos = 8; ty = Syntax.tyRef (Syntax.named 3) Syntax.imm (Syntax.tyArray (Syntax.tyInt Syntax.w64) 2); ref = λ x. x }, tt) 13 (List._∷_ 3 List.[]) (Call.sub-id 𝓤 H A W (G8 .slots)) (ShrSlice.spares-sslice 𝓤 H A W (DArray.Array (TReferent.rtF (TReferent.fInt Syntax.w64)) 2) (Syntax.tyRef (Syntax.named 3) Syntax.imm (Syntax.tyArray (Syntax.tyInt Syntax.w64) 2)) 3, SShared.reads-sslice 𝓤 H A W (DArray.Array (TReferent.rtF (TReferent.fInt Syntax.w64)) 2) (Syntax.tyRef (Syntax.named 3) Syntax.imm (Syntax.tyArray (Syntax.tyInt Syntax.w64) 2)) 3, Path'.refl, tt) (Reads'.room-gone 𝓤 H A τ2) (tt, tt) (Path'.refl, λ b o k. tt)) d23
 
           d25 : Typed.Typed 𝓤 H A 𝓣 E G7 b16 Δ0 at25
           d25 = Typed.g-pre 𝓤 H A W 𝓣 E G7 G8 b16 Δ0 (Typed.pass T7 T8 s6) at24 (RScalar.g-room 𝓤 H A W E G7 6 τ8 (RLocal.room-whole 𝓤 H A W (Declared'.row HandshakeInfo.the-type) τ8 Path'.refl)) d24
@@ -1112,6 +1112,6 @@ module _ (claims· : Claims) where
           pub asked : (a : Kinds.Dens κs ps) → (good : Kinds.GoodsP κs ps a) → (pre : Pre· κs a) → (bs : List.List Nat.ℕ) → Φ (Any.wantQ 6 ps r xs m κs qs a (Post· κs a)) (Function.init 6 ps r xs m κs qs a)
           asked = λ a good pre bs. laid record { κs = κs; args = record { self = a .0; text = a .1 .0; script = a .1 .1 .0; expectations = a .1 .1 .1 .0; number = a .1 .1 .1 .1 .0; i = a .1 .1 .1 .1 .1 .0; bytes = a .1 .1 .1 .1 .1 .1 .0; lists = a .1 .1 .1 .1 .1 .1 .1 .0; verdicts = a .1 .1 .1 .1 .1 .1 .1 .1 .0; scratch = a .1 .1 .1 .1 .1 .1 .1 .1 .1 .0 }; good = good; fits = record { number = record { fits = good .1 .1 .1 .1 .0 .1 } }; pre = pre }
 
-        module _ {M : Type 1} (𝓤 : URA.URA M) (H : Wp.Heap 𝓤) (A : Atoms.Atoms 𝓤) (W : Kit.Given 𝓤 H A) (𝓣 : Wp.Tables 𝓤 H) (known0 : Plain.Known 𝓤 H A W 𝓣 0 ps·0 r·0 (claims· .0) (claims· .1) "ranges::steps::handshake_range") (known1 : Plain.Known 𝓤 H A W 𝓣 1 ps·1 r·1 (claims· .2) (claims· .3) "expect::message::counted_of") (known2 : Plain.Known 𝓤 H A W 𝓣 6 ps·2 r·2 (claims· .4) (claims· .5) "ranges::steps::judge_on") (known3 : Plain.Known 𝓤 H A W 𝓣 0 ps·3 r·3 (claims· .6) (claims· .7) "judge::calls::turn_of") where
+        module _ {M : Type 1} (𝓤 : URA.URA M) (H : Wp.Heap 𝓤) (A : Atoms.Atoms 𝓤) (W : Kit.Given 𝓤 H A) (𝓣 : Wp.Tables 𝓤 H) (known0 : Plain.Known 𝓤 H A W 𝓣 0 ps·0 r·0 (claims· .0) (claims· .1) "ranges::steps::handshake_range") (known1 : Plain.Known 𝓤 H A W 𝓣 1 ps·1 r·1 (claims· .2) (claims· .3) "told::counted_of") (known2 : Plain.Known 𝓤 H A W 𝓣 6 ps·2 r·2 (claims· .4) (claims· .5) "ranges::steps::judge_on") (known3 : Plain.Known 𝓤 H A W 𝓣 0 ps·3 r·3 (claims· .6) (claims· .7) "judge::calls::turn_of") where
           pub spec : Statement.Triple 𝓤 (Wp.WpFn 𝓤 H (𝓣 .C) (𝓣 .Λ) (Function.fnOf 6 ps r xs m hs body)) (Function.plainOf 𝓤 H A 6 ps r Pre· Post·)
           spec = Plain.t-fn-plain 𝓤 H A W 𝓣 6 ps r xs m hs body (λ κs qs bs. Φ) (λ κs qs bs bd. typed κs qs 𝓤 H A W 𝓣 (known0, known1, known2, known3) bs bd) Pre· Post· asked

@@ -8,11 +8,11 @@ use lib.ListN.{length}
 use Rattle.text.specs.Lines.{lineAt, lines, lineBytes}
 use Rattle.text.specs.declared.lines.Line.{Line}
 use Rattle.text.proofs.LineLaws.{linesAt, known, lines-none, line-steps}
-use Rattle.replayed.specs.declared.cases.Tally.{Tally}
-use Rattle.replayed.specs.declared.cases.Case.{Case}
-use Rattle.replayed.specs.declared.cases.Case.the-variants.{Read, Refused, Dumped, Judged, Wrong}
+use Rattle.cases.specs.declared.Tally.{Tally}
+use Rattle.cases.specs.declared.Case.{Case}
+use Rattle.cases.specs.declared.Case.the-variants.{Read, Refused, Dumped, Judged, Wrong}
 use Rattle.replay_script.specs.Answers.{lineReplayed}
-use Rattle.replayed.specs.Cases.{counted, total}
+use Rattle.cases.specs.Cases.{counted, total}
 use Rattle.replay_script.specs.Tallies.{countedOn, allCounted}
 use borrow.Author.Needs.{needs}
 use Rattle.replay_script.proofs.replay_all.Statement.{statement}

@@ -9,8 +9,8 @@ use Rattle.text.specs.declared.parts.Span.{Span}
 use Rattle.text.proofs.LiteralLaws.{codes, spells-as}
 use Rattle.text.proofs.WordLaws.{word-places}
 use Rattle.fields.specs.Fields.{wordBytes}
-use Rattle.replayed.specs.declared.cases.Case.{Case}
-use Rattle.replayed.specs.declared.cases.Case.the-variants.{Wrong}
+use Rattle.cases.specs.declared.Case.{Case}
+use Rattle.cases.specs.declared.Case.the-variants.{Wrong}
 use Rattle.replay_script.specs.Measured.{measureReplayed}
 use Rattle.replay_script.specs.Answers.{readReplayed, judgedReplayed, lineReplayed}
 use borrow.Author.Needs.{needs}

@@ -4,7 +4,7 @@ use mathlib.Core.Path.{_≡_}
 use mathlib.Core.Bool.{Bool, true, false}
 use mathlib.Core.List.{List}
 use Rattle.replay_script.specs.Dumped.{agreed}
-use Rattle.replayed.specs.declared.cases.Case.the-variants.{Dumped, Wrong}
+use Rattle.cases.specs.declared.Case.the-variants.{Dumped, Wrong}
 use Rattle.replay_script.specs.Answers.{readReplayed}
 use borrow.Author.Needs.{needs}
 use Rattle.replay_script.proofs.replay_read.Statement.{statement}

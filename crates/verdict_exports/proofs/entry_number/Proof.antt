@@ -1,5 +1,5 @@
 -- `verdict_exports::entry_number` meets its contract: 31, then 32, then the verdict. Assumes nothing.
-use Rattle.expect.proofs.TellLaws.{few}
+use Rattle.told.proofs.ToldLaws.{few}
 use Rattle.verdict_exports.proofs.NumberLaws.{outside-text, entry-outside, entry-judged}
 use borrow.Author.Needs.{needs}
 use Rattle.verdict_exports.proofs.entry_number.Statement.{statement}

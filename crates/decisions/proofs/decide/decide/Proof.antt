@@ -12,9 +12,9 @@ use Rattle.verdicts.specs.Expected as expected
 use Rattle.verdicts.specs.Decisions.{decides}
 use Rattle.verdicts.specs.Held.{textAt, matchingOf}
 use Rattle.verdicts.specs.declared.Verdict.{Verdict}
-use Rattle.decisions.specs.Orders.{matching}
-use Rattle.decisions.specs.declared.orders.Order.the-variants as order
-use Rattle.decisions.proofs.SignedLaws.{back, back-is}
+use Rattle.orders.specs.Orders.{matching}
+use Rattle.orders.specs.declared.Order.the-variants as order
+use Rattle.orders.proofs.SignedLaws.{back, back-is}
 use borrow.Author.Needs.{needs}
 use Rattle.decisions.proofs.decide.decide.Statement.{statement}
 use Rattle.decisions.proofs.decide.decide.Tie as tie

@@ -8,9 +8,9 @@ use mir.Val.{SFits}
 use Rattle.verdicts.specs.Decisions.{decides}
 use Rattle.verdicts.specs.Verdicts.{code}
 use Rattle.verdicts.specs.declared.Verdict.{Verdict}
-use Rattle.decisions.specs.Orders.{matching, orderOf}
-use Rattle.decisions.specs.declared.orders.Order.{Order}
-use Rattle.decisions.proofs.SignedLaws.{back, back-is}
+use Rattle.orders.specs.Orders.{matching, orderOf}
+use Rattle.orders.specs.declared.Order.{Order}
+use Rattle.orders.proofs.SignedLaws.{back, back-is}
 use borrow.Author.Needs.{needs}
 use Rattle.decisions.proofs.hosted.ordering.Statement.{statement}
 use Rattle.decisions.proofs.hosted.ordering.Tie as tie

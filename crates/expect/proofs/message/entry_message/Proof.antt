@@ -6,8 +6,9 @@ use Rattle.verdicts.specs.Told.{reply}
 use Rattle.verdicts.specs.Lookup.{looked}
 use Rattle.verdicts.specs.Messages.{message}
 use Rattle.verdicts.specs.Held.{expectedOf, responseOf, expectIn, responseIn}
-use Rattle.expect.specs.Told.{counted}
-use Rattle.expect.proofs.TellLaws.{few, outside-text, entry-judged, entry-refused}
+use Rattle.told.specs.Told.{counted}
+use Rattle.expect.proofs.TellLaws.{entry-judged, entry-refused}
+use Rattle.told.proofs.ToldLaws.{few, outside-text}
 use Rattle.expect.proofs.message.entry_message.Statement.{statement}
 use Rattle.expect.proofs.message.entry_message.Tie as tie
 

@@ -6,8 +6,9 @@ use Rattle.verdicts.specs.Told.{greeting}
 use Rattle.verdicts.specs.Lookup.{looked}
 use Rattle.verdicts.specs.Messages.{message}
 use Rattle.verdicts.specs.Held.{expectedOf, infoOf, expectIn, infoIn}
-use Rattle.expect.specs.Told.{counted}
-use Rattle.expect.proofs.TellLaws.{few, outside-text, handshake-judged, handshake-refused}
+use Rattle.told.specs.Told.{counted}
+use Rattle.expect.proofs.TellLaws.{handshake-judged, handshake-refused}
+use Rattle.told.proofs.ToldLaws.{few, outside-text}
 use Rattle.expect.proofs.message.handshake_message.Statement.{statement}
 use Rattle.expect.proofs.message.handshake_message.Tie as tie
 

@@ -8,7 +8,8 @@ use lib.ListN.{length}
 use Rattle.text.specs.Base.{overlaid}
 use Rattle.frames.specs.Frames.{frameBytes}
 use Rattle.sought.specs.Values.{valueText}
-use Rattle.expect.proofs.TellLaws.{room-left, room-short, value-in, value-sized, value-taken, frame-fits, frame-long, value-too-long, message-too-long, both-written}
+use Rattle.expect.proofs.TellLaws.{room-left, room-short, value-in, value-sized, value-taken, frame-fits, frame-long}
+use Rattle.told.proofs.ToldLaws.{value-too-long, message-too-long, both-written}
 use Rattle.expect.proofs.message.tell.Statement.{statement}
 use Rattle.expect.proofs.message.tell.Tie as tie
 

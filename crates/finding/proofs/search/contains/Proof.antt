@@ -9,7 +9,7 @@ use lib.ListN.{length, getD, take, drop}
 use Rattle.text.specs.Parts.{startsWith}
 use Rattle.verdicts.specs.Decisions.{contains}
 use Rattle.finding.specs.Places.{Apart}
-use Rattle.finding.proofs.EqualLaws.{rest-is}
+use Rattle.same_values.proofs.EqualLaws.{rest-is}
 use Rattle.finding.proofs.SearchLaws.{empty-in}
 use Rattle.finding.proofs.PlaceLaws.{short-left, found-at, not-at, passed-by}
 use borrow.Author.Needs.{needs}

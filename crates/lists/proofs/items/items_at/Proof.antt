@@ -1,5 +1,5 @@
 -- `lists::items::items_at` meets its contract: each return is a law of parts. Assumes nothing.
-use Rattle.places.proofs.PartLaws.{part-none, part-rest, part-whole}
+use Rattle.texts.proofs.PartLaws.{part-none, part-rest, part-whole}
 use borrow.Author.Needs.{needs}
 use Rattle.lists.proofs.items.items_at.Statement.{statement}
 use Rattle.lists.proofs.items.items_at.Tie as tie

@@ -6,9 +6,9 @@ use Rattle.script.specs.Reading.{Parsed}
 use Rattle.script.specs.declared.records.Counts.{Counts}
 use Rattle.parse.specs.MeasureRead.{measuredOf}
 use Rattle.parse.specs.declared.measure.Measured.{Measured}
-use Rattle.replayed.specs.declared.cases.Answer.{Answer}
-use Rattle.replayed.specs.declared.cases.Case.the-variants.{Read, Refused, Wrong}
-use Rattle.replayed.specs.Answers.{matched}
+use Rattle.cases.specs.declared.Answer.{Answer}
+use Rattle.cases.specs.declared.Case.the-variants.{Read, Refused, Wrong}
+use Rattle.cases.specs.Answers.{matched}
 use Rattle.replay_script.specs.Measured.{replayed}
 use borrow.Author.Needs.{needs}
 use Rattle.replay_script.proofs.measured.replay.Statement.{statement}

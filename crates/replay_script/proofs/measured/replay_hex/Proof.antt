@@ -9,9 +9,9 @@ use Rattle.fields.specs.declared.bytes.Bytes.{Bytes}
 use Rattle.fields.specs.declared.bytes.Bytes.the-variants as Bytes
 use Rattle.fields.specs.Fields.{hexFor, bytesIn}
 use Rattle.fields.proofs.FieldLaws.{byte-bound}
-use Rattle.replayed.specs.declared.cases.Answer.{Answer}
-use Rattle.replayed.specs.declared.cases.Case.{Case}
-use Rattle.replayed.specs.declared.cases.Case.the-variants.{Wrong}
+use Rattle.cases.specs.declared.Answer.{Answer}
+use Rattle.cases.specs.declared.Case.{Case}
+use Rattle.cases.specs.declared.Case.the-variants.{Wrong}
 use Rattle.replay_script.specs.Measured.{replayed, replayedText, hexReplayed}
 use borrow.Author.Needs.{needs}
 use Rattle.replay_script.proofs.measured.replay_hex.Statement.{statement}

@@ -8,8 +8,8 @@ use Rattle.fields.specs.declared.numbers.NumbersAt.{NumbersAt}
 use Rattle.fields.specs.declared.numbers.NumbersAt.the-variants as NumbersAt
 use Rattle.fields.specs.Fields.{after, numbersAt, numbersField}
 use Rattle.fields.proofs.FieldLaws.{field-laws, rest-of}
-use Rattle.replayed.specs.declared.cases.Case.{Case}
-use Rattle.replayed.specs.declared.cases.Case.the-variants.{Wrong}
+use Rattle.cases.specs.declared.Case.{Case}
+use Rattle.cases.specs.declared.Case.the-variants.{Wrong}
 use Rattle.replay_script.specs.Measured.{answerBy, hexReplayed, measureReplayed}
 use borrow.Author.Needs.{needs}
 use Rattle.replay_script.proofs.measured.replay_measure.Statement.{statement}

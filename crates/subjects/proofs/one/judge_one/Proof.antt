@@ -5,7 +5,7 @@ use Prim.Native.Nat.{ℕ}
 use native.Mathlib.Omega.{arith}
 use lib.ListN.{length}
 use Rattle.text.specs.Base.{overlaid}
-use Rattle.expect.proofs.TellLaws.{text-is}
+use Rattle.sought.proofs.ValueLaws.{text-is}
 use borrow.Author.Needs.{needs}
 use Rattle.subjects.proofs.one.judge_one.Statement.{statement}
 use Rattle.subjects.proofs.one.judge_one.Tie as tie

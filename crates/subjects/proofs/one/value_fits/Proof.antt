@@ -1,5 +1,5 @@
 -- `subjects::one::value_fits` meets its contract. Assumes nothing.
-use Rattle.expect.proofs.TellLaws.{text-is}
+use Rattle.sought.proofs.ValueLaws.{text-is}
 use Rattle.subjects.proofs.SubjectLaws.{room-left, room-short}
 use borrow.Author.Needs.{needs}
 use Rattle.subjects.proofs.one.value_fits.Statement.{statement}
