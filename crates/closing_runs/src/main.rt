@@ -9,7 +9,7 @@ fn print(words: &[u8]) {
 
 fn print_number(n: u64) {
     let mut digits = [0u8; 20];
-    let len = writing::decimal::put_decimal(n, &mut digits, 0);
+    let len = decimals::decimal::put_decimal(n, &mut digits, 0);
     if len <= 20 {
         print(&digits[..len]);
     }

@@ -3,13 +3,13 @@ ghost use mathlib.Core.Path.{_≡_};
 ghost use lib.ListN.{length};
 ghost use Rattle.writing.specs.Room.{left, lessBy};
 ghost use Rattle.messages.specs.Lengths.{pieceLength, endingWord, endingValue, frameLength};
+use decimals::integer::integer_len;
 use frames::frames::Ending;
 use frames::frames::Frame;
 use frames::frames::Piece;
 use frames::words::head_len;
 use frames::words::middle_len;
 use texts::text_at;
-use writing::integer::integer_len;
 use writing::room::Room;
 use writing::room::less;
 

@@ -5,13 +5,13 @@ ghost use lib.ListN.{length};
 ghost use Rattle.text.specs.Base.{overlaid};
 ghost use Rattle.tables.specs.Written.{writtenAt};
 ghost use Rattle.frames.specs.Frames.{pieceBytes, endingBytes, frameBytes};
+use decimals::integer::put_integer;
 use frames::frames::Ending;
 use frames::frames::Frame;
 use frames::frames::Piece;
 use phrases::put_head;
 use phrases::put_middle;
 use texts::text_at;
-use writing::integer::put_integer;
 use writing::words::put_word;
 
 fn put_piece(p: Piece, text: &[u8], bytes: &[u8], value: &[u8], out: &mut [u8], at: usize) -> usize

@@ -8,7 +8,7 @@ use lib.IntN.{ℤ, pos, negsuc, _+ℤ_, _-ℤ_, natAbs}
 use lib.Signed.{_<ℤ_, _≤ℤ_, ltZ}
 use mir.Syntax.{w64}
 use mir.Val.{SFits, ofZ, toZ}
-use Rattle.writing.proofs.SignedLaws.{under, held, low, n-is, small, high}
+use Rattle.decimals.proofs.SignedLaws.{under, held, low, n-is, small, high}
 use Rattle.numbers.specs.Numbers.{unsigned}
 
 under-is : (z : ℤ) → z <ℤ pos 0 → 0xFFFF_FFFF_FFFF_FFFF - under z ≡ unsigned z

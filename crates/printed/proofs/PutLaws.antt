@@ -15,7 +15,8 @@ use Rattle.script.specs.declared.records.Refusal.{Refusal}
 use Rattle.script.specs.declared.records.Script.{Script}
 use Rattle.values.specs.Decimal.{decimal}
 use Rattle.writing.proofs.PutLaws.{Put, put-then, put-one}
-use Rattle.printed.specs.Listing.{opOf, after, versionWords, headerLine, entryLine, refusalLine}
+use Rattle.call_ops.specs.CallOps.{opOf}
+use Rattle.printed.specs.Listing.{after, versionWords, headerLine, entryLine, refusalLine}
 
 pub version-put : (x : ProtocolVersion) (at : ℕ) (t u v : List ℕ) (a b : ℕ) → at + 49 ≤ length t → Put at (codes "version " ++ decimal (x .major)) 28 t u a → Put a (codes "." ++ decimal (x .minor)) 21 u v b → Put at (versionWords x) 49 t v b
 unfolding versionWords after utf8 encoded

@@ -6,45 +6,19 @@ use mathlib.Core.List.{List, [], _∷_, _++_}
 use Rattle.text.specs.Base.{LF}
 use Rattle.text.specs.Literal.{utf8}
 use Rattle.wire.specs.Operations.{operation}
-use Rattle.wire.specs.declared.ops.Op.{Op}
-use Rattle.wire.specs.declared.ops.Op.the-variants as ops
 use Rattle.version.specs.declared.ProtocolVersion.{ProtocolVersion}
 use Rattle.script.specs.Layout.{Reading}
 use Rattle.script.specs.Reading.{Parsed, refusedAt, read, readInto}
-use Rattle.script.specs.declared.records.OpCall.{OpCall}
-use Rattle.script.specs.declared.records.OpCall.the-variants as calls
 use Rattle.script.specs.declared.records.Entry.{Entry}
 use Rattle.script.specs.declared.records.Counts.{Counts}
 use Rattle.script.specs.declared.records.Script.{Script}
 use Rattle.script.specs.declared.records.Refusal.{Refusal}
 use Rattle.values.specs.Decimal.{decimal}
+use Rattle.call_ops.specs.CallOps.{opOf}
 
 -- Tables: 256 entries, 1,024 expectations, 1,024 items, store 32,768.
 abbrev pub lent : Counts
 lent = record { entries = 256; items = 1024; expectations = 1024; store = 32768 }
-
--- the operation of a call: written in it, or the only one of its kind
-unfoldable pub opOf : OpCall → Op
-opOf (calls.SinglePath op path) = op
-opOf (calls.SingleString op value) = op
-opOf (calls.PathSet op paths) = op
-opOf (calls.PathSetFlag op paths substitute) = op
-opOf (calls.PathSetMode op paths mode) = op
-opOf (calls.NoArgs op) = op
-opOf (calls.SetOptions options) = ops.SetOptions
-opOf (calls.CollectGarbage action paths ignore-liveness max-freed) = ops.CollectGarbage
-opOf (calls.VerifyStore check-contents repair) = ops.VerifyStore
-opOf (calls.AddPermRoot path gc-root) = ops.AddPermRoot
-opOf (calls.AddSignatures path sigs) = ops.AddSignatures
-opOf (calls.AddTextToStore suffix text refs) = ops.AddTextToStore
-opOf (calls.AddToStore name cam-str refs repair contents) = ops.AddToStore
-opOf (calls.AddMultipleToStore repair dont-check-sigs contents) = ops.AddMultipleToStore
-opOf (calls.AddBuildLog path contents) = ops.AddBuildLog
-opOf (calls.RegisterDrvOutput value) = ops.RegisterDrvOutput
-opOf (calls.QueryRealisation value) = ops.QueryRealisation
-opOf (calls.QuerySubstitutablePathInfo path) = ops.QuerySubstitutablePathInfo
-opOf (calls.QuerySubstitutablePathInfos paths) = ops.QuerySubstitutablePathInfos
-opOf (calls.RawBytes op bytes) = op
 
 -- a number behind a word
 unfoldable pub after : String → ℕ → List ℕ

@@ -3,16 +3,16 @@ ghost use mathlib.Core.Path.{_≡_};
 ghost use Prim.Native.Nat.{_+_, _≤_};
 ghost use lib.ListN.{length};
 ghost use Rattle.tables.specs.Written.{writtenAt};
-ghost use Rattle.printed.specs.Listing.{opOf, versionWords, headerLine, entryLine, refusalLine};
+ghost use Rattle.printed.specs.Listing.{versionWords, headerLine, entryLine, refusalLine};
 ghost use Rattle.printed.specs.Room.{versionRoom, headerRoom, lineRoom, refusalRoom};
+use call_ops::op_of;
+use decimals::decimal::put_after;
+use decimals::decimal::put_decimal;
 use script::records::Entry;
-use script::records::OpCall;
 use script::records::Refusal;
 use script::records::Script;
 use version::ProtocolVersion;
 use wire::ops::Op;
-use writing::decimal::put_decimal;
-use writing::words::put_after;
 
 // Writes `version` and the two numbers of a version.
 fn put_version(v: ProtocolVersion, out: &mut [u8], at: usize) -> usize
@@ -46,34 +46,6 @@ pub fn put_header(s: Script, out: &mut [u8], at: usize) -> usize
     );
     out[d] = 0x0A;
     d + 1
-}
-
-// The operation of a call.
-pub fn op_of(call: OpCall) -> Op
-    ensures { λ r. ⌜ r ≡ opOf call ⌝ }
-{
-    match call {
-        OpCall::SinglePath { op, .. } => op,
-        OpCall::SingleString { op, .. } => op,
-        OpCall::PathSet { op, .. } => op,
-        OpCall::PathSetFlag { op, .. } => op,
-        OpCall::PathSetMode { op, .. } => op,
-        OpCall::NoArgs { op } => op,
-        OpCall::SetOptions(_) => Op::SetOptions,
-        OpCall::CollectGarbage { .. } => Op::CollectGarbage,
-        OpCall::VerifyStore { .. } => Op::VerifyStore,
-        OpCall::AddPermRoot { .. } => Op::AddPermRoot,
-        OpCall::AddSignatures { .. } => Op::AddSignatures,
-        OpCall::AddTextToStore { .. } => Op::AddTextToStore,
-        OpCall::AddToStore { .. } => Op::AddToStore,
-        OpCall::AddMultipleToStore { .. } => Op::AddMultipleToStore,
-        OpCall::AddBuildLog { .. } => Op::AddBuildLog,
-        OpCall::RegisterDrvOutput { .. } => Op::RegisterDrvOutput,
-        OpCall::QueryRealisation { .. } => Op::QueryRealisation,
-        OpCall::QuerySubstitutablePathInfo { .. } => Op::QuerySubstitutablePathInfo,
-        OpCall::QuerySubstitutablePathInfos { .. } => Op::QuerySubstitutablePathInfos,
-        OpCall::RawBytes { op, .. } => op,
-    }
 }
 
 // Writes the line of an entry.

@@ -3,11 +3,11 @@ ghost use mathlib.Core.Path.{_≡_};
 ghost use lib.ListN.{length};
 ghost use Rattle.writing.specs.Room.{left};
 ghost use Rattle.sought.specs.Values.{valueText};
+use decimals::decimal::decimal_len;
 use lists::items::items_at;
 use lists::list_rooms::joined_room;
 use sought::value::Value;
 use texts::text_at;
-use writing::decimal::decimal_len;
 use writing::room::Room;
 use writing::room::less;
 

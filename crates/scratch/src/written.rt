@@ -5,12 +5,12 @@ ghost use lib.ListN.{length};
 ghost use Rattle.text.specs.Base.{overlaid};
 ghost use Rattle.tables.specs.Written.{writtenAt};
 ghost use Rattle.sought.specs.Values.{valueText};
+use decimals::decimal::put_decimal;
 use lists::items::items_at;
 use lists::joined::put_braced;
 use lists::joined::put_bracketed;
 use sought::value::Value;
 use texts::text_at;
-use writing::decimal::put_decimal;
 use writing::words::put_word;
 
 // Writes a value from `at` on, and says where the next byte goes.

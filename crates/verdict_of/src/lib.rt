@@ -12,6 +12,7 @@ ghost use Rattle.verdicts.specs.Verdicts.{valued, verdict};
 ghost use Rattle.verdicts.specs.Told.{greeting, reply};
 ghost use Rattle.verdicts.specs.Held.{textAt, textsIn, matchingOf, expectedOf, responseOf, infoOf, ranged};
 ghost use Rattle.sought.specs.Values.{valueBytes};
+use decimals::decimal::put_decimal;
 use decisions::decide::decide;
 use joined::decide::decide_list;
 use script::records::Expect;
@@ -23,7 +24,6 @@ use script::response::HandshakeInfo;
 use sought::value::Value;
 use texts::text_at;
 use verdicts::Verdict;
-use writing::decimal::put_decimal;
 
 // A range as far as a table of n records has it.
 fn clamped(r: Items, n: usize) -> Items

@@ -1,4 +1,3 @@
 pub mod DecimalLaws
 pub mod PutLaws
 pub mod RoomLaws
-pub mod SignedLaws

@@ -1,5 +1,3 @@
-// Words and numbers written into a lent slice, and how much room is left once they stand there.
-pub mod decimal;
-pub mod integer;
+// Words written into a lent slice, and how much room is left once they stand there.
 pub mod room;
 pub mod words;

@@ -1,12 +1,8 @@
-// Words, and words with a number behind them. Each function writes from `at` on and says where the next byte goes.
+// Words. Each function writes from `at` on and says where the next byte goes.
 ghost use mathlib.Core.Path.{_≡_};
-ghost use mathlib.Core.List.{_++_};
 ghost use Prim.Native.Nat.{_+_, _≤_};
 ghost use lib.ListN.{length};
 ghost use Rattle.tables.specs.Written.{writtenAt};
-ghost use Rattle.values.specs.Decimal.{decimal};
-ghost use Rattle.writing.specs.Room.{numberRoom};
-use crate::decimal::put_decimal;
 use blocks::put_blocks;
 use blocks::put_bytes;
 use blocks::put_eights;
@@ -31,15 +27,4 @@ pub fn put_word(word: &[u8], out: &mut [u8], at: usize) -> usize
         }
     }
     put_blocks(word, out, at)
-}
-
-// Writes a word and a number behind it.
-pub fn put_after(word: &[u8], n: u64, out: &mut [u8], at: usize) -> usize
-    requires { ⌜ at + (length (now word) + numberRoom) ≤ length (now out) ⌝ }
-    ensures { λ r. ⌜ r ≡ at + length (now (word .entry) ++ decimal n) ⌝ }
-    ensures { λ _. ⌜ now (out .exit) ≡ writtenAt at (now (word .entry) ++ decimal n) (now (out .entry)) ⌝ }
-    ensures { λ r. ⌜ r ≤ at + (length (now (word .entry)) + numberRoom) ⌝ }
-{
-    let behind = put_word(word, out, at);
-    put_decimal(n, out, behind)
 }

@@ -1,7 +1,7 @@
 -- `numbers::bytes::unsigned` meets its contract. Assumes nothing.
 use mir.Syntax.{w64}
 use mir.Val.{SFits}
-use Rattle.writing.proofs.SignedLaws.{one-more, taken-off, no-sign, n-fits, high-sign, high-fits}
+use Rattle.decimals.proofs.SignedLaws.{one-more, taken-off, no-sign, n-fits, high-sign, high-fits}
 use Rattle.numbers.proofs.SignedLaws.{n-room, low-is, high-is}
 use borrow.Author.Needs.{needs}
 use Rattle.numbers.proofs.bytes.unsigned.Statement.{statement}

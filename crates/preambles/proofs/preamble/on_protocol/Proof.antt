@@ -1,7 +1,7 @@
 -- `preambles::preamble::on_protocol` meets its contract: what follows the word, trimmed, is a version or leaves the one so far. Assumes nothing.
 use borrow.Author.Tests.{not-true, not-false}
 use Rattle.pieces.proofs.BehindLaws.{front-bounds}
-use Rattle.preambles.proofs.PreambleLaws.{protocol-words}
+use Rattle.remarks.proofs.PreambleLaws.{protocol-words}
 use borrow.Author.Needs.{needs}
 use Rattle.preambles.proofs.preamble.on_protocol.Statement.{statement}
 use Rattle.preambles.proofs.preamble.on_protocol.Tie as tie

@@ -1,5 +1,5 @@
 -- `preambles::preamble::preamble_expect` meets its contract: one of two words stands there, or the line has no known form. Assumes nothing.
-use Rattle.preambles.proofs.PreambleLaws.{preamble-expects}
+use Rattle.remarks.proofs.PreambleLaws.{preamble-expects}
 use borrow.Author.Needs.{needs}
 use Rattle.preambles.proofs.preamble.preamble_expect.Statement.{statement}
 use Rattle.preambles.proofs.preamble.preamble_expect.Tie as tie

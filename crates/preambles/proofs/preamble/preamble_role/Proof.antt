@@ -1,5 +1,5 @@
 -- `preambles::preamble::preamble_role` meets its contract: the first byte tells what the line can be. Assumes nothing.
-use Rattle.preambles.proofs.PreambleLaws.{preamble-lines}
+use Rattle.remarks.proofs.PreambleLaws.{preamble-lines}
 use borrow.Author.Needs.{needs}
 use Rattle.preambles.proofs.preamble.preamble_role.Statement.{statement}
 use Rattle.preambles.proofs.preamble.preamble_role.Tie as tie

@@ -1,5 +1,5 @@
 -- `preambles::preamble::preamble_step` meets its contract. Assumes nothing.
-use Rattle.preambles.proofs.PreambleLaws.{step-over, step-inside, step-remark}
+use Rattle.remarks.proofs.PreambleLaws.{step-over, step-inside, step-remark}
 use borrow.Author.Needs.{needs}
 use Rattle.preambles.proofs.preamble.preamble_step.Statement.{statement}
 use Rattle.preambles.proofs.preamble.preamble_step.Tie as tie

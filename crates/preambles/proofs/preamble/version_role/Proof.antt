@@ -1,5 +1,5 @@
 -- `preambles::preamble::version_role` meets its contract. Assumes nothing.
-use Rattle.preambles.proofs.PreambleLaws.{version-read, version-bad}
+use Rattle.remarks.proofs.PreambleLaws.{version-read, version-bad}
 use Rattle.script.specs.Pieces.{bytes}
 use borrow.Author.Needs.{needs}
 use Rattle.preambles.proofs.preamble.version_role.Statement.{statement}

@@ -1,7 +1,7 @@
 -- `preambles::preamble::word_role` meets its contract: the first byte tells the word. Assumes nothing.
 use borrow.Author.Tests.{not-true, not-false}
 use Rattle.pieces.proofs.BehindLaws.{front-bounds}
-use Rattle.preambles.proofs.PreambleLaws.{preamble-words}
+use Rattle.remarks.proofs.PreambleLaws.{preamble-words}
 use borrow.Author.Needs.{needs}
 use Rattle.preambles.proofs.preamble.word_role.Statement.{statement}
 use Rattle.preambles.proofs.preamble.word_role.Tie as tie
