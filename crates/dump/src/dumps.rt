@@ -79,10 +79,10 @@ pub fn dump_read(
     ensures { λ r. ⌜ r ≡ length (readDump (now (text .entry)) entries items expectations store) ⌝ }
     ensures { λ _. ⌜ now (out .exit) ≡ overlaid (readDump (now (text .entry)) entries items expectations store) (now (out .entry)) ⌝ }
 {
-    let mut es = crate::blanks::blank_entries();
-    let mut is = crate::blanks::blank_items();
-    let mut xs = crate::blanks::blank_expectations();
-    let mut bs = crate::blanks::blank_store();
+    let mut es = blanks::blank_entries();
+    let mut is = blanks::blank_items();
+    let mut xs = blanks::blank_expectations();
+    let mut bs = blanks::blank_store();
     let e = at_most(256, entries);
     let i = at_most(1024, items);
     let x = at_most(1024, expectations);

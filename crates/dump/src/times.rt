@@ -18,10 +18,10 @@ fn number_of(a: Answer) -> u64
 pub fn read_times(text: &[u8], times: u64) -> u64
     ensures { λ r. ⌜ r ≡ lastNumber (now (text .entry)) times ⌝ }
 {
-    let mut es = crate::blanks::many_entries();
-    let mut is = crate::blanks::many_items();
-    let mut xs = crate::blanks::many_expectations();
-    let mut bs = crate::blanks::blank_store();
+    let mut es = blanks::many_entries();
+    let mut is = blanks::many_items();
+    let mut xs = blanks::many_expectations();
+    let mut bs = blanks::blank_store();
     let mut n: u64 = 0;
     let mut last: u64 = 0;
     while n < times {

@@ -30,6 +30,7 @@ use Rattle.text.specs.Words as text-Words
 use Rattle.wire.specs.Operations as wire-Operations
 use Rattle.version.specs.Version as wire-Version
 use Rattle.values.specs.Decimal as values-Decimal
+use Rattle.call_ops.specs.CallOps as call-CallOps
 use Rattle.printed.specs.Listing as listing-Listing
 use Rattle.printed.specs.Listing.{listingOf}
 
@@ -60,7 +61,7 @@ cases =
     ∷ []
 
 abbrev printed : List ℕ → List ℕ
-unfolding text-Base.within text-Base.overlaid text-Hex.without text-Hex.withoutBlanks text-Hex.characterStarts text-Hex.hexValue text-Hex.hexByte text-Hex.hexPairs text-Hex.hexDecoded text-Lines.linesFrom text-Lines.lines text-Lines.indented text-Literal.utf8 text-Literal.spells text-Literal.beginsWith text-Literal.wordLength text-Numbers.allDigits text-Numbers.decimalFrom text-Numbers.digits text-Numbers.number text-Numbers.minus text-Numbers.signed text-Parts.startsWith text-Parts.endsWith text-Parts.sameBytes text-Parts.positionFrom text-Parts.position text-Parts.pairPositionFrom text-Parts.pairPosition text-Parts.splitFrom text-Parts.split text-Trim.whiteBytes text-Trim.backwards text-Trim.begins text-Trim.sizeOf text-Trim.stripFrom text-Trim.trimmedFront text-Trim.trimmedBack text-Trim.trimmed text-Trim.trimPlace text-Unicode.encoded text-Unquote.quoted text-Unquote.between text-Unquote.replaced text-Unquote.replacedInOrder text-Unquote.unescaped text-Unquote.unquoted text-Utf8.table text-Utf8.after text-Utf8.wellFormedFrom text-Utf8.wellFormed text-Words.wordsFrom text-Words.words wire-Operations.operation wire-Operations.first wire-Operations.named wire-Version.ofNumbers wire-Version.ofParts wire-Version.version script-Answers.firstOf script-Contents.sayingOf script-Contents.sayings script-Contents.expectationOf script-Contents.expectations script-Contents.valueOr script-Contents.lastOf script-Contents.valueOf script-Contents.pairOf script-Contents.pairs script-Contents.givenBytes script-Contents.givenData script-Contents.numberOf script-Contents.flagOf script-Contents.itemsIn script-Contents.restOf script-Contents.setOf script-Contents.versionIn script-Contents.featuresIn script-Contents.unquotedOf script-Contents.hexOf script-Contents.dataOf script-Contents.callOf script-Contents.entryOf script-Contents.isOpening script-Contents.lead script-Contents.orNone script-Contents.entryOn script-Contents.entries script-Contents.preambleOf script-Contents.contents script-Expectations.numbered script-Expectations.about script-Expectations.pattern script-Expectations.comparison script-Expectations.matcher script-Expectations.matching script-Expectations.terminal script-Expectations.field script-Expectations.result script-Expectations.expectation script-Layout.range script-Layout.listed script-Layout.storedOf script-Layout.framedAt script-Layout.laid script-Layout.tablesFrom script-Layout.maybe script-Layout.maybeItems script-Layout.laidPreamble script-Layout.laidScript script-Operations.keyRow script-Operations.sameKey script-Operations.keysOf script-Operations.keyIn script-Operations.formOf script-Pieces.placeOf script-Pieces.place script-Pieces.isEmpty script-Pieces.inner script-Pieces.cutAt script-Pieces.bytes script-Pieces.is script-Pieces.begins script-Pieces.ends script-Pieces.behind script-Pieces.trim script-Pieces.cut script-Pieces.cutOr script-Pieces.split script-Pieces.words script-Reading.refusedBy script-Reading.firstRefused script-Reading.readMarked script-Reading.readBy script-Reading.parsedBy script-Reading.parsed script-Reading.measured script-Reading.room script-Reading.tooFew script-Reading.fitted script-Reading.readInto script-Roles.refusalIn script-Roles.behindSigns script-Roles.versionRole script-Roles.expectRole script-Roles.saying script-Roles.commentRole script-Roles.protocolRole script-Roles.wordRole script-Roles.preambleExpect script-Roles.preambleRole script-Roles.preambleStep script-Roles.setOn script-Roles.notClosed script-Roles.openOn script-Roles.withName script-Roles.withStamp script-Roles.openingRole script-Roles.skipped script-Roles.outsideStep script-Roles.entryStep script-Roles.argumentLine script-Roles.pairIn script-Roles.keyed script-Roles.keySaying script-Roles.rawSaying script-Roles.optionSaying script-Roles.sayingIn script-Roles.refusalOfKind script-Roles.refusalOf script-Roles.argumentStep script-Roles.blockStep script-Roles.stepAt script-Roles.stepOf script-Roles.rolesFrom script-Roles.roles script-Sets.nonEmpty script-Sets.trimmedItems script-Sets.pathItems script-Sets.bracedSet script-Sets.plainSet script-Sets.pathSet script-Sets.features script-Timestamps.digitRun script-Timestamps.fraction script-Timestamps.unsigned script-Timestamps.negative script-Timestamps.small script-Timestamps.noFinite script-Timestamps.someDigits script-Timestamps.exponent script-Timestamps.carried script-Timestamps.time script-Timestamps.withTime script-Timestamps.stampedAt script-Timestamps.stamped script-Values.withoutQuotes script-Values.inlineOf script-Values.framed values-Decimal.decimalBy values-Decimal.decimal listing-Listing.opOf listing-Listing.after listing-Listing.versionWords listing-Listing.headerLine listing-Listing.entryLine listing-Listing.entryLines listing-Listing.refusalLine listing-Listing.listing listing-Listing.listingOf
+unfolding text-Base.within text-Base.overlaid text-Hex.without text-Hex.withoutBlanks text-Hex.characterStarts text-Hex.hexValue text-Hex.hexByte text-Hex.hexPairs text-Hex.hexDecoded text-Lines.linesFrom text-Lines.lines text-Lines.indented text-Literal.utf8 text-Literal.spells text-Literal.beginsWith text-Literal.wordLength text-Numbers.allDigits text-Numbers.decimalFrom text-Numbers.digits text-Numbers.number text-Numbers.minus text-Numbers.signed text-Parts.startsWith text-Parts.endsWith text-Parts.sameBytes text-Parts.positionFrom text-Parts.position text-Parts.pairPositionFrom text-Parts.pairPosition text-Parts.splitFrom text-Parts.split text-Trim.whiteBytes text-Trim.backwards text-Trim.begins text-Trim.sizeOf text-Trim.stripFrom text-Trim.trimmedFront text-Trim.trimmedBack text-Trim.trimmed text-Trim.trimPlace text-Unicode.encoded text-Unquote.quoted text-Unquote.between text-Unquote.replaced text-Unquote.replacedInOrder text-Unquote.unescaped text-Unquote.unquoted text-Utf8.table text-Utf8.after text-Utf8.wellFormedFrom text-Utf8.wellFormed text-Words.wordsFrom text-Words.words wire-Operations.operation wire-Operations.first wire-Operations.named wire-Version.ofNumbers wire-Version.ofParts wire-Version.version script-Answers.firstOf script-Contents.sayingOf script-Contents.sayings script-Contents.expectationOf script-Contents.expectations script-Contents.valueOr script-Contents.lastOf script-Contents.valueOf script-Contents.pairOf script-Contents.pairs script-Contents.givenBytes script-Contents.givenData script-Contents.numberOf script-Contents.flagOf script-Contents.itemsIn script-Contents.restOf script-Contents.setOf script-Contents.versionIn script-Contents.featuresIn script-Contents.unquotedOf script-Contents.hexOf script-Contents.dataOf script-Contents.callOf script-Contents.entryOf script-Contents.isOpening script-Contents.lead script-Contents.orNone script-Contents.entryOn script-Contents.entries script-Contents.preambleOf script-Contents.contents script-Expectations.numbered script-Expectations.about script-Expectations.pattern script-Expectations.comparison script-Expectations.matcher script-Expectations.matching script-Expectations.terminal script-Expectations.field script-Expectations.result script-Expectations.expectation script-Layout.range script-Layout.listed script-Layout.storedOf script-Layout.framedAt script-Layout.laid script-Layout.tablesFrom script-Layout.maybe script-Layout.maybeItems script-Layout.laidPreamble script-Layout.laidScript script-Operations.keyRow script-Operations.sameKey script-Operations.keysOf script-Operations.keyIn script-Operations.formOf script-Pieces.placeOf script-Pieces.place script-Pieces.isEmpty script-Pieces.inner script-Pieces.cutAt script-Pieces.bytes script-Pieces.is script-Pieces.begins script-Pieces.ends script-Pieces.behind script-Pieces.trim script-Pieces.cut script-Pieces.cutOr script-Pieces.split script-Pieces.words script-Reading.refusedBy script-Reading.firstRefused script-Reading.readMarked script-Reading.readBy script-Reading.parsedBy script-Reading.parsed script-Reading.measured script-Reading.room script-Reading.tooFew script-Reading.fitted script-Reading.readInto script-Roles.refusalIn script-Roles.behindSigns script-Roles.versionRole script-Roles.expectRole script-Roles.saying script-Roles.commentRole script-Roles.protocolRole script-Roles.wordRole script-Roles.preambleExpect script-Roles.preambleRole script-Roles.preambleStep script-Roles.setOn script-Roles.notClosed script-Roles.openOn script-Roles.withName script-Roles.withStamp script-Roles.openingRole script-Roles.skipped script-Roles.outsideStep script-Roles.entryStep script-Roles.argumentLine script-Roles.pairIn script-Roles.keyed script-Roles.keySaying script-Roles.rawSaying script-Roles.optionSaying script-Roles.sayingIn script-Roles.refusalOfKind script-Roles.refusalOf script-Roles.argumentStep script-Roles.blockStep script-Roles.stepAt script-Roles.stepOf script-Roles.rolesFrom script-Roles.roles script-Sets.nonEmpty script-Sets.trimmedItems script-Sets.pathItems script-Sets.bracedSet script-Sets.plainSet script-Sets.pathSet script-Sets.features script-Timestamps.digitRun script-Timestamps.fraction script-Timestamps.unsigned script-Timestamps.negative script-Timestamps.small script-Timestamps.noFinite script-Timestamps.someDigits script-Timestamps.exponent script-Timestamps.carried script-Timestamps.time script-Timestamps.withTime script-Timestamps.stampedAt script-Timestamps.stamped script-Values.withoutQuotes script-Values.inlineOf script-Values.framed values-Decimal.decimalBy values-Decimal.decimal call-CallOps.opOf listing-Listing.after listing-Listing.versionWords listing-Listing.headerLine listing-Listing.entryLine listing-Listing.entryLines listing-Listing.refusalLine listing-Listing.listing listing-Listing.listingOf
 printed bytes = listingOf bytes
 
 cases-hold : map (λ c. printed (utf8 (c .given))) cases ≡ map (λ c. utf8 (c .wanted)) cases

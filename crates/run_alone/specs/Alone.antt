@@ -2,15 +2,11 @@
 use Prim.Native.Nat.{ℕ}
 use mathlib.Core.List.{List}
 use Rattle.script.specs.Reading.{readInto}
-use Rattle.script.specs.declared.records.Counts.{Counts}
 use Rattle.read.specs.Read.{scriptOr}
 use Rattle.calls.specs.CallRows.{callsOf}
+use Rattle.blanks.specs.Own.{ownTables}
 use Rattle.ran.specs.Ran.{plainLeft, ranOf}
 use Rattle.ran.specs.declared.Ran.{Ran}
-
--- how many records and bytes its tables have
-abbrev pub ownTables : Counts
-ownTables = record { entries = 256; items = 1024; expectations = 1024; store = 32768 }
 
 -- of a text, rows of calls, what they hand over, the verdict list, and how many bytes of scratch and places for answers are lent
 unfoldable pub ranAlone : (text : List ℕ) → (rows : List (List ℕ)) → (bytes : List ℕ) → (lists : List (List ℕ)) → (verdicts : List ℕ) → (scratch answers : ℕ) → Ran

@@ -26,10 +26,10 @@ pub fn run_alone(
     ensures { λ r. ⌜ now (scratch .exit) ≡ ifDone r (plainScratch (now (text .entry)) (length (now (verdicts .entry))) (callsOf (now (bytes .entry)) (now (lists .entry)) (now (calls .entry))) (now (scratch .entry))) (now (scratch .entry)) ⌝ }
     ensures { λ r. ⌜ now (answers .exit) ≡ ifDone r (writtenAt 0 (map answerCode (plainRun (now (text .entry)) (length (now (verdicts .entry))) (callsOf (now (bytes .entry)) (now (lists .entry)) (now (calls .entry))) .0)) (now (answers .entry))) (now (answers .entry)) ⌝ }
 {
-    let mut es = dump::blanks::blank_entries();
-    let mut is = dump::blanks::blank_items();
-    let mut xs = dump::blanks::blank_expectations();
-    let mut bs = dump::blanks::blank_store();
+    let mut es = blanks::blank_entries();
+    let mut is = blanks::blank_items();
+    let mut xs = blanks::blank_expectations();
+    let mut bs = blanks::blank_store();
     run_script(
         text,
         &mut es,

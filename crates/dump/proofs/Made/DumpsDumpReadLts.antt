@@ -108,25 +108,25 @@ abbrev pub hs : List.List Syntax.Home
 hs = List._∷_ Syntax.valueLocal (List._∷_ Syntax.valueLocal (List._∷_ Syntax.valueLocal (List._∷_ Syntax.valueLocal (List._∷_ Syntax.valueLocal (List._∷_ Syntax.valueLocal (List._∷_ Syntax.valueLocal (List._∷_ Syntax.memorySlot (List._∷_ Syntax.memorySlot (List._∷_ Syntax.memorySlot (List._∷_ Syntax.memorySlot (List._∷_ Syntax.valueLocal (List._∷_ Syntax.valueLocal (List._∷_ Syntax.valueLocal (List._∷_ Syntax.valueLocal (List._∷_ Syntax.valueLocal (List._∷_ Syntax.valueLocal (List._∷_ Syntax.valueLocal (List._∷_ Syntax.valueLocal (List._∷_ Syntax.valueLocal (List._∷_ Syntax.valueLocal (List._∷_ Syntax.valueLocal (List._∷_ Syntax.valueLocal (List._∷_ Syntax.valueLocal (List._∷_ Syntax.valueLocal (List._∷_ Syntax.valueLocal (List._∷_ Syntax.valueLocal (List._∷_ Syntax.valueLocal (List._∷_ Syntax.valueLocal List.[]))))))))))))))))))))))))))))
 
 abbrev b0 : Syntax.Body
-b0 = Syntax.call "dump::blanks::blank_entries" List.[] (Syntax.place 15 List.[])
+b0 = Syntax.call "blanks::blank_entries" List.[] (Syntax.place 15 List.[])
 
 abbrev b1 : Syntax.Body
 b1 = Syntax.assign (Syntax.place 7 List.[]) (Syntax.rvOpd (Syntax.copy (Syntax.place 15 List.[])))
 
 abbrev b2 : Syntax.Body
-b2 = Syntax.call "dump::blanks::blank_items" List.[] (Syntax.place 16 List.[])
+b2 = Syntax.call "blanks::blank_items" List.[] (Syntax.place 16 List.[])
 
 abbrev b3 : Syntax.Body
 b3 = Syntax.assign (Syntax.place 8 List.[]) (Syntax.rvOpd (Syntax.copy (Syntax.place 16 List.[])))
 
 abbrev b4 : Syntax.Body
-b4 = Syntax.call "dump::blanks::blank_expectations" List.[] (Syntax.place 17 List.[])
+b4 = Syntax.call "blanks::blank_expectations" List.[] (Syntax.place 17 List.[])
 
 abbrev b5 : Syntax.Body
 b5 = Syntax.assign (Syntax.place 9 List.[]) (Syntax.rvOpd (Syntax.copy (Syntax.place 17 List.[])))
 
 abbrev b6 : Syntax.Body
-b6 = Syntax.call "dump::blanks::blank_store" List.[] (Syntax.place 18 List.[])
+b6 = Syntax.call "blanks::blank_store" List.[] (Syntax.place 18 List.[])
 
 abbrev b7 : Syntax.Body
 b7 = Syntax.assign (Syntax.place 10 List.[]) (Syntax.rvOpd (Syntax.copy (Syntax.place 18 List.[])))
@@ -708,7 +708,7 @@ module _ (claims· : Claims) where
   module _ (Pre· : (κs : Lifetimes.Lfts 2) → Kinds.Dens κs ps → Type 0) (Post· : (κs : Lifetimes.Lfts 2) → (a : Kinds.Dens κs ps) → Kinds.Plain 2 ps r κs) where
     module _ (M : Type 1) where
       abbrev pub Closed : Type 2
-      Closed = (𝓤 : URA.URA M) (H : Wp.Heap 𝓤) (A : Atoms.Atoms 𝓤) (W : Kit.Given 𝓤 H A) (𝓣 : Wp.Tables 𝓤 H) (known0 : Plain.Known 𝓤 H A W 𝓣 0 ps·0 r·0 (claims· .0) (claims· .1) "dump::blanks::blank_entries") (known1 : Plain.Known 𝓤 H A W 𝓣 0 ps·1 r·1 (claims· .2) (claims· .3) "dump::blanks::blank_items") (known2 : Plain.Known 𝓤 H A W 𝓣 0 ps·2 r·2 (claims· .4) (claims· .5) "dump::blanks::blank_expectations") (known3 : Plain.Known 𝓤 H A W 𝓣 0 ps·3 r·3 (claims· .6) (claims· .7) "dump::blanks::blank_store") (known4 : Plain.Known 𝓤 H A W 𝓣 0 ps·4 r·4 (claims· .8) (claims· .9) "dump::dumps::at_most") (known5 : Plain.Known 𝓤 H A W 𝓣 6 ps·5 r·5 (claims· .10) (claims· .11) "dump::dumps::dump_into") → Statement.Triple 𝓤 (Wp.WpFn 𝓤 H (𝓣 .C) (𝓣 .Λ) (Function.fnOf 2 ps r xs m hs body)) (Function.plainOf 𝓤 H A 2 ps r Pre· Post·)
+      Closed = (𝓤 : URA.URA M) (H : Wp.Heap 𝓤) (A : Atoms.Atoms 𝓤) (W : Kit.Given 𝓤 H A) (𝓣 : Wp.Tables 𝓤 H) (known0 : Plain.Known 𝓤 H A W 𝓣 0 ps·0 r·0 (claims· .0) (claims· .1) "blanks::blank_entries") (known1 : Plain.Known 𝓤 H A W 𝓣 0 ps·1 r·1 (claims· .2) (claims· .3) "blanks::blank_items") (known2 : Plain.Known 𝓤 H A W 𝓣 0 ps·2 r·2 (claims· .4) (claims· .5) "blanks::blank_expectations") (known3 : Plain.Known 𝓤 H A W 𝓣 0 ps·3 r·3 (claims· .6) (claims· .7) "blanks::blank_store") (known4 : Plain.Known 𝓤 H A W 𝓣 0 ps·4 r·4 (claims· .8) (claims· .9) "dump::dumps::at_most") (known5 : Plain.Known 𝓤 H A W 𝓣 6 ps·5 r·5 (claims· .10) (claims· .11) "dump::dumps::dump_into") → Statement.Triple 𝓤 (Wp.WpFn 𝓤 H (𝓣 .C) (𝓣 .Λ) (Function.fnOf 2 ps r xs m hs body)) (Function.plainOf 𝓤 H A 2 ps r Pre· Post·)
 
     module _ where
       abbrev at0 : Typed.TF T63 O0
@@ -905,7 +905,7 @@ module _ (claims· : Claims) where
 
       module _ {M : Type 1} (𝓤 : URA.URA M) (H : Wp.Heap 𝓤) (A : Atoms.Atoms 𝓤) (W : Kit.Given 𝓤 H A) (𝓣 : Wp.Tables 𝓤 H) where
         abbrev Knowns : Type 1
-        Knowns = Plain.Known 𝓤 H A W 𝓣 0 ps·0 r·0 (claims· .0) (claims· .1) "dump::blanks::blank_entries" × Plain.Known 𝓤 H A W 𝓣 0 ps·1 r·1 (claims· .2) (claims· .3) "dump::blanks::blank_items" × Plain.Known 𝓤 H A W 𝓣 0 ps·2 r·2 (claims· .4) (claims· .5) "dump::blanks::blank_expectations" × Plain.Known 𝓤 H A W 𝓣 0 ps·3 r·3 (claims· .6) (claims· .7) "dump::blanks::blank_store" × Plain.Known 𝓤 H A W 𝓣 0 ps·4 r·4 (claims· .8) (claims· .9) "dump::dumps::at_most" × Plain.Known 𝓤 H A W 𝓣 6 ps·5 r·5 (claims· .10) (claims· .11) "dump::dumps::dump_into"
+        Knowns = Plain.Known 𝓤 H A W 𝓣 0 ps·0 r·0 (claims· .0) (claims· .1) "blanks::blank_entries" × Plain.Known 𝓤 H A W 𝓣 0 ps·1 r·1 (claims· .2) (claims· .3) "blanks::blank_items" × Plain.Known 𝓤 H A W 𝓣 0 ps·2 r·2 (claims· .4) (claims· .5) "blanks::blank_expectations" × Plain.Known 𝓤 H A W 𝓣 0 ps·3 r·3 (claims· .6) (claims· .7) "blanks::blank_store" × Plain.Known 𝓤 H A W 𝓣 0 ps·4 r·4 (claims· .8) (claims· .9) "dump::dumps::at_most" × Plain.Known 𝓤 H A W 𝓣 6 ps·5 r·5 (claims· .10) (claims· .11) "dump::dumps::dump_into"
 
       module _ (κs : Lifetimes.Lfts 2) (qs : Lifetimes.Shares 2) where
         abbrev g28 : List.List Row.Entry
@@ -1303,7 +1303,7 @@ module _ (claims· : Claims) where
           d50 = Typed.s-seq 𝓤 H A W 𝓣 E G13 G14 b7 b38 Δ0 (Typed.pass T13 T14 s12) at49 (LocalCopy.t-val-copy 𝓤 H A W E 𝓣 (λ ρ. Unit) G13 18 10 (DArray.Array (TReferent.rtF (TReferent.fInt Syntax.w8)) 32768) (Syntax.tyArray (Syntax.tyInt Syntax.w8) 32768) (Syntax.tyArray (Syntax.tyInt Syntax.w8) 32768) (ARows.arrF (TReferent.rtF (TReferent.fInt Syntax.w8)) 32768 0) (ARows.arrF (TReferent.rtF (TReferent.fInt Syntax.w8)) 32768 0) (λ x. x) (λ x. x) (λ x. x) Path'.refl (Own.told-none 𝓤 H A (G13 .slots)) (Yields.yields-copy 𝓤 H A W (λ ρ. Unit) (DArray.Array (TReferent.rtF (TReferent.fInt Syntax.w8)) 32768) Path'.refl (TCopies.cArr (TReferent.rtF (TReferent.fInt Syntax.w8)) (TCopies.cRf (TReferent.fInt Syntax.w8)) 32768 .copy 𝓤 H A W) (ARows.arrF (TReferent.rtF (TReferent.fInt Syntax.w8)) 32768 0) (λ x. x) (λ x. x) (λ ρ told. AWhole.mem-arr 𝓤 H A W (TReferent.rtF (TReferent.fInt Syntax.w8)) 32768 ρ) λ ρ told. AWhole.arr-mem 𝓤 H A W (TReferent.rtF (TReferent.fInt Syntax.w8)) 32768 tt ρ) (Reads.room-gone 𝓤 H A (Syntax.tyArray (Syntax.tyInt Syntax.w8) 32768)) (Yields.makes-mem 𝓤 H A W (λ ρ. Unit) (DArray.Array (TReferent.rtF (TReferent.fInt Syntax.w8)) 32768) Path'.refl (ARows.arrF (TReferent.rtF (TReferent.fInt Syntax.w8)) 32768 0) (λ x. x) λ ρ told. AWhole.arr-mem 𝓤 H A W (TReferent.rtF (TReferent.fInt Syntax.w8)) 32768 tt ρ) Path'.refl Path'.refl) d49
 
           d51 : Typed.Typed 𝓤 H A 𝓣 E G12 b40 Δ0 at51
-          d51 = Typed.s-seq 𝓤 H A W 𝓣 E G12 G13 b6 b39 Δ0 (Typed.both s11) at50 (Plain.t-call-plain 𝓤 H A W 𝓣 0 ps·3 r·3 (claims· .6) (claims· .7) "dump::blanks::blank_store" (known .3) E (λ pos β. β) G12 tt 18 List.[] (Call.sub-id 𝓤 H A W (G12 .slots)) tt (Reads.room-gone 𝓤 H A (Syntax.tyArray (Syntax.tyInt Syntax.w8) 32768)) tt Path'.refl) d50
+          d51 = Typed.s-seq 𝓤 H A W 𝓣 E G12 G13 b6 b39 Δ0 (Typed.both s11) at50 (Plain.t-call-plain 𝓤 H A W 𝓣 0 ps·3 r·3 (claims· .6) (claims· .7) "blanks::blank_store" (known .3) E (λ pos β. β) G12 tt 18 List.[] (Call.sub-id 𝓤 H A W (G12 .slots)) tt (Reads.room-gone 𝓤 H A (Syntax.tyArray (Syntax.tyInt Syntax.w8) 32768)) tt Path'.refl) d50
 
           d52 : Typed.Typed 𝓤 H A 𝓣 E G11 b40 Δ0 at52
           d52 = Typed.g-pre 𝓤 H A W 𝓣 E G11 G12 b40 Δ0 (Typed.pass T11 T12 s10) at51 (RScalar.g-room 𝓤 H A W E G11 17 (Syntax.tyArray ExpectationElem.ty 1024) (AInit.room-arr 𝓤 H A W ExpectationElem.R 1024 0 1024 Path'.refl)) d51
@@ -1312,7 +1312,7 @@ module _ (claims· : Claims) where
           d53 = Typed.s-seq 𝓤 H A W 𝓣 E G10 G11 b5 b40 Δ0 (Typed.pass T10 T11 s9) at52 (LocalCopy.t-val-copy 𝓤 H A W E 𝓣 (λ ρ. Unit) G10 17 9 (DArray.Array ExpectationElem.R 1024) (Syntax.tyArray ExpectationElem.ty 1024) (Syntax.tyArray ExpectationElem.ty 1024) (ARows.arrF ExpectationElem.R 1024 0) (ARows.arrF ExpectationElem.R 1024 0) (λ x. x) (λ x. x) (λ x. x) Path'.refl (Own.told-none 𝓤 H A (G10 .slots)) (Yields.yields-copy 𝓤 H A W (λ ρ. Unit) (DArray.Array ExpectationElem.R 1024) Path'.refl (TCopies.cArr ExpectationElem.R ExpectationElem.cp 1024 .copy 𝓤 H A W) (ARows.arrF ExpectationElem.R 1024 0) (λ x. x) (λ x. x) (λ ρ told. AWhole.mem-arr 𝓤 H A W ExpectationElem.R 1024 ρ) λ ρ told. AWhole.arr-mem 𝓤 H A W ExpectationElem.R 1024 tt ρ) (Reads.room-gone 𝓤 H A (Syntax.tyArray ExpectationElem.ty 1024)) (Yields.makes-mem 𝓤 H A W (λ ρ. Unit) (DArray.Array ExpectationElem.R 1024) Path'.refl (ARows.arrF ExpectationElem.R 1024 0) (λ x. x) λ ρ told. AWhole.arr-mem 𝓤 H A W ExpectationElem.R 1024 tt ρ) Path'.refl Path'.refl) d52
 
           d54 : Typed.Typed 𝓤 H A 𝓣 E G9 b42 Δ0 at54
-          d54 = Typed.s-seq 𝓤 H A W 𝓣 E G9 G10 b4 b41 Δ0 (Typed.both s8) at53 (Plain.t-call-plain 𝓤 H A W 𝓣 0 ps·2 r·2 (claims· .4) (claims· .5) "dump::blanks::blank_expectations" (known .2) E (λ pos β. β) G9 tt 17 List.[] (Call.sub-id 𝓤 H A W (G9 .slots)) tt (Reads.room-gone 𝓤 H A (Syntax.tyArray ExpectationElem.ty 1024)) tt Path'.refl) d53
+          d54 = Typed.s-seq 𝓤 H A W 𝓣 E G9 G10 b4 b41 Δ0 (Typed.both s8) at53 (Plain.t-call-plain 𝓤 H A W 𝓣 0 ps·2 r·2 (claims· .4) (claims· .5) "blanks::blank_expectations" (known .2) E (λ pos β. β) G9 tt 17 List.[] (Call.sub-id 𝓤 H A W (G9 .slots)) tt (Reads.room-gone 𝓤 H A (Syntax.tyArray ExpectationElem.ty 1024)) tt Path'.refl) d53
 
           d55 : Typed.Typed 𝓤 H A 𝓣 E G8 b42 Δ0 at55
           d55 = Typed.g-pre 𝓤 H A W 𝓣 E G8 G9 b42 Δ0 (Typed.pass T8 T9 s7) at54 (RScalar.g-room 𝓤 H A W E G8 16 (Syntax.tyArray (Syntax.tyArray (Syntax.tyInt Syntax.w64) 2) 1024) (AInit.room-arr 𝓤 H A W (DArray.Array (TReferent.rtF (TReferent.fInt Syntax.w64)) 2) 1024 0 1024 Path'.refl)) d54
@@ -1321,7 +1321,7 @@ module _ (claims· : Claims) where
           d56 = Typed.s-seq 𝓤 H A W 𝓣 E G7 G8 b3 b42 Δ0 (Typed.pass T7 T8 s6) at55 (LocalCopy.t-val-copy 𝓤 H A W E 𝓣 (λ ρ. Unit) G7 16 8 (DArray.Array (DArray.Array (TReferent.rtF (TReferent.fInt Syntax.w64)) 2) 1024) (Syntax.tyArray (Syntax.tyArray (Syntax.tyInt Syntax.w64) 2) 1024) (Syntax.tyArray (Syntax.tyArray (Syntax.tyInt Syntax.w64) 2) 1024) (ARows.arrF (DArray.Array (TReferent.rtF (TReferent.fInt Syntax.w64)) 2) 1024 0) (ARows.arrF (DArray.Array (TReferent.rtF (TReferent.fInt Syntax.w64)) 2) 1024 0) (λ x. x) (λ x. x) (λ x. x) Path'.refl (Own.told-none 𝓤 H A (G7 .slots)) (Yields.yields-copy 𝓤 H A W (λ ρ. Unit) (DArray.Array (DArray.Array (TReferent.rtF (TReferent.fInt Syntax.w64)) 2) 1024) Path'.refl (TCopies.cArr (DArray.Array (TReferent.rtF (TReferent.fInt Syntax.w64)) 2) (TCopies.cArr (TReferent.rtF (TReferent.fInt Syntax.w64)) (TCopies.cRf (TReferent.fInt Syntax.w64)) 2) 1024 .copy 𝓤 H A W) (ARows.arrF (DArray.Array (TReferent.rtF (TReferent.fInt Syntax.w64)) 2) 1024 0) (λ x. x) (λ x. x) (λ ρ told. AWhole.mem-arr 𝓤 H A W (DArray.Array (TReferent.rtF (TReferent.fInt Syntax.w64)) 2) 1024 ρ) λ ρ told. AWhole.arr-mem 𝓤 H A W (DArray.Array (TReferent.rtF (TReferent.fInt Syntax.w64)) 2) 1024 tt ρ) (Reads.room-gone 𝓤 H A (Syntax.tyArray (Syntax.tyArray (Syntax.tyInt Syntax.w64) 2) 1024)) (Yields.makes-mem 𝓤 H A W (λ ρ. Unit) (DArray.Array (DArray.Array (TReferent.rtF (TReferent.fInt Syntax.w64)) 2) 1024) Path'.refl (ARows.arrF (DArray.Array (TReferent.rtF (TReferent.fInt Syntax.w64)) 2) 1024 0) (λ x. x) λ ρ told. AWhole.arr-mem 𝓤 H A W (DArray.Array (TReferent.rtF (TReferent.fInt Syntax.w64)) 2) 1024 tt ρ) Path'.refl Path'.refl) d55
 
           d57 : Typed.Typed 𝓤 H A 𝓣 E G6 b44 Δ0 at57
-          d57 = Typed.s-seq 𝓤 H A W 𝓣 E G6 G7 b2 b43 Δ0 (Typed.both s5) at56 (Plain.t-call-plain 𝓤 H A W 𝓣 0 ps·1 r·1 (claims· .2) (claims· .3) "dump::blanks::blank_items" (known .1) E (λ pos β. β) G6 tt 16 List.[] (Call.sub-id 𝓤 H A W (G6 .slots)) tt (Reads.room-gone 𝓤 H A (Syntax.tyArray (Syntax.tyArray (Syntax.tyInt Syntax.w64) 2) 1024)) tt Path'.refl) d56
+          d57 = Typed.s-seq 𝓤 H A W 𝓣 E G6 G7 b2 b43 Δ0 (Typed.both s5) at56 (Plain.t-call-plain 𝓤 H A W 𝓣 0 ps·1 r·1 (claims· .2) (claims· .3) "blanks::blank_items" (known .1) E (λ pos β. β) G6 tt 16 List.[] (Call.sub-id 𝓤 H A W (G6 .slots)) tt (Reads.room-gone 𝓤 H A (Syntax.tyArray (Syntax.tyArray (Syntax.tyInt Syntax.w64) 2) 1024)) tt Path'.refl) d56
 
           d58 : Typed.Typed 𝓤 H A 𝓣 E G5 b44 Δ0 at58
           d58 = Typed.g-pre 𝓤 H A W 𝓣 E G5 G6 b44 Δ0 (Typed.pass T5 T6 s4) at57 (RScalar.g-room 𝓤 H A W E G5 15 (Syntax.tyArray EntryElem.ty 256) (AInit.room-arr 𝓤 H A W EntryElem.R 256 0 256 Path'.refl)) d57
@@ -1330,7 +1330,7 @@ module _ (claims· : Claims) where
           d59 = Typed.s-seq 𝓤 H A W 𝓣 E G4 G5 b1 b44 Δ0 (Typed.pass T4 T5 s3) at58 (LocalCopy.t-val-copy 𝓤 H A W E 𝓣 (λ ρ. Unit) G4 15 7 (DArray.Array EntryElem.R 256) (Syntax.tyArray EntryElem.ty 256) (Syntax.tyArray EntryElem.ty 256) (ARows.arrF EntryElem.R 256 0) (ARows.arrF EntryElem.R 256 0) (λ x. x) (λ x. x) (λ x. x) Path'.refl (Own.told-none 𝓤 H A (G4 .slots)) (Yields.yields-copy 𝓤 H A W (λ ρ. Unit) (DArray.Array EntryElem.R 256) Path'.refl (TCopies.cArr EntryElem.R EntryElem.cp 256 .copy 𝓤 H A W) (ARows.arrF EntryElem.R 256 0) (λ x. x) (λ x. x) (λ ρ told. AWhole.mem-arr 𝓤 H A W EntryElem.R 256 ρ) λ ρ told. AWhole.arr-mem 𝓤 H A W EntryElem.R 256 tt ρ) (Reads.room-gone 𝓤 H A (Syntax.tyArray EntryElem.ty 256)) (Yields.makes-mem 𝓤 H A W (λ ρ. Unit) (DArray.Array EntryElem.R 256) Path'.refl (ARows.arrF EntryElem.R 256 0) (λ x. x) λ ρ told. AWhole.arr-mem 𝓤 H A W EntryElem.R 256 tt ρ) Path'.refl Path'.refl) d58
 
           d60 : Typed.Typed 𝓤 H A 𝓣 E G3 b46 Δ0 at60
-          d60 = Typed.s-seq 𝓤 H A W 𝓣 E G3 G4 b0 b45 Δ0 (Typed.both s2) at59 (Plain.t-call-plain 𝓤 H A W 𝓣 0 ps·0 r·0 (claims· .0) (claims· .1) "dump::blanks::blank_entries" (known .0) E (λ pos β. β) G3 tt 15 List.[] (Call.sub-id 𝓤 H A W (G3 .slots)) tt (Reads.room-gone 𝓤 H A (Syntax.tyArray EntryElem.ty 256)) tt Path'.refl) d59
+          d60 = Typed.s-seq 𝓤 H A W 𝓣 E G3 G4 b0 b45 Δ0 (Typed.both s2) at59 (Plain.t-call-plain 𝓤 H A W 𝓣 0 ps·0 r·0 (claims· .0) (claims· .1) "blanks::blank_entries" (known .0) E (λ pos β. β) G3 tt 15 List.[] (Call.sub-id 𝓤 H A W (G3 .slots)) tt (Reads.room-gone 𝓤 H A (Syntax.tyArray EntryElem.ty 256)) tt Path'.refl) d59
 
           d61 : Typed.Typed 𝓤 H A 𝓣 E G2 b46 Δ0 at61
           d61 = Typed.g-pre 𝓤 H A W 𝓣 E G2 G3 b46 Δ0 (Typed.give s1) at60 (Know.g-sl-known 𝓤 H A W (TReferent.fInt Syntax.w8) E G2 6 1 (Syntax.tyRef (Syntax.named 1) Syntax.mut (Syntax.tyInt Syntax.w8)) (Row.lease (κs .1 .0) (qs .1 .0)) 0 (λ x. x) record { fits = Dec'.lit< tt } (Reads.as-is 𝓤 H A (Mut.mslice (TReferent.rtF (TReferent.fInt Syntax.w8)) (Syntax.tyRef (Syntax.named 1) Syntax.mut (Syntax.tyInt Syntax.w8)) 1)) Path'.refl tt) d60
@@ -1809,6 +1809,6 @@ module _ (claims· : Claims) where
           pub asked : (a : Kinds.Dens κs ps) → (good : Kinds.GoodsP κs ps a) → (pre : Pre· κs a) → (bs : List.List Nat.ℕ) → Φ (Any.wantQ 2 ps r xs m κs qs a (Post· κs a)) (Function.init 2 ps r xs m κs qs a)
           asked = λ a good pre bs. laid record { κs = κs; args = record { text = a .0; entries = a .1 .0; items = a .1 .1 .0; expectations = a .1 .1 .1 .0; store = a .1 .1 .1 .1 .0; out = a .1 .1 .1 .1 .1 .0 }; good = good; fits = record { entries = record { fits = good .1 .0 .1 }; items = record { fits = good .1 .1 .0 .1 }; expectations = record { fits = good .1 .1 .1 .0 .1 }; store = record { fits = good .1 .1 .1 .1 .0 .1 } }; pre = pre }
 
-        module _ {M : Type 1} (𝓤 : URA.URA M) (H : Wp.Heap 𝓤) (A : Atoms.Atoms 𝓤) (W : Kit.Given 𝓤 H A) (𝓣 : Wp.Tables 𝓤 H) (known0 : Plain.Known 𝓤 H A W 𝓣 0 ps·0 r·0 (claims· .0) (claims· .1) "dump::blanks::blank_entries") (known1 : Plain.Known 𝓤 H A W 𝓣 0 ps·1 r·1 (claims· .2) (claims· .3) "dump::blanks::blank_items") (known2 : Plain.Known 𝓤 H A W 𝓣 0 ps·2 r·2 (claims· .4) (claims· .5) "dump::blanks::blank_expectations") (known3 : Plain.Known 𝓤 H A W 𝓣 0 ps·3 r·3 (claims· .6) (claims· .7) "dump::blanks::blank_store") (known4 : Plain.Known 𝓤 H A W 𝓣 0 ps·4 r·4 (claims· .8) (claims· .9) "dump::dumps::at_most") (known5 : Plain.Known 𝓤 H A W 𝓣 6 ps·5 r·5 (claims· .10) (claims· .11) "dump::dumps::dump_into") where
+        module _ {M : Type 1} (𝓤 : URA.URA M) (H : Wp.Heap 𝓤) (A : Atoms.Atoms 𝓤) (W : Kit.Given 𝓤 H A) (𝓣 : Wp.Tables 𝓤 H) (known0 : Plain.Known 𝓤 H A W 𝓣 0 ps·0 r·0 (claims· .0) (claims· .1) "blanks::blank_entries") (known1 : Plain.Known 𝓤 H A W 𝓣 0 ps·1 r·1 (claims· .2) (claims· .3) "blanks::blank_items") (known2 : Plain.Known 𝓤 H A W 𝓣 0 ps·2 r·2 (claims· .4) (claims· .5) "blanks::blank_expectations") (known3 : Plain.Known 𝓤 H A W 𝓣 0 ps·3 r·3 (claims· .6) (claims· .7) "blanks::blank_store") (known4 : Plain.Known 𝓤 H A W 𝓣 0 ps·4 r·4 (claims· .8) (claims· .9) "dump::dumps::at_most") (known5 : Plain.Known 𝓤 H A W 𝓣 6 ps·5 r·5 (claims· .10) (claims· .11) "dump::dumps::dump_into") where
           pub spec : Statement.Triple 𝓤 (Wp.WpFn 𝓤 H (𝓣 .C) (𝓣 .Λ) (Function.fnOf 2 ps r xs m hs body)) (Function.plainOf 𝓤 H A 2 ps r Pre· Post·)
           spec = Plain.t-fn-plain 𝓤 H A W 𝓣 2 ps r xs m hs body (λ κs qs bs. Φ) (λ κs qs bs bd. typed κs qs 𝓤 H A W 𝓣 (known0, known1, known2, known3, known4, known5) bs bd) Pre· Post· asked

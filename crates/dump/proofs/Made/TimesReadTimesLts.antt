@@ -124,25 +124,25 @@ abbrev pub hs : List.List Syntax.Home
 hs = List._∷_ Syntax.valueLocal (List._∷_ Syntax.valueLocal (List._∷_ Syntax.valueLocal (List._∷_ Syntax.memorySlot (List._∷_ Syntax.memorySlot (List._∷_ Syntax.memorySlot (List._∷_ Syntax.memorySlot (List._∷_ Syntax.valueLocal (List._∷_ Syntax.valueLocal (List._∷_ Syntax.valueLocal (List._∷_ Syntax.valueLocal (List._∷_ Syntax.valueLocal (List._∷_ Syntax.valueLocal (List._∷_ Syntax.valueLocal (List._∷_ Syntax.valueLocal (List._∷_ Syntax.valueLocal (List._∷_ Syntax.valueLocal (List._∷_ Syntax.valueLocal (List._∷_ Syntax.valueLocal (List._∷_ Syntax.valueLocal (List._∷_ Syntax.valueLocal (List._∷_ Syntax.valueLocal (List._∷_ Syntax.valueLocal List.[]))))))))))))))))))))))
 
 abbrev b0 : Syntax.Body
-b0 = Syntax.call "dump::blanks::many_entries" List.[] (Syntax.place 10 List.[])
+b0 = Syntax.call "blanks::many_entries" List.[] (Syntax.place 10 List.[])
 
 abbrev b1 : Syntax.Body
 b1 = Syntax.assign (Syntax.place 3 List.[]) (Syntax.rvOpd (Syntax.copy (Syntax.place 10 List.[])))
 
 abbrev b2 : Syntax.Body
-b2 = Syntax.call "dump::blanks::many_items" List.[] (Syntax.place 11 List.[])
+b2 = Syntax.call "blanks::many_items" List.[] (Syntax.place 11 List.[])
 
 abbrev b3 : Syntax.Body
 b3 = Syntax.assign (Syntax.place 4 List.[]) (Syntax.rvOpd (Syntax.copy (Syntax.place 11 List.[])))
 
 abbrev b4 : Syntax.Body
-b4 = Syntax.call "dump::blanks::many_expectations" List.[] (Syntax.place 12 List.[])
+b4 = Syntax.call "blanks::many_expectations" List.[] (Syntax.place 12 List.[])
 
 abbrev b5 : Syntax.Body
 b5 = Syntax.assign (Syntax.place 5 List.[]) (Syntax.rvOpd (Syntax.copy (Syntax.place 12 List.[])))
 
 abbrev b6 : Syntax.Body
-b6 = Syntax.call "dump::blanks::blank_store" List.[] (Syntax.place 13 List.[])
+b6 = Syntax.call "blanks::blank_store" List.[] (Syntax.place 13 List.[])
 
 abbrev b7 : Syntax.Body
 b7 = Syntax.assign (Syntax.place 6 List.[]) (Syntax.rvOpd (Syntax.copy (Syntax.place 13 List.[])))
@@ -733,7 +733,7 @@ module _ (claims· : Claims) where
   module _ (Pre· : (κs : Lifetimes.Lfts 1) → Kinds.Dens κs ps → Type 0) (Post· : (κs : Lifetimes.Lfts 1) → (a : Kinds.Dens κs ps) → Kinds.Plain 1 ps r κs) where
     module _ (M : Type 1) where
       abbrev pub Closed : Type 2
-      Closed = (𝓤 : URA.URA M) (H : Wp.Heap 𝓤) (A : Atoms.Atoms 𝓤) (W : Kit.Given 𝓤 H A) (𝓣 : Wp.Tables 𝓤 H) (known0 : Plain.Known 𝓤 H A W 𝓣 0 ps·0 r·0 (claims· .0) (claims· .1) "dump::blanks::many_entries") (known1 : Plain.Known 𝓤 H A W 𝓣 0 ps·1 r·1 (claims· .2) (claims· .3) "dump::blanks::many_items") (known2 : Plain.Known 𝓤 H A W 𝓣 0 ps·2 r·2 (claims· .4) (claims· .5) "dump::blanks::many_expectations") (known3 : Plain.Known 𝓤 H A W 𝓣 0 ps·3 r·3 (claims· .6) (claims· .7) "dump::blanks::blank_store") (known4 : Plain.Known 𝓤 H A W 𝓣 5 ps·4 r·4 (claims· .8) (claims· .9) "read::reading::read") (known5 : Plain.Known 𝓤 H A W 𝓣 0 ps·5 r·5 (claims· .10) (claims· .11) "dump::times::number_of") → Statement.Triple 𝓤 (Wp.WpFn 𝓤 H (𝓣 .C) (𝓣 .Λ) (Function.fnOf 1 ps r xs m hs body)) (Function.plainOf 𝓤 H A 1 ps r Pre· Post·)
+      Closed = (𝓤 : URA.URA M) (H : Wp.Heap 𝓤) (A : Atoms.Atoms 𝓤) (W : Kit.Given 𝓤 H A) (𝓣 : Wp.Tables 𝓤 H) (known0 : Plain.Known 𝓤 H A W 𝓣 0 ps·0 r·0 (claims· .0) (claims· .1) "blanks::many_entries") (known1 : Plain.Known 𝓤 H A W 𝓣 0 ps·1 r·1 (claims· .2) (claims· .3) "blanks::many_items") (known2 : Plain.Known 𝓤 H A W 𝓣 0 ps·2 r·2 (claims· .4) (claims· .5) "blanks::many_expectations") (known3 : Plain.Known 𝓤 H A W 𝓣 0 ps·3 r·3 (claims· .6) (claims· .7) "blanks::blank_store") (known4 : Plain.Known 𝓤 H A W 𝓣 5 ps·4 r·4 (claims· .8) (claims· .9) "read::reading::read") (known5 : Plain.Known 𝓤 H A W 𝓣 0 ps·5 r·5 (claims· .10) (claims· .11) "dump::times::number_of") → Statement.Triple 𝓤 (Wp.WpFn 𝓤 H (𝓣 .C) (𝓣 .Λ) (Function.fnOf 1 ps r xs m hs body)) (Function.plainOf 𝓤 H A 1 ps r Pre· Post·)
 
     module _ (Inv·0 : InvT-loop) (μ·0 : MeasureT-loop) where
       abbrev at0 : (bs : List.List Nat.ℕ) → Typed.TF T21 O4
@@ -930,7 +930,7 @@ module _ (claims· : Claims) where
 
       module _ {M : Type 1} (𝓤 : URA.URA M) (H : Wp.Heap 𝓤) (A : Atoms.Atoms 𝓤) (W : Kit.Given 𝓤 H A) (𝓣 : Wp.Tables 𝓤 H) where
         abbrev Knowns : Type 1
-        Knowns = Plain.Known 𝓤 H A W 𝓣 0 ps·0 r·0 (claims· .0) (claims· .1) "dump::blanks::many_entries" × Plain.Known 𝓤 H A W 𝓣 0 ps·1 r·1 (claims· .2) (claims· .3) "dump::blanks::many_items" × Plain.Known 𝓤 H A W 𝓣 0 ps·2 r·2 (claims· .4) (claims· .5) "dump::blanks::many_expectations" × Plain.Known 𝓤 H A W 𝓣 0 ps·3 r·3 (claims· .6) (claims· .7) "dump::blanks::blank_store" × Plain.Known 𝓤 H A W 𝓣 5 ps·4 r·4 (claims· .8) (claims· .9) "read::reading::read" × Plain.Known 𝓤 H A W 𝓣 0 ps·5 r·5 (claims· .10) (claims· .11) "dump::times::number_of"
+        Knowns = Plain.Known 𝓤 H A W 𝓣 0 ps·0 r·0 (claims· .0) (claims· .1) "blanks::many_entries" × Plain.Known 𝓤 H A W 𝓣 0 ps·1 r·1 (claims· .2) (claims· .3) "blanks::many_items" × Plain.Known 𝓤 H A W 𝓣 0 ps·2 r·2 (claims· .4) (claims· .5) "blanks::many_expectations" × Plain.Known 𝓤 H A W 𝓣 0 ps·3 r·3 (claims· .6) (claims· .7) "blanks::blank_store" × Plain.Known 𝓤 H A W 𝓣 5 ps·4 r·4 (claims· .8) (claims· .9) "read::reading::read" × Plain.Known 𝓤 H A W 𝓣 0 ps·5 r·5 (claims· .10) (claims· .11) "dump::times::number_of"
 
       module _ (κs : Lifetimes.Lfts 1) (qs : Lifetimes.Shares 1) where
         abbrev G0 : Row.Cx
@@ -1286,7 +1286,7 @@ module _ (claims· : Claims) where
           d51 = Typed.s-seq 𝓤 H A W 𝓣 E G12 G13 b7 b44 Δ0 (Typed.pass T12 T13 (s11 bs)) (at50 bs) (LocalCopy.t-val-copy 𝓤 H A W E 𝓣 (λ ρ. Unit) G12 13 6 (DArray.Array (TReferent.rtF (TReferent.fInt Syntax.w8)) 32768) (Syntax.tyArray (Syntax.tyInt Syntax.w8) 32768) (Syntax.tyArray (Syntax.tyInt Syntax.w8) 32768) (ARows.arrF (TReferent.rtF (TReferent.fInt Syntax.w8)) 32768 0) (ARows.arrF (TReferent.rtF (TReferent.fInt Syntax.w8)) 32768 0) (λ x. x) (λ x. x) (λ x. x) Path'.refl (Own.told-none 𝓤 H A (G12 .slots)) (Yields.yields-copy 𝓤 H A W (λ ρ. Unit) (DArray.Array (TReferent.rtF (TReferent.fInt Syntax.w8)) 32768) Path'.refl (TCopies.cArr (TReferent.rtF (TReferent.fInt Syntax.w8)) (TCopies.cRf (TReferent.fInt Syntax.w8)) 32768 .copy 𝓤 H A W) (ARows.arrF (TReferent.rtF (TReferent.fInt Syntax.w8)) 32768 0) (λ x. x) (λ x. x) (λ ρ told. AWhole.mem-arr 𝓤 H A W (TReferent.rtF (TReferent.fInt Syntax.w8)) 32768 ρ) λ ρ told. AWhole.arr-mem 𝓤 H A W (TReferent.rtF (TReferent.fInt Syntax.w8)) 32768 tt ρ) (Reads.room-gone 𝓤 H A (Syntax.tyArray (Syntax.tyInt Syntax.w8) 32768)) (Yields.makes-mem 𝓤 H A W (λ ρ. Unit) (DArray.Array (TReferent.rtF (TReferent.fInt Syntax.w8)) 32768) Path'.refl (ARows.arrF (TReferent.rtF (TReferent.fInt Syntax.w8)) 32768 0) (λ x. x) λ ρ told. AWhole.arr-mem 𝓤 H A W (TReferent.rtF (TReferent.fInt Syntax.w8)) 32768 tt ρ) Path'.refl Path'.refl) d50
 
           d52 : Typed.Typed 𝓤 H A 𝓣 E G11 b46 Δ0 (at52 bs)
-          d52 = Typed.s-seq 𝓤 H A W 𝓣 E G11 G12 b6 b45 Δ0 (Typed.both (s10 bs)) (at51 bs) (Plain.t-call-plain 𝓤 H A W 𝓣 0 ps·3 r·3 (claims· .6) (claims· .7) "dump::blanks::blank_store" (known .3) E (λ pos β. β) G11 tt 13 List.[] (Call.sub-id 𝓤 H A W (G11 .slots)) tt (Reads.room-gone 𝓤 H A (Syntax.tyArray (Syntax.tyInt Syntax.w8) 32768)) tt Path'.refl) d51
+          d52 = Typed.s-seq 𝓤 H A W 𝓣 E G11 G12 b6 b45 Δ0 (Typed.both (s10 bs)) (at51 bs) (Plain.t-call-plain 𝓤 H A W 𝓣 0 ps·3 r·3 (claims· .6) (claims· .7) "blanks::blank_store" (known .3) E (λ pos β. β) G11 tt 13 List.[] (Call.sub-id 𝓤 H A W (G11 .slots)) tt (Reads.room-gone 𝓤 H A (Syntax.tyArray (Syntax.tyInt Syntax.w8) 32768)) tt Path'.refl) d51
 
           d53 : Typed.Typed 𝓤 H A 𝓣 E G10 b46 Δ0 (at53 bs)
           d53 = Typed.g-pre 𝓤 H A W 𝓣 E G10 G11 b46 Δ0 (Typed.pass T10 T11 (s9 bs)) (at52 bs) (RScalar.g-room 𝓤 H A W E G10 12 (Syntax.tyArray ExpectationElem.ty 4096) (AInit.room-arr 𝓤 H A W ExpectationElem.R 4096 0 4096 Path'.refl)) d52
@@ -1295,7 +1295,7 @@ module _ (claims· : Claims) where
           d54 = Typed.s-seq 𝓤 H A W 𝓣 E G9 G10 b5 b46 Δ0 (Typed.pass T9 T10 (s8 bs)) (at53 bs) (LocalCopy.t-val-copy 𝓤 H A W E 𝓣 (λ ρ. Unit) G9 12 5 (DArray.Array ExpectationElem.R 4096) (Syntax.tyArray ExpectationElem.ty 4096) (Syntax.tyArray ExpectationElem.ty 4096) (ARows.arrF ExpectationElem.R 4096 0) (ARows.arrF ExpectationElem.R 4096 0) (λ x. x) (λ x. x) (λ x. x) Path'.refl (Own.told-none 𝓤 H A (G9 .slots)) (Yields.yields-copy 𝓤 H A W (λ ρ. Unit) (DArray.Array ExpectationElem.R 4096) Path'.refl (TCopies.cArr ExpectationElem.R ExpectationElem.cp 4096 .copy 𝓤 H A W) (ARows.arrF ExpectationElem.R 4096 0) (λ x. x) (λ x. x) (λ ρ told. AWhole.mem-arr 𝓤 H A W ExpectationElem.R 4096 ρ) λ ρ told. AWhole.arr-mem 𝓤 H A W ExpectationElem.R 4096 tt ρ) (Reads.room-gone 𝓤 H A (Syntax.tyArray ExpectationElem.ty 4096)) (Yields.makes-mem 𝓤 H A W (λ ρ. Unit) (DArray.Array ExpectationElem.R 4096) Path'.refl (ARows.arrF ExpectationElem.R 4096 0) (λ x. x) λ ρ told. AWhole.arr-mem 𝓤 H A W ExpectationElem.R 4096 tt ρ) Path'.refl Path'.refl) d53
 
           d55 : Typed.Typed 𝓤 H A 𝓣 E G8 b48 Δ0 (at55 bs)
-          d55 = Typed.s-seq 𝓤 H A W 𝓣 E G8 G9 b4 b47 Δ0 (Typed.both (s7 bs)) (at54 bs) (Plain.t-call-plain 𝓤 H A W 𝓣 0 ps·2 r·2 (claims· .4) (claims· .5) "dump::blanks::many_expectations" (known .2) E (λ pos β. β) G8 tt 12 List.[] (Call.sub-id 𝓤 H A W (G8 .slots)) tt (Reads.room-gone 𝓤 H A (Syntax.tyArray ExpectationElem.ty 4096)) tt Path'.refl) d54
+          d55 = Typed.s-seq 𝓤 H A W 𝓣 E G8 G9 b4 b47 Δ0 (Typed.both (s7 bs)) (at54 bs) (Plain.t-call-plain 𝓤 H A W 𝓣 0 ps·2 r·2 (claims· .4) (claims· .5) "blanks::many_expectations" (known .2) E (λ pos β. β) G8 tt 12 List.[] (Call.sub-id 𝓤 H A W (G8 .slots)) tt (Reads.room-gone 𝓤 H A (Syntax.tyArray ExpectationElem.ty 4096)) tt Path'.refl) d54
 
           d56 : Typed.Typed 𝓤 H A 𝓣 E G7 b48 Δ0 (at56 bs)
           d56 = Typed.g-pre 𝓤 H A W 𝓣 E G7 G8 b48 Δ0 (Typed.pass T7 T8 (s6 bs)) (at55 bs) (RScalar.g-room 𝓤 H A W E G7 11 (Syntax.tyArray (Syntax.tyArray (Syntax.tyInt Syntax.w64) 2) 16384) (AInit.room-arr 𝓤 H A W (DArray.Array (TReferent.rtF (TReferent.fInt Syntax.w64)) 2) 16384 0 16384 Path'.refl)) d55
@@ -1304,7 +1304,7 @@ module _ (claims· : Claims) where
           d57 = Typed.s-seq 𝓤 H A W 𝓣 E G6 G7 b3 b48 Δ0 (Typed.pass T6 T7 (s5 bs)) (at56 bs) (LocalCopy.t-val-copy 𝓤 H A W E 𝓣 (λ ρ. Unit) G6 11 4 (DArray.Array (DArray.Array (TReferent.rtF (TReferent.fInt Syntax.w64)) 2) 16384) (Syntax.tyArray (Syntax.tyArray (Syntax.tyInt Syntax.w64) 2) 16384) (Syntax.tyArray (Syntax.tyArray (Syntax.tyInt Syntax.w64) 2) 16384) (ARows.arrF (DArray.Array (TReferent.rtF (TReferent.fInt Syntax.w64)) 2) 16384 0) (ARows.arrF (DArray.Array (TReferent.rtF (TReferent.fInt Syntax.w64)) 2) 16384 0) (λ x. x) (λ x. x) (λ x. x) Path'.refl (Own.told-none 𝓤 H A (G6 .slots)) (Yields.yields-copy 𝓤 H A W (λ ρ. Unit) (DArray.Array (DArray.Array (TReferent.rtF (TReferent.fInt Syntax.w64)) 2) 16384) Path'.refl (TCopies.cArr (DArray.Array (TReferent.rtF (TReferent.fInt Syntax.w64)) 2) (TCopies.cArr (TReferent.rtF (TReferent.fInt Syntax.w64)) (TCopies.cRf (TReferent.fInt Syntax.w64)) 2) 16384 .copy 𝓤 H A W) (ARows.arrF (DArray.Array (TReferent.rtF (TReferent.fInt Syntax.w64)) 2) 16384 0) (λ x. x) (λ x. x) (λ ρ told. AWhole.mem-arr 𝓤 H A W (DArray.Array (TReferent.rtF (TReferent.fInt Syntax.w64)) 2) 16384 ρ) λ ρ told. AWhole.arr-mem 𝓤 H A W (DArray.Array (TReferent.rtF (TReferent.fInt Syntax.w64)) 2) 16384 tt ρ) (Reads.room-gone 𝓤 H A (Syntax.tyArray (Syntax.tyArray (Syntax.tyInt Syntax.w64) 2) 16384)) (Yields.makes-mem 𝓤 H A W (λ ρ. Unit) (DArray.Array (DArray.Array (TReferent.rtF (TReferent.fInt Syntax.w64)) 2) 16384) Path'.refl (ARows.arrF (DArray.Array (TReferent.rtF (TReferent.fInt Syntax.w64)) 2) 16384 0) (λ x. x) λ ρ told. AWhole.arr-mem 𝓤 H A W (DArray.Array (TReferent.rtF (TReferent.fInt Syntax.w64)) 2) 16384 tt ρ) Path'.refl Path'.refl) d56
 
           d58 : Typed.Typed 𝓤 H A 𝓣 E G5 b50 Δ0 (at58 bs)
-          d58 = Typed.s-seq 𝓤 H A W 𝓣 E G5 G6 b2 b49 Δ0 (Typed.both (s4 bs)) (at57 bs) (Plain.t-call-plain 𝓤 H A W 𝓣 0 ps·1 r·1 (claims· .2) (claims· .3) "dump::blanks::many_items" (known .1) E (λ pos β. β) G5 tt 11 List.[] (Call.sub-id 𝓤 H A W (G5 .slots)) tt (Reads.room-gone 𝓤 H A (Syntax.tyArray (Syntax.tyArray (Syntax.tyInt Syntax.w64) 2) 16384)) tt Path'.refl) d57
+          d58 = Typed.s-seq 𝓤 H A W 𝓣 E G5 G6 b2 b49 Δ0 (Typed.both (s4 bs)) (at57 bs) (Plain.t-call-plain 𝓤 H A W 𝓣 0 ps·1 r·1 (claims· .2) (claims· .3) "blanks::many_items" (known .1) E (λ pos β. β) G5 tt 11 List.[] (Call.sub-id 𝓤 H A W (G5 .slots)) tt (Reads.room-gone 𝓤 H A (Syntax.tyArray (Syntax.tyArray (Syntax.tyInt Syntax.w64) 2) 16384)) tt Path'.refl) d57
 
           d59 : Typed.Typed 𝓤 H A 𝓣 E G4 b50 Δ0 (at59 bs)
           d59 = Typed.g-pre 𝓤 H A W 𝓣 E G4 G5 b50 Δ0 (Typed.pass T4 T5 (s3 bs)) (at58 bs) (RScalar.g-room 𝓤 H A W E G4 10 (Syntax.tyArray EntryElem.ty 4096) (AInit.room-arr 𝓤 H A W EntryElem.R 4096 0 4096 Path'.refl)) d58
@@ -1313,7 +1313,7 @@ module _ (claims· : Claims) where
           d60 = Typed.s-seq 𝓤 H A W 𝓣 E G3 G4 b1 b50 Δ0 (Typed.pass T3 T4 (s2 bs)) (at59 bs) (LocalCopy.t-val-copy 𝓤 H A W E 𝓣 (λ ρ. Unit) G3 10 3 (DArray.Array EntryElem.R 4096) (Syntax.tyArray EntryElem.ty 4096) (Syntax.tyArray EntryElem.ty 4096) (ARows.arrF EntryElem.R 4096 0) (ARows.arrF EntryElem.R 4096 0) (λ x. x) (λ x. x) (λ x. x) Path'.refl (Own.told-none 𝓤 H A (G3 .slots)) (Yields.yields-copy 𝓤 H A W (λ ρ. Unit) (DArray.Array EntryElem.R 4096) Path'.refl (TCopies.cArr EntryElem.R EntryElem.cp 4096 .copy 𝓤 H A W) (ARows.arrF EntryElem.R 4096 0) (λ x. x) (λ x. x) (λ ρ told. AWhole.mem-arr 𝓤 H A W EntryElem.R 4096 ρ) λ ρ told. AWhole.arr-mem 𝓤 H A W EntryElem.R 4096 tt ρ) (Reads.room-gone 𝓤 H A (Syntax.tyArray EntryElem.ty 4096)) (Yields.makes-mem 𝓤 H A W (λ ρ. Unit) (DArray.Array EntryElem.R 4096) Path'.refl (ARows.arrF EntryElem.R 4096 0) (λ x. x) λ ρ told. AWhole.arr-mem 𝓤 H A W EntryElem.R 4096 tt ρ) Path'.refl Path'.refl) d59
 
           d61 : Typed.Typed 𝓤 H A 𝓣 E G2 b52 Δ0 (at61 bs)
-          d61 = Typed.s-seq 𝓤 H A W 𝓣 E G2 G3 b0 b51 Δ0 (Typed.both (s1 bs)) (at60 bs) (Plain.t-call-plain 𝓤 H A W 𝓣 0 ps·0 r·0 (claims· .0) (claims· .1) "dump::blanks::many_entries" (known .0) E (λ pos β. β) G2 tt 10 List.[] (Call.sub-id 𝓤 H A W (G2 .slots)) tt (Reads.room-gone 𝓤 H A (Syntax.tyArray EntryElem.ty 4096)) tt Path'.refl) d60
+          d61 = Typed.s-seq 𝓤 H A W 𝓣 E G2 G3 b0 b51 Δ0 (Typed.both (s1 bs)) (at60 bs) (Plain.t-call-plain 𝓤 H A W 𝓣 0 ps·0 r·0 (claims· .0) (claims· .1) "blanks::many_entries" (known .0) E (λ pos β. β) G2 tt 10 List.[] (Call.sub-id 𝓤 H A W (G2 .slots)) tt (Reads.room-gone 𝓤 H A (Syntax.tyArray EntryElem.ty 4096)) tt Path'.refl) d60
 
           d62 : Typed.Typed 𝓤 H A 𝓣 E G0 b52 Δ0 (at62 bs)
           d62 = Typed.g-pre 𝓤 H A W 𝓣 E G0 G2 b52 Δ0 (Typed.give (s0 bs)) (at61 bs) (Know.g-shs-known 𝓤 H A W (TReferent.fInt Syntax.w8) E G0 1 0 (Syntax.tyRef (Syntax.named 0) Syntax.imm (Syntax.tyInt Syntax.w8)) (Row.lease (κs .0) (qs .0)) 0 (λ x. x) record { fits = Dec'.lit< tt } (Reads.as-is 𝓤 H A (Rows'.sslice (TReferent.rtF (TReferent.fInt Syntax.w8)) (Syntax.tyRef (Syntax.named 0) Syntax.imm (Syntax.tyInt Syntax.w8)) 0)) Path'.refl tt) d61
@@ -1742,6 +1742,6 @@ module _ (claims· : Claims) where
           pub asked : (a : Kinds.Dens κs ps) → (good : Kinds.GoodsP κs ps a) → (pre : Pre· κs a) → (bs : List.List Nat.ℕ) → Φ bs (Any.wantQ 1 ps r xs m κs qs a (Post· κs a)) (Function.init 1 ps r xs m κs qs a)
           asked = λ a good pre bs. laid record { κs = κs; args = record { text = a .0; times = a .1 .0 }; blocks = bs; good = good; fits = record { times = record { fits = good .1 .0 .1 } }; pre = pre }
 
-        module _ {M : Type 1} (𝓤 : URA.URA M) (H : Wp.Heap 𝓤) (A : Atoms.Atoms 𝓤) (W : Kit.Given 𝓤 H A) (𝓣 : Wp.Tables 𝓤 H) (known0 : Plain.Known 𝓤 H A W 𝓣 0 ps·0 r·0 (claims· .0) (claims· .1) "dump::blanks::many_entries") (known1 : Plain.Known 𝓤 H A W 𝓣 0 ps·1 r·1 (claims· .2) (claims· .3) "dump::blanks::many_items") (known2 : Plain.Known 𝓤 H A W 𝓣 0 ps·2 r·2 (claims· .4) (claims· .5) "dump::blanks::many_expectations") (known3 : Plain.Known 𝓤 H A W 𝓣 0 ps·3 r·3 (claims· .6) (claims· .7) "dump::blanks::blank_store") (known4 : Plain.Known 𝓤 H A W 𝓣 5 ps·4 r·4 (claims· .8) (claims· .9) "read::reading::read") (known5 : Plain.Known 𝓤 H A W 𝓣 0 ps·5 r·5 (claims· .10) (claims· .11) "dump::times::number_of") where
+        module _ {M : Type 1} (𝓤 : URA.URA M) (H : Wp.Heap 𝓤) (A : Atoms.Atoms 𝓤) (W : Kit.Given 𝓤 H A) (𝓣 : Wp.Tables 𝓤 H) (known0 : Plain.Known 𝓤 H A W 𝓣 0 ps·0 r·0 (claims· .0) (claims· .1) "blanks::many_entries") (known1 : Plain.Known 𝓤 H A W 𝓣 0 ps·1 r·1 (claims· .2) (claims· .3) "blanks::many_items") (known2 : Plain.Known 𝓤 H A W 𝓣 0 ps·2 r·2 (claims· .4) (claims· .5) "blanks::many_expectations") (known3 : Plain.Known 𝓤 H A W 𝓣 0 ps·3 r·3 (claims· .6) (claims· .7) "blanks::blank_store") (known4 : Plain.Known 𝓤 H A W 𝓣 5 ps·4 r·4 (claims· .8) (claims· .9) "read::reading::read") (known5 : Plain.Known 𝓤 H A W 𝓣 0 ps·5 r·5 (claims· .10) (claims· .11) "dump::times::number_of") where
           pub spec : Statement.Triple 𝓤 (Wp.WpFn 𝓤 H (𝓣 .C) (𝓣 .Λ) (Function.fnOf 1 ps r xs m hs body)) (Function.plainOf 𝓤 H A 1 ps r Pre· Post·)
           spec = Plain.t-fn-plain 𝓤 H A W 𝓣 1 ps r xs m hs body (λ κs qs bs. Φ bs) (λ κs qs bs bd. typed κs qs 𝓤 H A W 𝓣 (known0, known1, known2, known3, known4, known5) bs bd) Pre· Post· asked

@@ -118,25 +118,25 @@ abbrev pub hs : List.List Syntax.Home
 hs = List._∷_ Syntax.valueLocal (List._∷_ Syntax.valueLocal (List._∷_ Syntax.valueLocal (List._∷_ Syntax.valueLocal (List._∷_ Syntax.valueLocal (List._∷_ Syntax.valueLocal (List._∷_ Syntax.valueLocal (List._∷_ Syntax.valueLocal (List._∷_ Syntax.memorySlot (List._∷_ Syntax.memorySlot (List._∷_ Syntax.memorySlot (List._∷_ Syntax.memorySlot (List._∷_ Syntax.valueLocal (List._∷_ Syntax.valueLocal (List._∷_ Syntax.valueLocal (List._∷_ Syntax.valueLocal (List._∷_ Syntax.valueLocal (List._∷_ Syntax.valueLocal (List._∷_ Syntax.valueLocal (List._∷_ Syntax.valueLocal (List._∷_ Syntax.valueLocal (List._∷_ Syntax.valueLocal (List._∷_ Syntax.valueLocal (List._∷_ Syntax.valueLocal (List._∷_ Syntax.valueLocal (List._∷_ Syntax.valueLocal (List._∷_ Syntax.valueLocal (List._∷_ Syntax.valueLocal (List._∷_ Syntax.valueLocal (List._∷_ Syntax.valueLocal List.[])))))))))))))))))))))))))))))
 
 abbrev b0 : Syntax.Body
-b0 = Syntax.call "dump::blanks::blank_entries" List.[] (Syntax.place 12 List.[])
+b0 = Syntax.call "blanks::blank_entries" List.[] (Syntax.place 12 List.[])
 
 abbrev b1 : Syntax.Body
 b1 = Syntax.assign (Syntax.place 8 List.[]) (Syntax.rvOpd (Syntax.copy (Syntax.place 12 List.[])))
 
 abbrev b2 : Syntax.Body
-b2 = Syntax.call "dump::blanks::blank_items" List.[] (Syntax.place 13 List.[])
+b2 = Syntax.call "blanks::blank_items" List.[] (Syntax.place 13 List.[])
 
 abbrev b3 : Syntax.Body
 b3 = Syntax.assign (Syntax.place 9 List.[]) (Syntax.rvOpd (Syntax.copy (Syntax.place 13 List.[])))
 
 abbrev b4 : Syntax.Body
-b4 = Syntax.call "dump::blanks::blank_expectations" List.[] (Syntax.place 14 List.[])
+b4 = Syntax.call "blanks::blank_expectations" List.[] (Syntax.place 14 List.[])
 
 abbrev b5 : Syntax.Body
 b5 = Syntax.assign (Syntax.place 10 List.[]) (Syntax.rvOpd (Syntax.copy (Syntax.place 14 List.[])))
 
 abbrev b6 : Syntax.Body
-b6 = Syntax.call "dump::blanks::blank_store" List.[] (Syntax.place 15 List.[])
+b6 = Syntax.call "blanks::blank_store" List.[] (Syntax.place 15 List.[])
 
 abbrev b7 : Syntax.Body
 b7 = Syntax.assign (Syntax.place 11 List.[]) (Syntax.rvOpd (Syntax.copy (Syntax.place 15 List.[])))
@@ -715,7 +715,7 @@ module _ (claims· : Claims) where
   module _ (Pre· : (κs : Lifetimes.Lfts 7) → Kinds.Dens κs ps → Type 0) (Post· : (κs : Lifetimes.Lfts 7) → (a : Kinds.Dens κs ps) → Kinds.Plain 7 ps r κs) where
     module _ (M : Type 1) where
       abbrev pub Closed : Type 2
-      Closed = (𝓤 : URA.URA M) (H : Wp.Heap 𝓤) (A : Atoms.Atoms 𝓤) (W : Kit.Given 𝓤 H A) (𝓣 : Wp.Tables 𝓤 H) (known0 : Plain.Known 𝓤 H A W 𝓣 0 ps·0 r·0 (claims· .0) (claims· .1) "dump::blanks::blank_entries") (known1 : Plain.Known 𝓤 H A W 𝓣 0 ps·1 r·1 (claims· .2) (claims· .3) "dump::blanks::blank_items") (known2 : Plain.Known 𝓤 H A W 𝓣 0 ps·2 r·2 (claims· .4) (claims· .5) "dump::blanks::blank_expectations") (known3 : Plain.Known 𝓤 H A W 𝓣 0 ps·3 r·3 (claims· .6) (claims· .7) "dump::blanks::blank_store") (known4 : Plain.Known 𝓤 H A W 𝓣 11 ps·4 r·4 (claims· .8) (claims· .9) "script_run::running::run_script") → Statement.Triple 𝓤 (Wp.WpFn 𝓤 H (𝓣 .C) (𝓣 .Λ) (Function.fnOf 7 ps r xs m hs body)) (Function.plainOf 𝓤 H A 7 ps r Pre· Post·)
+      Closed = (𝓤 : URA.URA M) (H : Wp.Heap 𝓤) (A : Atoms.Atoms 𝓤) (W : Kit.Given 𝓤 H A) (𝓣 : Wp.Tables 𝓤 H) (known0 : Plain.Known 𝓤 H A W 𝓣 0 ps·0 r·0 (claims· .0) (claims· .1) "blanks::blank_entries") (known1 : Plain.Known 𝓤 H A W 𝓣 0 ps·1 r·1 (claims· .2) (claims· .3) "blanks::blank_items") (known2 : Plain.Known 𝓤 H A W 𝓣 0 ps·2 r·2 (claims· .4) (claims· .5) "blanks::blank_expectations") (known3 : Plain.Known 𝓤 H A W 𝓣 0 ps·3 r·3 (claims· .6) (claims· .7) "blanks::blank_store") (known4 : Plain.Known 𝓤 H A W 𝓣 11 ps·4 r·4 (claims· .8) (claims· .9) "script_run::running::run_script") → Statement.Triple 𝓤 (Wp.WpFn 𝓤 H (𝓣 .C) (𝓣 .Λ) (Function.fnOf 7 ps r xs m hs body)) (Function.plainOf 𝓤 H A 7 ps r Pre· Post·)
 
     module _ where
       abbrev at0 : (bs : List.List Nat.ℕ) → Typed.TF T67 O0
@@ -927,7 +927,7 @@ module _ (claims· : Claims) where
 
       module _ {M : Type 1} (𝓤 : URA.URA M) (H : Wp.Heap 𝓤) (A : Atoms.Atoms 𝓤) (W : Kit.Given 𝓤 H A) (𝓣 : Wp.Tables 𝓤 H) where
         abbrev Knowns : Type 1
-        Knowns = Plain.Known 𝓤 H A W 𝓣 0 ps·0 r·0 (claims· .0) (claims· .1) "dump::blanks::blank_entries" × Plain.Known 𝓤 H A W 𝓣 0 ps·1 r·1 (claims· .2) (claims· .3) "dump::blanks::blank_items" × Plain.Known 𝓤 H A W 𝓣 0 ps·2 r·2 (claims· .4) (claims· .5) "dump::blanks::blank_expectations" × Plain.Known 𝓤 H A W 𝓣 0 ps·3 r·3 (claims· .6) (claims· .7) "dump::blanks::blank_store" × Plain.Known 𝓤 H A W 𝓣 11 ps·4 r·4 (claims· .8) (claims· .9) "script_run::running::run_script"
+        Knowns = Plain.Known 𝓤 H A W 𝓣 0 ps·0 r·0 (claims· .0) (claims· .1) "blanks::blank_entries" × Plain.Known 𝓤 H A W 𝓣 0 ps·1 r·1 (claims· .2) (claims· .3) "blanks::blank_items" × Plain.Known 𝓤 H A W 𝓣 0 ps·2 r·2 (claims· .4) (claims· .5) "blanks::blank_expectations" × Plain.Known 𝓤 H A W 𝓣 0 ps·3 r·3 (claims· .6) (claims· .7) "blanks::blank_store" × Plain.Known 𝓤 H A W 𝓣 11 ps·4 r·4 (claims· .8) (claims· .9) "script_run::running::run_script"
 
       module _ (κs : Lifetimes.Lfts 7) (qs : Lifetimes.Shares 7) where
         abbrev g27 : List.List Row.Entry
@@ -1346,7 +1346,7 @@ module _ (claims· : Claims) where
           d52 = Typed.s-seq 𝓤 H A W 𝓣 E G16 G17 b7 b38 Δ0 (Typed.pass T16 T17 (s15 bs)) (at51 bs) (LocalCopy.t-val-copy 𝓤 H A W E 𝓣 (λ ρ. Unit) G16 15 11 (DArray.Array (TReferent.rtF (TReferent.fInt Syntax.w8)) 32768) (Syntax.tyArray (Syntax.tyInt Syntax.w8) 32768) (Syntax.tyArray (Syntax.tyInt Syntax.w8) 32768) (ARows.arrF (TReferent.rtF (TReferent.fInt Syntax.w8)) 32768 0) (ARows.arrF (TReferent.rtF (TReferent.fInt Syntax.w8)) 32768 0) (λ x. x) (λ x. x) (λ x. x) Path'.refl (Own.told-none 𝓤 H A (G16 .slots)) (Yields.yields-copy 𝓤 H A W (λ ρ. Unit) (DArray.Array (TReferent.rtF (TReferent.fInt Syntax.w8)) 32768) Path'.refl (TCopies.cArr (TReferent.rtF (TReferent.fInt Syntax.w8)) (TCopies.cRf (TReferent.fInt Syntax.w8)) 32768 .copy 𝓤 H A W) (ARows.arrF (TReferent.rtF (TReferent.fInt Syntax.w8)) 32768 0) (λ x. x) (λ x. x) (λ ρ told. AWhole.mem-arr 𝓤 H A W (TReferent.rtF (TReferent.fInt Syntax.w8)) 32768 ρ) λ ρ told. AWhole.arr-mem 𝓤 H A W (TReferent.rtF (TReferent.fInt Syntax.w8)) 32768 tt ρ) (Reads.room-gone 𝓤 H A (Syntax.tyArray (Syntax.tyInt Syntax.w8) 32768)) (Yields.makes-mem 𝓤 H A W (λ ρ. Unit) (DArray.Array (TReferent.rtF (TReferent.fInt Syntax.w8)) 32768) Path'.refl (ARows.arrF (TReferent.rtF (TReferent.fInt Syntax.w8)) 32768 0) (λ x. x) λ ρ told. AWhole.arr-mem 𝓤 H A W (TReferent.rtF (TReferent.fInt Syntax.w8)) 32768 tt ρ) Path'.refl Path'.refl) d51
 
           d53 : Typed.Typed 𝓤 H A 𝓣 E G15 b40 Δ0 (at53 bs)
-          d53 = Typed.s-seq 𝓤 H A W 𝓣 E G15 G16 b6 b39 Δ0 (Typed.both (s14 bs)) (at52 bs) (Plain.t-call-plain 𝓤 H A W 𝓣 0 ps·3 r·3 (claims· .6) (claims· .7) "dump::blanks::blank_store" (known .3) E (λ pos β. β) G15 tt 15 List.[] (Call.sub-id 𝓤 H A W (G15 .slots)) tt (Reads.room-gone 𝓤 H A (Syntax.tyArray (Syntax.tyInt Syntax.w8) 32768)) tt Path'.refl) d52
+          d53 = Typed.s-seq 𝓤 H A W 𝓣 E G15 G16 b6 b39 Δ0 (Typed.both (s14 bs)) (at52 bs) (Plain.t-call-plain 𝓤 H A W 𝓣 0 ps·3 r·3 (claims· .6) (claims· .7) "blanks::blank_store" (known .3) E (λ pos β. β) G15 tt 15 List.[] (Call.sub-id 𝓤 H A W (G15 .slots)) tt (Reads.room-gone 𝓤 H A (Syntax.tyArray (Syntax.tyInt Syntax.w8) 32768)) tt Path'.refl) d52
 
           d54 : Typed.Typed 𝓤 H A 𝓣 E G14 b40 Δ0 (at54 bs)
           d54 = Typed.g-pre 𝓤 H A W 𝓣 E G14 G15 b40 Δ0 (Typed.pass T14 T15 (s13 bs)) (at53 bs) (RScalar.g-room 𝓤 H A W E G14 14 (Syntax.tyArray ExpectationElem.ty 1024) (AInit.room-arr 𝓤 H A W ExpectationElem.R 1024 0 1024 Path'.refl)) d53
@@ -1355,7 +1355,7 @@ module _ (claims· : Claims) where
           d55 = Typed.s-seq 𝓤 H A W 𝓣 E G13 G14 b5 b40 Δ0 (Typed.pass T13 T14 (s12 bs)) (at54 bs) (LocalCopy.t-val-copy 𝓤 H A W E 𝓣 (λ ρ. Unit) G13 14 10 (DArray.Array ExpectationElem.R 1024) (Syntax.tyArray ExpectationElem.ty 1024) (Syntax.tyArray ExpectationElem.ty 1024) (ARows.arrF ExpectationElem.R 1024 0) (ARows.arrF ExpectationElem.R 1024 0) (λ x. x) (λ x. x) (λ x. x) Path'.refl (Own.told-none 𝓤 H A (G13 .slots)) (Yields.yields-copy 𝓤 H A W (λ ρ. Unit) (DArray.Array ExpectationElem.R 1024) Path'.refl (TCopies.cArr ExpectationElem.R ExpectationElem.cp 1024 .copy 𝓤 H A W) (ARows.arrF ExpectationElem.R 1024 0) (λ x. x) (λ x. x) (λ ρ told. AWhole.mem-arr 𝓤 H A W ExpectationElem.R 1024 ρ) λ ρ told. AWhole.arr-mem 𝓤 H A W ExpectationElem.R 1024 tt ρ) (Reads.room-gone 𝓤 H A (Syntax.tyArray ExpectationElem.ty 1024)) (Yields.makes-mem 𝓤 H A W (λ ρ. Unit) (DArray.Array ExpectationElem.R 1024) Path'.refl (ARows.arrF ExpectationElem.R 1024 0) (λ x. x) λ ρ told. AWhole.arr-mem 𝓤 H A W ExpectationElem.R 1024 tt ρ) Path'.refl Path'.refl) d54
 
           d56 : Typed.Typed 𝓤 H A 𝓣 E G12 b42 Δ0 (at56 bs)
-          d56 = Typed.s-seq 𝓤 H A W 𝓣 E G12 G13 b4 b41 Δ0 (Typed.both (s11 bs)) (at55 bs) (Plain.t-call-plain 𝓤 H A W 𝓣 0 ps·2 r·2 (claims· .4) (claims· .5) "dump::blanks::blank_expectations" (known .2) E (λ pos β. β) G12 tt 14 List.[] (Call.sub-id 𝓤 H A W (G12 .slots)) tt (Reads.room-gone 𝓤 H A (Syntax.tyArray ExpectationElem.ty 1024)) tt Path'.refl) d55
+          d56 = Typed.s-seq 𝓤 H A W 𝓣 E G12 G13 b4 b41 Δ0 (Typed.both (s11 bs)) (at55 bs) (Plain.t-call-plain 𝓤 H A W 𝓣 0 ps·2 r·2 (claims· .4) (claims· .5) "blanks::blank_expectations" (known .2) E (λ pos β. β) G12 tt 14 List.[] (Call.sub-id 𝓤 H A W (G12 .slots)) tt (Reads.room-gone 𝓤 H A (Syntax.tyArray ExpectationElem.ty 1024)) tt Path'.refl) d55
 
           d57 : Typed.Typed 𝓤 H A 𝓣 E G11 b42 Δ0 (at57 bs)
           d57 = Typed.g-pre 𝓤 H A W 𝓣 E G11 G12 b42 Δ0 (Typed.pass T11 T12 (s10 bs)) (at56 bs) (RScalar.g-room 𝓤 H A W E G11 13 (Syntax.tyArray (Syntax.tyArray (Syntax.tyInt Syntax.w64) 2) 1024) (AInit.room-arr 𝓤 H A W (DArray.Array (TReferent.rtF (TReferent.fInt Syntax.w64)) 2) 1024 0 1024 Path'.refl)) d56
@@ -1364,7 +1364,7 @@ module _ (claims· : Claims) where
           d58 = Typed.s-seq 𝓤 H A W 𝓣 E G10 G11 b3 b42 Δ0 (Typed.pass T10 T11 (s9 bs)) (at57 bs) (LocalCopy.t-val-copy 𝓤 H A W E 𝓣 (λ ρ. Unit) G10 13 9 (DArray.Array (DArray.Array (TReferent.rtF (TReferent.fInt Syntax.w64)) 2) 1024) (Syntax.tyArray (Syntax.tyArray (Syntax.tyInt Syntax.w64) 2) 1024) (Syntax.tyArray (Syntax.tyArray (Syntax.tyInt Syntax.w64) 2) 1024) (ARows.arrF (DArray.Array (TReferent.rtF (TReferent.fInt Syntax.w64)) 2) 1024 0) (ARows.arrF (DArray.Array (TReferent.rtF (TReferent.fInt Syntax.w64)) 2) 1024 0) (λ x. x) (λ x. x) (λ x. x) Path'.refl (Own.told-none 𝓤 H A (G10 .slots)) (Yields.yields-copy 𝓤 H A W (λ ρ. Unit) (DArray.Array (DArray.Array (TReferent.rtF (TReferent.fInt Syntax.w64)) 2) 1024) Path'.refl (TCopies.cArr (DArray.Array (TReferent.rtF (TReferent.fInt Syntax.w64)) 2) (TCopies.cArr (TReferent.rtF (TReferent.fInt Syntax.w64)) (TCopies.cRf (TReferent.fInt Syntax.w64)) 2) 1024 .copy 𝓤 H A W) (ARows.arrF (DArray.Array (TReferent.rtF (TReferent.fInt Syntax.w64)) 2) 1024 0) (λ x. x) (λ x. x) (λ ρ told. AWhole.mem-arr 𝓤 H A W (DArray.Array (TReferent.rtF (TReferent.fInt Syntax.w64)) 2) 1024 ρ) λ ρ told. AWhole.arr-mem 𝓤 H A W (DArray.Array (TReferent.rtF (TReferent.fInt Syntax.w64)) 2) 1024 tt ρ) (Reads.room-gone 𝓤 H A (Syntax.tyArray (Syntax.tyArray (Syntax.tyInt Syntax.w64) 2) 1024)) (Yields.makes-mem 𝓤 H A W (λ ρ. Unit) (DArray.Array (DArray.Array (TReferent.rtF (TReferent.fInt Syntax.w64)) 2) 1024) Path'.refl (ARows.arrF (DArray.Array (TReferent.rtF (TReferent.fInt Syntax.w64)) 2) 1024 0) (λ x. x) λ ρ told. AWhole.arr-mem 𝓤 H A W (DArray.Array (TReferent.rtF (TReferent.fInt Syntax.w64)) 2) 1024 tt ρ) Path'.refl Path'.refl) d57
 
           d59 : Typed.Typed 𝓤 H A 𝓣 E G9 b44 Δ0 (at59 bs)
-          d59 = Typed.s-seq 𝓤 H A W 𝓣 E G9 G10 b2 b43 Δ0 (Typed.both (s8 bs)) (at58 bs) (Plain.t-call-plain 𝓤 H A W 𝓣 0 ps·1 r·1 (claims· .2) (claims· .3) "dump::blanks::blank_items" (known .1) E (λ pos β. β) G9 tt 13 List.[] (Call.sub-id 𝓤 H A W (G9 .slots)) tt (Reads.room-gone 𝓤 H A (Syntax.tyArray (Syntax.tyArray (Syntax.tyInt Syntax.w64) 2) 1024)) tt Path'.refl) d58
+          d59 = Typed.s-seq 𝓤 H A W 𝓣 E G9 G10 b2 b43 Δ0 (Typed.both (s8 bs)) (at58 bs) (Plain.t-call-plain 𝓤 H A W 𝓣 0 ps·1 r·1 (claims· .2) (claims· .3) "blanks::blank_items" (known .1) E (λ pos β. β) G9 tt 13 List.[] (Call.sub-id 𝓤 H A W (G9 .slots)) tt (Reads.room-gone 𝓤 H A (Syntax.tyArray (Syntax.tyArray (Syntax.tyInt Syntax.w64) 2) 1024)) tt Path'.refl) d58
 
           d60 : Typed.Typed 𝓤 H A 𝓣 E G8 b44 Δ0 (at60 bs)
           d60 = Typed.g-pre 𝓤 H A W 𝓣 E G8 G9 b44 Δ0 (Typed.pass T8 T9 (s7 bs)) (at59 bs) (RScalar.g-room 𝓤 H A W E G8 12 (Syntax.tyArray EntryElem.ty 256) (AInit.room-arr 𝓤 H A W EntryElem.R 256 0 256 Path'.refl)) d59
@@ -1373,7 +1373,7 @@ module _ (claims· : Claims) where
           d61 = Typed.s-seq 𝓤 H A W 𝓣 E G7 G8 b1 b44 Δ0 (Typed.pass T7 T8 (s6 bs)) (at60 bs) (LocalCopy.t-val-copy 𝓤 H A W E 𝓣 (λ ρ. Unit) G7 12 8 (DArray.Array EntryElem.R 256) (Syntax.tyArray EntryElem.ty 256) (Syntax.tyArray EntryElem.ty 256) (ARows.arrF EntryElem.R 256 0) (ARows.arrF EntryElem.R 256 0) (λ x. x) (λ x. x) (λ x. x) Path'.refl (Own.told-none 𝓤 H A (G7 .slots)) (Yields.yields-copy 𝓤 H A W (λ ρ. Unit) (DArray.Array EntryElem.R 256) Path'.refl (TCopies.cArr EntryElem.R EntryElem.cp 256 .copy 𝓤 H A W) (ARows.arrF EntryElem.R 256 0) (λ x. x) (λ x. x) (λ ρ told. AWhole.mem-arr 𝓤 H A W EntryElem.R 256 ρ) λ ρ told. AWhole.arr-mem 𝓤 H A W EntryElem.R 256 tt ρ) (Reads.room-gone 𝓤 H A (Syntax.tyArray EntryElem.ty 256)) (Yields.makes-mem 𝓤 H A W (λ ρ. Unit) (DArray.Array EntryElem.R 256) Path'.refl (ARows.arrF EntryElem.R 256 0) (λ x. x) λ ρ told. AWhole.arr-mem 𝓤 H A W EntryElem.R 256 tt ρ) Path'.refl Path'.refl) d60
 
           d62 : Typed.Typed 𝓤 H A 𝓣 E G6 b46 Δ0 (at62 bs)
-          d62 = Typed.s-seq 𝓤 H A W 𝓣 E G6 G7 b0 b45 Δ0 (Typed.both (s5 bs)) (at61 bs) (Plain.t-call-plain 𝓤 H A W 𝓣 0 ps·0 r·0 (claims· .0) (claims· .1) "dump::blanks::blank_entries" (known .0) E (λ pos β. β) G6 tt 12 List.[] (Call.sub-id 𝓤 H A W (G6 .slots)) tt (Reads.room-gone 𝓤 H A (Syntax.tyArray EntryElem.ty 256)) tt Path'.refl) d61
+          d62 = Typed.s-seq 𝓤 H A W 𝓣 E G6 G7 b0 b45 Δ0 (Typed.both (s5 bs)) (at61 bs) (Plain.t-call-plain 𝓤 H A W 𝓣 0 ps·0 r·0 (claims· .0) (claims· .1) "blanks::blank_entries" (known .0) E (λ pos β. β) G6 tt 12 List.[] (Call.sub-id 𝓤 H A W (G6 .slots)) tt (Reads.room-gone 𝓤 H A (Syntax.tyArray EntryElem.ty 256)) tt Path'.refl) d61
 
           d63 : Typed.Typed 𝓤 H A 𝓣 E G5 b46 Δ0 (at63 bs)
           d63 = Typed.g-pre 𝓤 H A W 𝓣 E G5 G6 b46 Δ0 (Typed.give (s4 bs)) (at62 bs) (Know.g-sl-known 𝓤 H A W (TReferent.fInt Syntax.w64) E G5 7 6 (Syntax.tyRef (Syntax.named 6) Syntax.mut (Syntax.tyInt Syntax.w64)) (Row.lease (κs .1 .1 .1 .1 .1 .1 .0) (qs .1 .1 .1 .1 .1 .1 .0)) 0 (λ x. x) record { fits = Dec'.lit< tt } (Reads.as-is 𝓤 H A (Mut.mslice (TReferent.rtF (TReferent.fInt Syntax.w64)) (Syntax.tyRef (Syntax.named 6) Syntax.mut (Syntax.tyInt Syntax.w64)) 6)) Path'.refl tt) d62
@@ -1850,6 +1850,6 @@ module _ (claims· : Claims) where
           pub asked : (a : Kinds.Dens κs ps) → (good : Kinds.GoodsP κs ps a) → (pre : Pre· κs a) → (bs : List.List Nat.ℕ) → Φ bs (Any.wantQ 7 ps r xs m κs qs a (Post· κs a)) (Function.init 7 ps r xs m κs qs a)
           asked = λ a good pre bs. laid record { κs = κs; args = record { text = a .0; calls = a .1 .0; bytes = a .1 .1 .0; lists = a .1 .1 .1 .0; verdicts = a .1 .1 .1 .1 .0; scratch = a .1 .1 .1 .1 .1 .0; answers = a .1 .1 .1 .1 .1 .1 .0 }; blocks = bs; good = good; pre = pre }
 
-        module _ {M : Type 1} (𝓤 : URA.URA M) (H : Wp.Heap 𝓤) (A : Atoms.Atoms 𝓤) (W : Kit.Given 𝓤 H A) (𝓣 : Wp.Tables 𝓤 H) (known0 : Plain.Known 𝓤 H A W 𝓣 0 ps·0 r·0 (claims· .0) (claims· .1) "dump::blanks::blank_entries") (known1 : Plain.Known 𝓤 H A W 𝓣 0 ps·1 r·1 (claims· .2) (claims· .3) "dump::blanks::blank_items") (known2 : Plain.Known 𝓤 H A W 𝓣 0 ps·2 r·2 (claims· .4) (claims· .5) "dump::blanks::blank_expectations") (known3 : Plain.Known 𝓤 H A W 𝓣 0 ps·3 r·3 (claims· .6) (claims· .7) "dump::blanks::blank_store") (known4 : Plain.Known 𝓤 H A W 𝓣 11 ps·4 r·4 (claims· .8) (claims· .9) "script_run::running::run_script") where
+        module _ {M : Type 1} (𝓤 : URA.URA M) (H : Wp.Heap 𝓤) (A : Atoms.Atoms 𝓤) (W : Kit.Given 𝓤 H A) (𝓣 : Wp.Tables 𝓤 H) (known0 : Plain.Known 𝓤 H A W 𝓣 0 ps·0 r·0 (claims· .0) (claims· .1) "blanks::blank_entries") (known1 : Plain.Known 𝓤 H A W 𝓣 0 ps·1 r·1 (claims· .2) (claims· .3) "blanks::blank_items") (known2 : Plain.Known 𝓤 H A W 𝓣 0 ps·2 r·2 (claims· .4) (claims· .5) "blanks::blank_expectations") (known3 : Plain.Known 𝓤 H A W 𝓣 0 ps·3 r·3 (claims· .6) (claims· .7) "blanks::blank_store") (known4 : Plain.Known 𝓤 H A W 𝓣 11 ps·4 r·4 (claims· .8) (claims· .9) "script_run::running::run_script") where
           pub spec : Statement.Triple 𝓤 (Wp.WpFn 𝓤 H (𝓣 .C) (𝓣 .Λ) (Function.fnOf 7 ps r xs m hs body)) (Function.plainOf 𝓤 H A 7 ps r Pre· Post·)
           spec = Plain.t-fn-plain 𝓤 H A W 𝓣 7 ps r xs m hs body (λ κs qs bs. Φ bs) (λ κs qs bs bd. typed κs qs 𝓤 H A W 𝓣 (known0, known1, known2, known3, known4) bs bd) Pre· Post· asked

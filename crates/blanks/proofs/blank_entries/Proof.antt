@@ -1,9 +1,9 @@
--- `dump::blanks::blank_entries` meets its contract. Assumes nothing.
+-- `blanks::blank_entries` meets its contract. Assumes nothing.
 use mathlib.Core.Path.{ap}
 use lib.ListN.{replicate}
 use borrow.Author.Needs.{needs}
-use Rattle.dump.proofs.blanks.blank_entries.Statement.{statement}
-use Rattle.dump.proofs.blanks.blank_entries.Tie as tie
+use Rattle.blanks.proofs.blank_entries.Statement.{statement}
+use Rattle.blanks.proofs.blank_entries.Tie as tie
 
 blank-entry-requires : tie.Need-blank-entry-requires
 blank-entry-requires c κs = search needs

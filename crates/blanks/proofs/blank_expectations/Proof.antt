@@ -1,9 +1,9 @@
--- `dump::blanks::blank_expectations` meets its contract. Assumes nothing.
+-- `blanks::blank_expectations` meets its contract. Assumes nothing.
 use mathlib.Core.Path.{ap}
 use lib.ListN.{replicate}
 use borrow.Author.Needs.{needs}
-use Rattle.dump.proofs.blanks.blank_expectations.Statement.{statement}
-use Rattle.dump.proofs.blanks.blank_expectations.Tie as tie
+use Rattle.blanks.proofs.blank_expectations.Statement.{statement}
+use Rattle.blanks.proofs.blank_expectations.Tie as tie
 
 blank-expectation-requires : tie.Need-blank-expectation-requires
 blank-expectation-requires c κs = search needs
