@@ -1,4 +1,4 @@
-// Tables of blank records.
+// Blank records, and tables of them, to be lent: what stands there is not looked at.
 ghost use mathlib.Core.Path.{_≡_};
 ghost use mathlib.Core.List.{[], _∷_};
 ghost use lib.ListN.{length, replicate};
@@ -12,7 +12,7 @@ use script::records::Place;
 use script::records::Stamp;
 use wire::ops::Op;
 
-fn blank_entry() -> Entry
+pub fn blank_entry() -> Entry
     ensures { λ r. ⌜ r ≡ blankEntry ⌝ }
 {
     Entry {
@@ -25,7 +25,7 @@ fn blank_entry() -> Entry
     }
 }
 
-fn blank_expectation() -> Expectation
+pub fn blank_expectation() -> Expectation
     ensures { λ r. ⌜ r ≡ blankExpectation ⌝ }
 {
     Expectation {

@@ -2,13 +2,11 @@
 use Prim.Native.Nat.{ℕ, _-_, _≤_, _<_}
 use mathlib.Core.Path.{_≡_, refl, sym, ap, subst, _∙_}
 use mathlib.Core.Bool.{Bool, true, false}
-use mathlib.Core.List.{List, []}
-use mathlib.Core.Option.{Option, none, some, Option·getD}
+use mathlib.Core.List.{List}
 use native.Mathlib.Omega.{arith}
-use lib.Dec.{leb, ltb}
-use borrow.Author.Tests.{leb-true, leb-false, lt-ltb, le-ltb}
+use lib.Dec.{leb}
+use borrow.Author.Tests.{leb-true, leb-false}
 use lib.ListN.{length, take, length-take}
-use lib.Seq.{take-all, length-take-le}
 use Rattle.text.specs.Base.{overlaid}
 use Rattle.script.specs.Reading.{refusal}
 use Rattle.writing.specs.Room.{left}
@@ -20,8 +18,7 @@ use Rattle.script.specs.declared.records.Expect.{Expect}
 use Rattle.script.specs.declared.response.DaemonResponse.{DaemonResponse}
 use Rattle.script.specs.declared.response.HandshakeInfo.{HandshakeInfo}
 use Rattle.verdicts.specs.Held.{expectedOf, responseOf, infoOf, expectIn, responseIn, infoIn}
-use Rattle.verdicts.specs.Expected.{Expected}
-use Rattle.verdicts.specs.Told.{Subject, greeting, reply}
+use Rattle.verdicts.specs.Told.{greeting, reply}
 use Rattle.verdicts.specs.Lookup.{looked, lookedIn, toldIn, presentBytes}
 use Rattle.verdicts.specs.Verdicts.{verdict}
 use Rattle.verdicts.specs.Messages.{message, entryMessage, handshakeMessage}
@@ -39,7 +36,7 @@ use Rattle.told.specs.Told.{counted, toldOf, unlessRefused}
 use Rattle.told.proofs.ToldLaws.{Answers, judged, outside-bytes}
 use Rattle.expect.specs.ExpectRead.{noValue}
 use Rattle.told.specs.declared.Told.{Told}
-use Rattle.told.specs.declared.Told.the-variants.{Refused, Says}
+use Rattle.told.specs.declared.Told.the-variants.{Refused}
 
 -- ---- rooms
 

@@ -1,8 +1,6 @@
 // Message: one expectation, judged afresh.
 ghost use mathlib.Core.Path.{_≡_};
-ghost use Prim.Native.Nat.{_≤_};
-ghost use lib.ListN.{length, take};
-ghost use Rattle.text.specs.Base.{overlaid};
+ghost use lib.ListN.{length};
 ghost use Rattle.verdicts.specs.Lookup.{lookedIn, toldIn, presentBytes};
 ghost use Rattle.verdicts.specs.Messages.{entryMessage, handshakeMessage};
 ghost use Rattle.verdicts.specs.Told.{greeting, reply};

@@ -1,17 +1,14 @@
 -- What a frame comes to is the message of document 01. Assumes nothing.
-use Prim.Native.Nat.{ℕ, suc}
+use Prim.Native.Nat.{ℕ}
 use mathlib.Core.Path.{_≡_, refl, sym, ap, _∙_}
 use mathlib.Core.Bool.{Bool, true, false}
-use mathlib.Core.List.{List, [], _∷_, _++_, append-assoc, append-nil}
+use mathlib.Core.List.{List, [], _++_, append-assoc, append-nil}
 use mathlib.Core.Option.{Option, none, some}
 use native.Mathlib.Omega.{arith}
 use lib.IntN.{ℤ}
-use Rattle.text.specs.Base.{if_then_else_}
 use Rattle.text.specs.Unicode.{encoded}
 use Rattle.text.specs.Literal.{utf8}
-use Rattle.text.specs.Parts.{sameBytes}
 use Rattle.values.specs.Decimal.{decimal}
-use Rattle.values.specs.Numbers.{signed}
 use Rattle.script.specs.declared.records.Place.{Place}
 use Rattle.script.specs.declared.response.DaemonResponse.{DaemonResponse}
 use Rattle.script.specs.declared.response.HandshakeInfo.{HandshakeInfo}
@@ -22,10 +19,9 @@ use Rattle.script.specs.declared.records.Expect.the-variants.{Terminal, Result,
 use Rattle.verdicts.specs.declared.Verdict.{Verdict}
 use Rattle.verdicts.specs.declared.Verdict.the-variants.{Passed, Failed, Undecided}
 use Rattle.verdicts.specs.Expected as expected
-use Rattle.verdicts.specs.Expected.{Matching, exact, regex, greaterThan, lessThan, greaterOrEqual, lessOrEqual, Expected}
-use Rattle.verdicts.specs.Told.{Response, Info, Subject, greeting, reply}
+use Rattle.verdicts.specs.Told.{Response, Info, greeting, reply}
 use Rattle.verdicts.specs.Lookup.{daemonText, trustText, featuresText, looked, lookedIn, toldIn, presentBytes}
-use Rattle.verdicts.specs.Decisions.{passedIf, patternDecides, ordered, decides}
+use Rattle.verdicts.specs.Decisions.{passedIf, ordered, decides}
 use Rattle.verdicts.specs.Verdicts.{namedBy, valued, verdict}
 use Rattle.verdicts.specs.Held.{textAt, matchingOf, expectedOf, terminalBytes, responseOf, infoOf}
 use Rattle.verdicts.specs.Messages as Messages
@@ -33,7 +29,6 @@ use Rattle.verdicts.specs.Messages.{integer, shown, saysOf, valueSays, heading,
 use Rattle.frames.specs.Words.{headBytes, middleBytes}
 use Rattle.frames.specs.declared.words.Head.the-variants as heads
 use Rattle.frames.specs.declared.words.Middle.the-variants as middles
-use Rattle.frames.specs.declared.frames.Piece.{Piece}
 use Rattle.frames.specs.declared.frames.Piece.the-variants as pieces
 use Rattle.frames.specs.declared.frames.Frame.{Frame}
 use Rattle.frames.specs.declared.frames.Heading.{Heading}

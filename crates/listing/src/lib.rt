@@ -1,3 +1,2 @@
 // What the program `script-list` prints.
-mod blank;
 pub mod whole;

@@ -1,6 +1,5 @@
 // What is left of a room once a message stands there.
 ghost use mathlib.Core.Path.{_≡_};
-ghost use lib.ListN.{length};
 ghost use Rattle.writing.specs.Room.{left, lessBy};
 ghost use Rattle.messages.specs.Lengths.{pieceLength, endingWord, endingValue, frameLength};
 use decimals::integer::integer_len;

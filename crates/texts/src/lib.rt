@@ -1,7 +1,5 @@
 // What stands at a place. Places may be forged: what lies outside has no bytes.
 ghost use mathlib.Core.Path.{_≡_};
-ghost use Prim.Native.Nat.{_≤_, min};
-ghost use lib.ListN.{length};
 ghost use Rattle.text.specs.Base.{part};
 ghost use Rattle.verdicts.specs.Held.{textAt};
 use script::records::Place;

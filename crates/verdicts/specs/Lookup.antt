@@ -9,8 +9,8 @@ use lib.Dec.{eqb}
 use Rattle.text.specs.Base.{if_then_else_}
 use Rattle.text.specs.Literal.{utf8, spells}
 use Rattle.values.specs.Decimal.{decimal}
-use Rattle.verdicts.specs.Expected.{Matching, Expected, terminal, result, resultField, error, stderrCount, daemon, trust, serverFeatures}
-use Rattle.verdicts.specs.Told.{PathInfo, Result, absent, other, u64, str, pathInfo, stringSet, collectGarbage, substitutablePathInfo, missing, Response, Info, Subject, greeting, reply}
+use Rattle.verdicts.specs.Expected.{Expected, terminal, result, resultField, error, stderrCount, daemon, trust, serverFeatures}
+use Rattle.verdicts.specs.Told.{Result, absent, other, u64, str, pathInfo, stringSet, collectGarbage, substitutablePathInfo, missing, Response, Info, Subject, greeting, reply}
 
 -- the texts of a list, `, ` between them
 unfoldable pub joined : List (List ℕ) → List ℕ

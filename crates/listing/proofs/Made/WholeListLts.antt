@@ -157,7 +157,7 @@ abbrev pub hs : List.List Syntax.Home
 hs = List._∷_ Syntax.valueLocal (List._∷_ Syntax.valueLocal (List._∷_ Syntax.valueLocal (List._∷_ Syntax.memorySlot (List._∷_ Syntax.memorySlot (List._∷_ Syntax.memorySlot (List._∷_ Syntax.memorySlot (List._∷_ Syntax.valueLocal (List._∷_ Syntax.valueLocal (List._∷_ Syntax.valueLocal (List._∷_ Syntax.valueLocal (List._∷_ Syntax.valueLocal (List._∷_ Syntax.valueLocal (List._∷_ Syntax.valueLocal (List._∷_ Syntax.valueLocal (List._∷_ Syntax.valueLocal (List._∷_ Syntax.valueLocal (List._∷_ Syntax.valueLocal (List._∷_ Syntax.valueLocal (List._∷_ Syntax.valueLocal (List._∷_ Syntax.valueLocal (List._∷_ Syntax.valueLocal (List._∷_ Syntax.valueLocal (List._∷_ Syntax.valueLocal (List._∷_ Syntax.valueLocal (List._∷_ Syntax.valueLocal (List._∷_ Syntax.valueLocal (List._∷_ Syntax.valueLocal List.[])))))))))))))))))))))))))))
 
 abbrev b0 : Syntax.Body
-b0 = Syntax.call "listing::blank::blank_entry" List.[] (Syntax.place 10 List.[])
+b0 = Syntax.call "blanks::blank_entry" List.[] (Syntax.place 10 List.[])
 
 abbrev b1 : Syntax.Body
 b1 = Syntax.assign (Syntax.place 3 List.[]) (Syntax.repeat (Syntax.copy (Syntax.place 10 List.[])) 256)
@@ -169,7 +169,7 @@ abbrev b3 : Syntax.Body
 b3 = Syntax.assign (Syntax.place 4 List.[]) (Syntax.repeat (Syntax.copy (Syntax.place 11 List.[])) 1024)
 
 abbrev b4 : Syntax.Body
-b4 = Syntax.call "listing::blank::blank_expectation" List.[] (Syntax.place 12 List.[])
+b4 = Syntax.call "blanks::blank_expectation" List.[] (Syntax.place 12 List.[])
 
 abbrev b5 : Syntax.Body
 b5 = Syntax.assign (Syntax.place 5 List.[]) (Syntax.repeat (Syntax.copy (Syntax.place 12 List.[])) 1024)
@@ -886,7 +886,7 @@ module _ (claims· : Claims) where
   module _ (Pre· : (κs : Lifetimes.Lfts 2) → Kinds.Dens κs ps → Type 0) (Post· : (κs : Lifetimes.Lfts 2) → (a : Kinds.Dens κs ps) → Kinds.Plain 2 ps r κs) where
     module _ (M : Type 1) where
       abbrev pub Closed : Type 2
-      Closed = (𝓤 : URA.URA M) (H : Wp.Heap 𝓤) (A : Atoms.Atoms 𝓤) (W : Kit.Given 𝓤 H A) (𝓣 : Wp.Tables 𝓤 H) (known0 : Plain.Known 𝓤 H A W 𝓣 0 ps·0 r·0 (claims· .0) (claims· .1) "listing::blank::blank_entry") (known1 : Plain.Known 𝓤 H A W 𝓣 0 ps·1 r·1 (claims· .2) (claims· .3) "listing::blank::blank_expectation") (known2 : Plain.Known 𝓤 H A W 𝓣 5 ps·2 r·2 (claims· .4) (claims· .5) "read::reading::read") (known3 : Plain.Known 𝓤 H A W 𝓣 1 ps·3 r·3 (claims· .6) (claims· .7) "printed::lines::put_refusal") (known4 : Plain.Known 𝓤 H A W 𝓣 2 ps·4 r·4 (claims· .8) (claims· .9) "listing::whole::list_script") → Statement.Triple 𝓤 (Wp.WpFn 𝓤 H (𝓣 .C) (𝓣 .Λ) (Function.fnOf 2 ps r xs m hs body)) (Function.plainOf 𝓤 H A 2 ps r Pre· Post·)
+      Closed = (𝓤 : URA.URA M) (H : Wp.Heap 𝓤) (A : Atoms.Atoms 𝓤) (W : Kit.Given 𝓤 H A) (𝓣 : Wp.Tables 𝓤 H) (known0 : Plain.Known 𝓤 H A W 𝓣 0 ps·0 r·0 (claims· .0) (claims· .1) "blanks::blank_entry") (known1 : Plain.Known 𝓤 H A W 𝓣 0 ps·1 r·1 (claims· .2) (claims· .3) "blanks::blank_expectation") (known2 : Plain.Known 𝓤 H A W 𝓣 5 ps·2 r·2 (claims· .4) (claims· .5) "read::reading::read") (known3 : Plain.Known 𝓤 H A W 𝓣 1 ps·3 r·3 (claims· .6) (claims· .7) "printed::lines::put_refusal") (known4 : Plain.Known 𝓤 H A W 𝓣 2 ps·4 r·4 (claims· .8) (claims· .9) "listing::whole::list_script") → Statement.Triple 𝓤 (Wp.WpFn 𝓤 H (𝓣 .C) (𝓣 .Λ) (Function.fnOf 2 ps r xs m hs body)) (Function.plainOf 𝓤 H A 2 ps r Pre· Post·)
 
     module _ where
       abbrev at0 : (bs : List.List Nat.ℕ) → Typed.TF T54 O1
@@ -1101,7 +1101,7 @@ module _ (claims· : Claims) where
 
       module _ {M : Type 1} (𝓤 : URA.URA M) (H : Wp.Heap 𝓤) (A : Atoms.Atoms 𝓤) (W : Kit.Given 𝓤 H A) (𝓣 : Wp.Tables 𝓤 H) where
         abbrev Knowns : Type 1
-        Knowns = Plain.Known 𝓤 H A W 𝓣 0 ps·0 r·0 (claims· .0) (claims· .1) "listing::blank::blank_entry" × Plain.Known 𝓤 H A W 𝓣 0 ps·1 r·1 (claims· .2) (claims· .3) "listing::blank::blank_expectation" × Plain.Known 𝓤 H A W 𝓣 5 ps·2 r·2 (claims· .4) (claims· .5) "read::reading::read" × Plain.Known 𝓤 H A W 𝓣 1 ps·3 r·3 (claims· .6) (claims· .7) "printed::lines::put_refusal" × Plain.Known 𝓤 H A W 𝓣 2 ps·4 r·4 (claims· .8) (claims· .9) "listing::whole::list_script"
+        Knowns = Plain.Known 𝓤 H A W 𝓣 0 ps·0 r·0 (claims· .0) (claims· .1) "blanks::blank_entry" × Plain.Known 𝓤 H A W 𝓣 0 ps·1 r·1 (claims· .2) (claims· .3) "blanks::blank_expectation" × Plain.Known 𝓤 H A W 𝓣 5 ps·2 r·2 (claims· .4) (claims· .5) "read::reading::read" × Plain.Known 𝓤 H A W 𝓣 1 ps·3 r·3 (claims· .6) (claims· .7) "printed::lines::put_refusal" × Plain.Known 𝓤 H A W 𝓣 2 ps·4 r·4 (claims· .8) (claims· .9) "listing::whole::list_script"
 
       module _ (κs : Lifetimes.Lfts 2) (qs : Lifetimes.Shares 2) where
         abbrev g45 : List.List Row.Entry
@@ -1553,7 +1553,7 @@ module _ (claims· : Claims) where
           d57 = Typed.s-seq 𝓤 H A W 𝓣 E G12 G13 b5 b48 Δ0 (Typed.pass T12 T13 (s11 bs)) (at56 bs) (Repeat.t-repeat-by 𝓤 H A W E 𝓣 ExpectationElem.R (ExpectationElem.lawful 𝓤 H A W) (ExpectationElem.cp .copy 𝓤 H A W) 1024 G12 5 (RScalar.oAt 12 ExpectationElem.ty λ x. Steps.only (ExpectationElem.cp .vals x)) (λ m. m .1 .1 .1 .1 .1 .1 .1 .1 .1 .1 .1 .1 .0) (λ ρ. Unit) (Reads.room-gone 𝓤 H A (Syntax.tyArray ExpectationElem.ty 1024)) (ExpectationElem.reads 𝓤 H A W, Path'.refl) Path'.refl (Own.told-none 𝓤 H A (G12 .slots)) λ ρ m pf wa. Gives.elem-local 𝓤 H A W E ρ ExpectationElem.R (λ x. Steps.only (ExpectationElem.cp .vals x)) (ExpectationElem.cp .tells) (Row.out 5 (G12 .locals)) m (λ ρ. Unit) pf 12 ExpectationElem.ty (λ x. x) (Yields.yields-copy 𝓤 H A W (λ ρ. Unit) ExpectationElem.R Path'.refl (ExpectationElem.cp .copy 𝓤 H A W) ExpectationElem.here (λ x. x) (λ x. x) (λ ρ told. RLocal.mem-whole 𝓤 H A W ExpectationElem.R ρ) λ ρ told. RLocal.whole-mem 𝓤 H A W ExpectationElem.R ρ)) d56
 
           d58 : Typed.Typed 𝓤 H A 𝓣 E G11 b50 Δ0 (at58 bs)
-          d58 = Typed.s-seq 𝓤 H A W 𝓣 E G11 G12 b4 b49 Δ0 (Typed.both (s10 bs)) (at57 bs) (Plain.t-call-plain 𝓤 H A W 𝓣 0 ps·1 r·1 (claims· .2) (claims· .3) "listing::blank::blank_expectation" (known .1) E (λ pos β. β) G11 tt 12 List.[] (Call.sub-id 𝓤 H A W (G11 .slots)) tt (Reads.room-gone 𝓤 H A ExpectationElem.ty) tt Path'.refl) d57
+          d58 = Typed.s-seq 𝓤 H A W 𝓣 E G11 G12 b4 b49 Δ0 (Typed.both (s10 bs)) (at57 bs) (Plain.t-call-plain 𝓤 H A W 𝓣 0 ps·1 r·1 (claims· .2) (claims· .3) "blanks::blank_expectation" (known .1) E (λ pos β. β) G11 tt 12 List.[] (Call.sub-id 𝓤 H A W (G11 .slots)) tt (Reads.room-gone 𝓤 H A ExpectationElem.ty) tt Path'.refl) d57
 
           d59 : Typed.Typed 𝓤 H A 𝓣 E G10 b50 Δ0 (at59 bs)
           d59 = Typed.g-pre 𝓤 H A W 𝓣 E G10 G11 b50 Δ0 (Typed.pass T10 T11 (s9 bs)) (at58 bs) (RScalar.g-room 𝓤 H A W E G10 11 (Syntax.tyArray (Syntax.tyInt Syntax.w64) 2) (AInit.room-arr 𝓤 H A W (TReferent.rtF (TReferent.fInt Syntax.w64)) 2 0 2 Path'.refl)) d58
@@ -1580,7 +1580,7 @@ module _ (claims· : Claims) where
           d66 = Typed.s-seq 𝓤 H A W 𝓣 E G3 G4 b1 b52 Δ0 (Typed.pass T3 T4 (s2 bs)) (at65 bs) (Repeat.t-repeat-by 𝓤 H A W E 𝓣 EntryElem.R (EntryElem.lawful 𝓤 H A W) (EntryElem.cp .copy 𝓤 H A W) 256 G3 3 (RScalar.oAt 10 EntryElem.ty λ x. Steps.only (EntryElem.cp .vals x)) (λ m. m .1 .1 .1 .1 .1 .1 .1 .1 .1 .1 .0) (λ ρ. Unit) (Reads.room-gone 𝓤 H A (Syntax.tyArray EntryElem.ty 256)) (EntryElem.reads 𝓤 H A W, Path'.refl) Path'.refl (Own.told-none 𝓤 H A (G3 .slots)) λ ρ m pf wa. Gives.elem-local 𝓤 H A W E ρ EntryElem.R (λ x. Steps.only (EntryElem.cp .vals x)) (EntryElem.cp .tells) (Row.out 3 (G3 .locals)) m (λ ρ. Unit) pf 10 EntryElem.ty (λ x. x) (Yields.yields-copy 𝓤 H A W (λ ρ. Unit) EntryElem.R Path'.refl (EntryElem.cp .copy 𝓤 H A W) EntryElem.here (λ x. x) (λ x. x) (λ ρ told. RLocal.mem-whole 𝓤 H A W EntryElem.R ρ) λ ρ told. RLocal.whole-mem 𝓤 H A W EntryElem.R ρ)) d65
 
           d67 : Typed.Typed 𝓤 H A 𝓣 E G2 b54 Δ0 (at67 bs)
-          d67 = Typed.s-seq 𝓤 H A W 𝓣 E G2 G3 b0 b53 Δ0 (Typed.both (s1 bs)) (at66 bs) (Plain.t-call-plain 𝓤 H A W 𝓣 0 ps·0 r·0 (claims· .0) (claims· .1) "listing::blank::blank_entry" (known .0) E (λ pos β. β) G2 tt 10 List.[] (Call.sub-id 𝓤 H A W (G2 .slots)) tt (Reads.room-gone 𝓤 H A EntryElem.ty) tt Path'.refl) d66
+          d67 = Typed.s-seq 𝓤 H A W 𝓣 E G2 G3 b0 b53 Δ0 (Typed.both (s1 bs)) (at66 bs) (Plain.t-call-plain 𝓤 H A W 𝓣 0 ps·0 r·0 (claims· .0) (claims· .1) "blanks::blank_entry" (known .0) E (λ pos β. β) G2 tt 10 List.[] (Call.sub-id 𝓤 H A W (G2 .slots)) tt (Reads.room-gone 𝓤 H A EntryElem.ty) tt Path'.refl) d66
 
           d68 : Typed.Typed 𝓤 H A 𝓣 E G0 b54 Δ0 (at68 bs)
           d68 = Typed.g-pre 𝓤 H A W 𝓣 E G0 G2 b54 Δ0 (Typed.give (s0 bs)) (at67 bs) (Know.g-shs-known 𝓤 H A W (TReferent.fInt Syntax.w8) E G0 1 0 (Syntax.tyRef (Syntax.named 0) Syntax.imm (Syntax.tyInt Syntax.w8)) (Row.lease (κs .0) (qs .0)) 0 (λ x. x) record { fits = Dec'.lit< tt } (Reads.as-is 𝓤 H A (Rows'.sslice (TReferent.rtF (TReferent.fInt Syntax.w8)) (Syntax.tyRef (Syntax.named 0) Syntax.imm (Syntax.tyInt Syntax.w8)) 0)) Path'.refl tt) d67
@@ -2056,6 +2056,6 @@ module _ (claims· : Claims) where
           pub asked : (a : Kinds.Dens κs ps) → (good : Kinds.GoodsP κs ps a) → (pre : Pre· κs a) → (bs : List.List Nat.ℕ) → Φ bs (Any.wantQ 2 ps r xs m κs qs a (Post· κs a)) (Function.init 2 ps r xs m κs qs a)
           asked = λ a good pre bs. laid record { κs = κs; args = record { text = a .0; out = a .1 .0 }; blocks = bs; good = good; pre = pre }
 
-        module _ {M : Type 1} (𝓤 : URA.URA M) (H : Wp.Heap 𝓤) (A : Atoms.Atoms 𝓤) (W : Kit.Given 𝓤 H A) (𝓣 : Wp.Tables 𝓤 H) (known0 : Plain.Known 𝓤 H A W 𝓣 0 ps·0 r·0 (claims· .0) (claims· .1) "listing::blank::blank_entry") (known1 : Plain.Known 𝓤 H A W 𝓣 0 ps·1 r·1 (claims· .2) (claims· .3) "listing::blank::blank_expectation") (known2 : Plain.Known 𝓤 H A W 𝓣 5 ps·2 r·2 (claims· .4) (claims· .5) "read::reading::read") (known3 : Plain.Known 𝓤 H A W 𝓣 1 ps·3 r·3 (claims· .6) (claims· .7) "printed::lines::put_refusal") (known4 : Plain.Known 𝓤 H A W 𝓣 2 ps·4 r·4 (claims· .8) (claims· .9) "listing::whole::list_script") where
+        module _ {M : Type 1} (𝓤 : URA.URA M) (H : Wp.Heap 𝓤) (A : Atoms.Atoms 𝓤) (W : Kit.Given 𝓤 H A) (𝓣 : Wp.Tables 𝓤 H) (known0 : Plain.Known 𝓤 H A W 𝓣 0 ps·0 r·0 (claims· .0) (claims· .1) "blanks::blank_entry") (known1 : Plain.Known 𝓤 H A W 𝓣 0 ps·1 r·1 (claims· .2) (claims· .3) "blanks::blank_expectation") (known2 : Plain.Known 𝓤 H A W 𝓣 5 ps·2 r·2 (claims· .4) (claims· .5) "read::reading::read") (known3 : Plain.Known 𝓤 H A W 𝓣 1 ps·3 r·3 (claims· .6) (claims· .7) "printed::lines::put_refusal") (known4 : Plain.Known 𝓤 H A W 𝓣 2 ps·4 r·4 (claims· .8) (claims· .9) "listing::whole::list_script") where
           pub spec : Statement.Triple 𝓤 (Wp.WpFn 𝓤 H (𝓣 .C) (𝓣 .Λ) (Function.fnOf 2 ps r xs m hs body)) (Function.plainOf 𝓤 H A 2 ps r Pre· Post·)
           spec = Plain.t-fn-plain 𝓤 H A W 𝓣 2 ps r xs m hs body (λ κs qs bs. Φ bs) (λ κs qs bs bd. typed κs qs 𝓤 H A W 𝓣 (known0, known1, known2, known3, known4) bs bd) Pre· Post· asked

@@ -1,5 +1,4 @@
 -- `places::inside` meets its contract. Assumes nothing.
-use mathlib.Core.Path.{sym}
 use borrow.Author.Tests.{le-leb, lt-leb}
 use Rattle.verdicts.specs.Held.{inside}
 use Rattle.places.proofs.inside.Statement.{statement}

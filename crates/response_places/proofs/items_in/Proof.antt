@@ -1,7 +1,6 @@
 -- `response_places::items_in` meets its contract: what is still to be tested decides. Assumes nothing.
 use Prim.Native.Nat.{_+_, _-_, _≤_}
 use mathlib.Core.Path.{_≡_, refl, sym, _∙_}
-use native.Mathlib.Omega.{arith}
 use borrow.Author.Needs.{needs}
 use Rattle.places.proofs.InsideLaws.{ahead, begun, ended, next, stopped}
 use Rattle.response_places.proofs.items_in.Statement.{statement}

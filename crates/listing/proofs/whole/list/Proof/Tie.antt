@@ -2,12 +2,12 @@
 -- Assumes nothing.
 use Rattle.listing.proofs.Made.WholeListLts as Lts
 use Rattle.listing.proofs.Made.WholeListScriptReads as Reads'4
-use Rattle.listing.proofs.blank.blank_entry.Met
-use Rattle.listing.proofs.blank.blank_entry.Reads
-use Rattle.listing.proofs.blank.blank_entry.Symbol
-use Rattle.listing.proofs.blank.blank_expectation.Met as Met'
-use Rattle.listing.proofs.blank.blank_expectation.Reads as Reads'
-use Rattle.listing.proofs.blank.blank_expectation.Symbol as Symbol'
+use Rattle.blanks.proofs.blank_entry.Met
+use Rattle.blanks.proofs.blank_entry.Reads
+use Rattle.blanks.proofs.blank_entry.Symbol
+use Rattle.blanks.proofs.blank_expectation.Met as Met'
+use Rattle.blanks.proofs.blank_expectation.Reads as Reads'
+use Rattle.blanks.proofs.blank_expectation.Symbol as Symbol'
 use Rattle.printed.proofs.lines.put_refusal.Met as Met''
 use Rattle.printed.proofs.lines.put_refusal.Reads as Reads''
 use Rattle.printed.proofs.lines.put_refusal.Symbol as Symbol''
@@ -145,4 +145,4 @@ module _ {M : Type 1} where
 
   pub close : Lts.Closed (Reads.Asked, Reads.Learnt, Reads'.Asked, Reads'.Learnt, Reads'5.Asked, Reads'5.Learnt, Reads''.Asked, Reads''.Learnt, Reads'4.Asked, Reads'4.Learnt) Reads'3.Pre Reads'3.Post M → Statement.statement M
   unfolding Code.routine Running.tablesOf
-  close = λ closed 𝓤 H 𝓜 𝓖 𝓡. Written.close 2 Kinds.ps Kinds.r Reads'3.Ghost Reads'3.requires Reads'3.ensures Reads'3.pre-read Reads'3.Pinned Reads'3.Owned Reads'3.post-read record { M = M; 𝓤 = 𝓤; H = H; 𝓜 = 𝓜; 𝓖 = 𝓖; 𝓡 = 𝓡 } Code.env Key.name Code.function (Code.unfolded 𝓤 H 𝓜 𝓡) (λ κs a g. tt) (λ κs. Reads'3.owns κs record { M = M; 𝓤 = 𝓤; H = H; 𝓜 = 𝓜; 𝓖 = 𝓖; 𝓡 = 𝓡 }) (Reads'3.passes record { M = M; 𝓤 = 𝓤; H = H; 𝓜 = 𝓜; 𝓖 = 𝓖; 𝓡 = 𝓡 }) λ g. closed 𝓤 H (𝓖 .A) (Running.givenOf 𝓤 H 𝓜 𝓖) (Run.Over 𝓤 H 𝓜 𝓖 𝓡 Code.env) (Reads.known record { M = M; 𝓤 = 𝓤; H = H; 𝓜 = 𝓜; 𝓖 = 𝓖; 𝓡 = 𝓡 } Code.env Symbol.name Symbol.routine Code.calls-listing·blank·blank-entry (Met.met 𝓤 H 𝓜 𝓖 𝓡)) (Reads'.known record { M = M; 𝓤 = 𝓤; H = H; 𝓜 = 𝓜; 𝓖 = 𝓖; 𝓡 = 𝓡 } Code.env Symbol'.name Symbol'.routine Code.calls-listing·blank·blank-expectation (Met'.met 𝓤 H 𝓜 𝓖 𝓡)) (Reads'5.known record { M = M; 𝓤 = 𝓤; H = H; 𝓜 = 𝓜; 𝓖 = 𝓖; 𝓡 = 𝓡 } Code.env Symbol'4.name Symbol'4.routine Code.calls-read·reading·read (Met'4.met 𝓤 H 𝓜 𝓖 𝓡)) (Reads''.known record { M = M; 𝓤 = 𝓤; H = H; 𝓜 = 𝓜; 𝓖 = 𝓖; 𝓡 = 𝓡 } Code.env Symbol''.name Symbol''.routine Code.calls-printed·lines·put-refusal (Met''.met 𝓤 H 𝓜 𝓖 𝓡)) (Reads'4.known record { M = M; 𝓤 = 𝓤; H = H; 𝓜 = 𝓜; 𝓖 = 𝓖; 𝓡 = 𝓡 } Code.env Symbol'3.name Symbol'3.routine Code.calls-listing·whole·list-script (Met'3.met 𝓤 H 𝓜 𝓖 𝓡))
+  close = λ closed 𝓤 H 𝓜 𝓖 𝓡. Written.close 2 Kinds.ps Kinds.r Reads'3.Ghost Reads'3.requires Reads'3.ensures Reads'3.pre-read Reads'3.Pinned Reads'3.Owned Reads'3.post-read record { M = M; 𝓤 = 𝓤; H = H; 𝓜 = 𝓜; 𝓖 = 𝓖; 𝓡 = 𝓡 } Code.env Key.name Code.function (Code.unfolded 𝓤 H 𝓜 𝓡) (λ κs a g. tt) (λ κs. Reads'3.owns κs record { M = M; 𝓤 = 𝓤; H = H; 𝓜 = 𝓜; 𝓖 = 𝓖; 𝓡 = 𝓡 }) (Reads'3.passes record { M = M; 𝓤 = 𝓤; H = H; 𝓜 = 𝓜; 𝓖 = 𝓖; 𝓡 = 𝓡 }) λ g. closed 𝓤 H (𝓖 .A) (Running.givenOf 𝓤 H 𝓜 𝓖) (Run.Over 𝓤 H 𝓜 𝓖 𝓡 Code.env) (Reads.known record { M = M; 𝓤 = 𝓤; H = H; 𝓜 = 𝓜; 𝓖 = 𝓖; 𝓡 = 𝓡 } Code.env Symbol.name Symbol.routine Code.calls-blanks·blank-entry (Met.met 𝓤 H 𝓜 𝓖 𝓡)) (Reads'.known record { M = M; 𝓤 = 𝓤; H = H; 𝓜 = 𝓜; 𝓖 = 𝓖; 𝓡 = 𝓡 } Code.env Symbol'.name Symbol'.routine Code.calls-blanks·blank-expectation (Met'.met 𝓤 H 𝓜 𝓖 𝓡)) (Reads'5.known record { M = M; 𝓤 = 𝓤; H = H; 𝓜 = 𝓜; 𝓖 = 𝓖; 𝓡 = 𝓡 } Code.env Symbol'4.name Symbol'4.routine Code.calls-read·reading·read (Met'4.met 𝓤 H 𝓜 𝓖 𝓡)) (Reads''.known record { M = M; 𝓤 = 𝓤; H = H; 𝓜 = 𝓜; 𝓖 = 𝓖; 𝓡 = 𝓡 } Code.env Symbol''.name Symbol''.routine Code.calls-printed·lines·put-refusal (Met''.met 𝓤 H 𝓜 𝓖 𝓡)) (Reads'4.known record { M = M; 𝓤 = 𝓤; H = H; 𝓜 = 𝓜; 𝓖 = 𝓖; 𝓡 = 𝓡 } Code.env Symbol'3.name Symbol'3.routine Code.calls-listing·whole·list-script (Met'3.met 𝓤 H 𝓜 𝓖 𝓡))
