@@ -1,7 +1,7 @@
 -- Laws of the dump: how many bytes it has, and that it is written part by part. Assumes nothing.
 use Prim.Native.Nat.{ℕ, _+_, _*_, _≤_, _<_}
 use mathlib.Core.Path.{_≡_, refl, sym, ap, _∙_}
-use mathlib.Core.List.{List, [], _∷_, _++_, map, flatMap}
+use mathlib.Core.List.{List, [], _∷_, _++_, map, flatMap, append-assoc}
 use native.Mathlib.Nat.{zero-add}
 use native.Mathlib.Omega.{arith}
 use lib.ListN.{length, length-append}
@@ -15,7 +15,7 @@ use Rattle.read.specs.Read.{lentOf, scriptOr, tablesOr}
 use Rattle.script.specs.declared.records.Entry.{Entry}
 use Rattle.script.specs.declared.records.Expectation.{Expectation}
 use Rattle.script.specs.declared.records.Script.{Script}
-use Rattle.numbers.specs.Numbers.{bytesOf, lowBytes, inBytes, headNumbers, entryNumbers, itemNumbers, expectationNumbers}
+use Rattle.numbers.specs.Numbers.{bytesOf, lowBytes, inBytes, headNumbers, callNumbers, entryHead, entryNumbers, itemNumbers, expectationNumbers}
 use Rattle.dump.specs.Dump.{entryBytes, itemBytes, expectationBytes, dumpOf, dumpRead, dumpInto}
 use Rattle.numbers.proofs.NumberLaws.{head-count, entry-count, expectation-count}
 
@@ -42,6 +42,36 @@ module _ (ns ms : List ℕ) (e : ns ≡ ms) where
 
   pub numbers-put : (at : ℕ) (t u : List ℕ) → u ≡ writtenAt at (inBytes ns) t → u ≡ writtenAt at (inBytes ms) t
   numbers-put at t u h = rw e at h
+
+-- ---- an entry: its head, and behind it its call
+
+inBytes-append : (ns ms : List ℕ) → inBytes (ns ++ ms) ≡ inBytes ns ++ inBytes ms
+unfolding flatMap
+inBytes-append [] ms = refl
+inBytes-append (n ∷ ns) ms = ap (λ (l : List ℕ). bytesOf n ++ l) (inBytes-append ns ms) ∙ sym (append-assoc (bytesOf n) (inBytes ns) (inBytes ms))
+
+module _ (e : Entry) (hs ks : List ℕ) (p : hs ≡ entryHead e) (q : ks ≡ callNumbers (e .«op_call»)) (at : ℕ) (t : List ℕ) (h : at + length (entryBytes e) ≤ length t) where
+  entry-parts : entryBytes e ≡ inBytes hs ++ inBytes ks
+  unfolding entryNumbers
+  entry-parts = rw (p, q) (inBytes-append (entryHead e) (callNumbers (e .«op_call»)))
+
+  parts-size : length (entryBytes e) ≡ length (inBytes hs) + length (inBytes ks)
+  parts-size = ap length entry-parts ∙ length-append (inBytes hs) (inBytes ks)
+
+  pub head-fits : at + length (inBytes hs) ≤ length t
+  head-fits = omega (arith, parts-size)
+
+  module _ (u : List ℕ) (m : ℕ) (r : m ≡ at + length (inBytes hs)) (w : u ≡ writtenAt at (inBytes hs) t) where
+    pub call-fits : m + length (inBytes ks) ≤ length u
+    call-fits = rw (w, written-length at (inBytes hs) t head-fits) (omega (arith, parts-size, r))
+
+    pub entry-end : (n : ℕ) → n ≡ m + length (inBytes ks) → n ≡ at + length (entryBytes e)
+    entry-end n k = omega (arith, parts-size, r, k)
+
+    pub entry-put : (v : List ℕ) → v ≡ writtenAt m (inBytes ks) u → v ≡ writtenAt at (entryBytes e) t
+    entry-put v k = k ∙ rw (r, w, entry-parts) (written-twice at (inBytes hs) (inBytes ks) t (omega (arith, parts-size)))
+
+-- ---- sizes of the records
 
 -- the numbers of an answer
 pub head-size : (p : Parsed Script) → length (inBytes (headNumbers p)) ≡ 160

@@ -15,8 +15,11 @@ fn put_entry(out: &mut [u8], at: usize, e: Entry) -> usize
     ensures { λ r. ⌜ r ≡ at + length (entryBytes e) ⌝ }
     ensures { λ _. ⌜ now (out .exit) ≡ writtenAt at (entryBytes e) (now (out .entry)) ⌝ }
 {
-    let numbers = numbers::entries::entry_numbers(e);
-    numbers::bytes::put_numbers(out, at, &numbers)
+    let call = e.op_call;
+    let head = numbers::entries::entry_head(e);
+    let rest = numbers::entries::call_numbers(call);
+    let p = numbers::bytes::put_numbers(out, at, &head);
+    numbers::bytes::put_numbers(out, p, &rest)
 }
 
 // Writes the entries from a place on, and says where they end.

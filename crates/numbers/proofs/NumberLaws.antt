@@ -1,14 +1,15 @@
 -- Laws of the numbers of an operation, of an entry, of an expectation and of an answer. Assumes nothing.
-use Prim.Native.Nat.{ℕ, zero, suc, _+_, _<_}
+use Prim.Native.Nat.{ℕ, zero, suc, _+_, _≤_, _<_}
 use mathlib.Core.Path.{_≡_, refl, sym, ap, _∙_}
 use mathlib.Core.List.{List, [], _∷_, _++_}
 use mathlib.Core.Bool.{Bool}
+use mathlib.Core.Logic.{inl, inr}
 use native.Mathlib.Nat.{zero-add}
 use native.Mathlib.Omega.{arith}
 use lib.IntN.{ℤ}
 use lib.ListN.{length, getD, drop, drop-of-length-le, length-append}
 use lib.Seq.{drop-cons}
-use types.Run.{OneOf, miss}
+use types.Run.{OneOf}
 use denote.Enum.Declared.{tagOf}
 use Rattle.script.specs.declared.records.OpCall.{OpCall}
 use Rattle.script.specs.declared.records.OpCall.the-variants.{SinglePath, SingleString, PathSet, PathSetFlag, PathSetMode, NoArgs, SetOptions, CollectGarbage, VerifyStore, AddPermRoot, AddSignatures, AddTextToStore, AddToStore, AddMultipleToStore, AddBuildLog, RegisterDrvOutput, QueryRealisation, QuerySubstitutablePathInfo, QuerySubstitutablePathInfos, RawBytes}
@@ -33,7 +34,8 @@ use Rattle.script.specs.declared.records.Stamp.the-variants as Stamp
 use Rattle.script.specs.declared.records.Time.{Time}
 use Rattle.script.specs.Reading.{Parsed, refusedAt, read}
 use Rattle.wire.specs.declared.ops.Op.{Op}
-use Rattle.numbers.specs.Numbers.{padded, flag, unsigned, placeNumbers, itemsNumbers, stampNumbers, dataNumbers, caseOf, codeOf, fieldsOf, callNumbers, entryNumbers, matcherNumbers, expectNumbers, expectationNumbers, maybeNumbers, maybeItemsNumbers, countsNumbers, scriptNumbers, headNumbers}
+use Rattle.wire.specs.Operations.{operation}
+use Rattle.numbers.specs.Numbers.{padded, flag, unsigned, placeNumbers, itemsNumbers, stampNumbers, dataNumbers, callNumbers, entryHead, entryNumbers, matcherNumbers, expectNumbers, expectationNumbers, maybeNumbers, maybeItemsNumbers, countsNumbers, scriptNumbers, headNumbers}
 
 -- ---- an array, number by number
 
@@ -58,136 +60,89 @@ padded-length (suc n) (x ∷ xs) = ap suc (padded-length n xs)
 -- ---- the kinds of an operation
 
 -- by its tag
-case-tag : (c : OpCall) → caseOf c ≡ tagOf the-type c + 1
-unfolding caseOf
-case-tag (SinglePath op path) = refl
-case-tag (SingleString op value) = refl
-case-tag (PathSet op paths) = refl
-case-tag (PathSetFlag op paths substitute) = refl
-case-tag (PathSetMode op paths mode) = refl
-case-tag (NoArgs op) = refl
-case-tag (SetOptions o) = refl
-case-tag (CollectGarbage action paths ignore freed) = refl
-case-tag (VerifyStore check repair) = refl
-case-tag (AddPermRoot path root) = refl
-case-tag (AddSignatures path sigs) = refl
-case-tag (AddTextToStore suffix text refs) = refl
-case-tag (AddToStore name cam refs repair d) = refl
-case-tag (AddMultipleToStore repair unchecked d) = refl
-case-tag (AddBuildLog path d) = refl
-case-tag (RegisterDrvOutput value) = refl
-case-tag (QueryRealisation value) = refl
-case-tag (QuerySubstitutablePathInfo path) = refl
-case-tag (QuerySubstitutablePathInfos paths) = refl
-case-tag (RawBytes op d) = refl
+row-tag : (c : OpCall) → getD (callNumbers c) 0 0 ≡ tagOf the-type c + 1
+unfolding callNumbers padded
+row-tag (SinglePath op path) = refl
+row-tag (SingleString op value) = refl
+row-tag (PathSet op paths) = refl
+row-tag (PathSetFlag op paths substitute) = refl
+row-tag (PathSetMode op paths mode) = refl
+row-tag (NoArgs op) = refl
+row-tag (SetOptions o) = refl
+row-tag (CollectGarbage action paths ignore freed) = refl
+row-tag (VerifyStore check repair) = refl
+row-tag (AddPermRoot path root) = refl
+row-tag (AddSignatures path sigs) = refl
+row-tag (AddTextToStore suffix text refs) = refl
+row-tag (AddToStore name cam refs repair d) = refl
+row-tag (AddMultipleToStore repair unchecked d) = refl
+row-tag (AddBuildLog path d) = refl
+row-tag (RegisterDrvOutput value) = refl
+row-tag (QueryRealisation value) = refl
+row-tag (QuerySubstitutablePathInfo path) = refl
+row-tag (QuerySubstitutablePathInfos paths) = refl
+row-tag (RawBytes op d) = refl
 
-pub case-at : (c : OpCall) (k : ℕ) → tagOf the-type c ≡ k → k + 1 ≡ caseOf c
-case-at c k e = omega (arith, case-tag c)
+-- n numbers from a on
+abbrev pub run : (a n : ℕ) → List ℕ
+run a zero = []
+run a (suc n) = a ∷ run (suc a) n
 
--- the kinds of the last arm of `later_fields`, of `fields_of` and of `code_of`
-abbrev pub early : List ℕ
-early = 0 ∷ 1 ∷ 2 ∷ 3 ∷ 4 ∷ 5 ∷ 6 ∷ 7 ∷ 8 ∷ []
+in-run : (a n x : ℕ) → OneOf (run a (suc n)) x → (a ≤ x) × (x ≤ a + n)
+in-run a zero x h = (omega (arith, h), omega (arith, h))
+in-run a (suc n) x (inl h) = (omega (arith, h), omega (arith, h))
+in-run a (suc n) x (inr h) = let i = in-run (suc a) n x h in (omega (arith, i .0), omega (arith, i .1))
 
-abbrev pub late : List ℕ
-late = 9 ∷ 10 ∷ 11 ∷ 12 ∷ 13 ∷ 14 ∷ 15 ∷ 16 ∷ 17 ∷ 18 ∷ 19 ∷ []
+-- the last arm of `later_numbers` has the first nine kinds, that of `call_numbers` the others
+pub not-early : (c : OpCall) → 9 < getD (callNumbers c) 0 0 → OneOf (run 0 9) (tagOf the-type c) → (r : List ℕ) → r ≡ callNumbers c
+not-early c h k r = absurd (omega (arith, row-tag c, in-run 0 8 (tagOf the-type c) k .1))
 
-abbrev pub uncoded : List ℕ
-uncoded = 6 ∷ 7 ∷ 8 ∷ 9 ∷ 10 ∷ 11 ∷ 12 ∷ 13 ∷ 14 ∷ 15 ∷ 16 ∷ 17 ∷ 18 ∷ []
-
-pub not-early : (c : OpCall) → 9 < caseOf c → OneOf early (tagOf the-type c) → (r : List ℕ) → r ≡ padded 14 (fieldsOf c)
-unfolding caseOf
-not-early (SinglePath op path) h k r = absurd (omega arith)
-not-early (SingleString op value) h k r = absurd (omega arith)
-not-early (PathSet op paths) h k r = absurd (omega arith)
-not-early (PathSetFlag op paths substitute) h k r = absurd (omega arith)
-not-early (PathSetMode op paths mode) h k r = absurd (omega arith)
-not-early (NoArgs op) h k r = absurd (omega arith)
-not-early (SetOptions o) h k r = absurd (omega arith)
-not-early (CollectGarbage action paths ignore freed) h k r = absurd (omega arith)
-not-early (VerifyStore check repair) h k r = absurd (omega arith)
-not-early (AddPermRoot path root) h k r = absurd (miss early 9 tt k)
-not-early (AddSignatures path sigs) h k r = absurd (miss early 10 tt k)
-not-early (AddTextToStore suffix text refs) h k r = absurd (miss early 11 tt k)
-not-early (AddToStore name cam refs repair d) h k r = absurd (miss early 12 tt k)
-not-early (AddMultipleToStore repair unchecked d) h k r = absurd (miss early 13 tt k)
-not-early (AddBuildLog path d) h k r = absurd (miss early 14 tt k)
-not-early (RegisterDrvOutput value) h k r = absurd (miss early 15 tt k)
-not-early (QueryRealisation value) h k r = absurd (miss early 16 tt k)
-not-early (QuerySubstitutablePathInfo path) h k r = absurd (miss early 17 tt k)
-not-early (QuerySubstitutablePathInfos paths) h k r = absurd (miss early 18 tt k)
-not-early (RawBytes op d) h k r = absurd (miss early 19 tt k)
-
-pub is-late : (c : OpCall) → OneOf late (tagOf the-type c) → 9 < caseOf c
-unfolding caseOf
-is-late (SinglePath op path) k = absurd (miss late 0 tt k)
-is-late (SingleString op value) k = absurd (miss late 1 tt k)
-is-late (PathSet op paths) k = absurd (miss late 2 tt k)
-is-late (PathSetFlag op paths substitute) k = absurd (miss late 3 tt k)
-is-late (PathSetMode op paths mode) k = absurd (miss late 4 tt k)
-is-late (NoArgs op) k = absurd (miss late 5 tt k)
-is-late (SetOptions o) k = absurd (miss late 6 tt k)
-is-late (CollectGarbage action paths ignore freed) k = absurd (miss late 7 tt k)
-is-late (VerifyStore check repair) k = absurd (miss late 8 tt k)
-is-late (AddPermRoot path root) k = omega arith
-is-late (AddSignatures path sigs) k = omega arith
-is-late (AddTextToStore suffix text refs) k = omega arith
-is-late (AddToStore name cam refs repair d) k = omega arith
-is-late (AddMultipleToStore repair unchecked d) k = omega arith
-is-late (AddBuildLog path d) k = omega arith
-is-late (RegisterDrvOutput value) k = omega arith
-is-late (QueryRealisation value) k = omega arith
-is-late (QuerySubstitutablePathInfo path) k = omega arith
-is-late (QuerySubstitutablePathInfos paths) k = omega arith
-is-late (RawBytes op d) k = omega arith
-
-pub no-code : (c : OpCall) → OneOf uncoded (tagOf the-type c) → 0 ≡ codeOf c
-unfolding codeOf
-no-code (SinglePath op path) k = absurd (miss uncoded 0 tt k)
-no-code (SingleString op value) k = absurd (miss uncoded 1 tt k)
-no-code (PathSet op paths) k = absurd (miss uncoded 2 tt k)
-no-code (PathSetFlag op paths substitute) k = absurd (miss uncoded 3 tt k)
-no-code (PathSetMode op paths mode) k = absurd (miss uncoded 4 tt k)
-no-code (NoArgs op) k = absurd (miss uncoded 5 tt k)
-no-code (SetOptions o) k = refl
-no-code (CollectGarbage action paths ignore freed) k = refl
-no-code (VerifyStore check repair) k = refl
-no-code (AddPermRoot path root) k = refl
-no-code (AddSignatures path sigs) k = refl
-no-code (AddTextToStore suffix text refs) k = refl
-no-code (AddToStore name cam refs repair d) k = refl
-no-code (AddMultipleToStore repair unchecked d) k = refl
-no-code (AddBuildLog path d) k = refl
-no-code (RegisterDrvOutput value) k = refl
-no-code (QueryRealisation value) k = refl
-no-code (QuerySubstitutablePathInfo path) k = refl
-no-code (QuerySubstitutablePathInfos paths) k = refl
-no-code (RawBytes op d) k = absurd (miss uncoded 19 tt k)
+pub is-late : (c : OpCall) → OneOf (run 9 11) (tagOf the-type c) → 9 < getD (callNumbers c) 0 0
+is-late c k = omega (arith, row-tag c, in-run 9 10 (tagOf the-type c) k .0)
 
 -- c is an operation of a known kind
-module _ (c d : OpCall) (e : c ≡ d) where
-  pub code-by : (k : ℕ) → k ≡ codeOf d → k ≡ codeOf c
-  code-by k h = h ∙ ap codeOf (sym e)
-
-  pub fields-by : (r : List ℕ) → r ≡ padded 14 (fieldsOf d) → r ≡ padded 14 (fieldsOf c)
-  fields-by r h = h ∙ ap (λ (x : OpCall). padded 14 (fieldsOf x)) (sym e)
-
-pub call-is : (c : OpCall) (k o : ℕ) (f : List ℕ) → k ≡ caseOf c → o ≡ codeOf c → f ≡ padded 14 (fieldsOf c) → k ∷ o ∷ spread 0 14 f ≡ callNumbers c
-unfolding callNumbers
-call-is c k o f p q e = rw (p, q) (ap (λ (l : List ℕ). caseOf c ∷ codeOf c ∷ l) (spread-is 14 f (padded 14 (fieldsOf c)) e (padded-length 14 (fieldsOf c))))
+pub call-by : (c d : OpCall) → c ≡ d → (r : List ℕ) → r ≡ callNumbers d → r ≡ callNumbers c
+call-by c d e r h = h ∙ ap callNumbers (sym e)
 
 -- where a field is a flag
-module _ (c : OpCall) (r : List ℕ) where
-  pub flag-fields : (op : Op) (paths : Items) (b : Bool) (k : ℕ) → c ≡ PathSetFlag op paths b → k ≡ flag b → r ≡ padded 14 (itemsNumbers paths ++ (k ∷ 0 ∷ [])) → r ≡ padded 14 (fieldsOf c)
-  unfolding fieldsOf padded itemsNumbers
-  flag-fields op paths b k e q h = h ∙ rw (e, q)
+module _ (c : OpCall) (r : List ℕ) (a b : Bool) (k l : ℕ) (p : k ≡ flag a) (q : l ≡ flag b) where
+  pub verify-row : c ≡ VerifyStore a b → r ≡ padded 16 (9 ∷ 0 ∷ k ∷ l ∷ 0 ∷ 0 ∷ 0 ∷ 0 ∷ []) → r ≡ callNumbers c
+  unfolding callNumbers padded
+  verify-row e h = h ∙ rw (e, p, q)
 
-  pub verify-fields : (a b : Bool) (k l : ℕ) → c ≡ VerifyStore a b → k ≡ flag a → l ≡ flag b → r ≡ padded 14 (k ∷ l ∷ 0 ∷ 0 ∷ 0 ∷ 0 ∷ []) → r ≡ padded 14 (fieldsOf c)
-  unfolding fieldsOf padded
-  verify-fields a b k l e q s h = h ∙ rw (e, q, s)
+  pub multiple-row : (d : FramedData) → c ≡ AddMultipleToStore a b d → r ≡ padded 16 (14 ∷ 0 ∷ k ∷ l ∷ dataNumbers d) → r ≡ callNumbers c
+  unfolding callNumbers
+  multiple-row d e h = h ∙ rw (e, p, q)
 
-  pub multiple-fields : (a b : Bool) (d : FramedData) (k l : ℕ) → c ≡ AddMultipleToStore a b d → k ≡ flag a → l ≡ flag b → r ≡ padded 14 (k ∷ l ∷ dataNumbers d) → r ≡ padded 14 (fieldsOf c)
-  unfolding fieldsOf
-  multiple-fields a b d k l e q s h = h ∙ rw (e, q, s)
+-- where the record has the operation, k is its code
+module _ (c : OpCall) (r : List ℕ) (op : Op) (k : ℕ) (q : k ≡ operation op .code) where
+  pub path-row : (path : Place) → c ≡ SinglePath op path → r ≡ padded 16 (1 ∷ k ∷ placeNumbers path) → r ≡ callNumbers c
+  unfolding callNumbers
+  path-row path e h = h ∙ rw (e, q)
+
+  pub string-row : (value : Place) → c ≡ SingleString op value → r ≡ padded 16 (2 ∷ k ∷ placeNumbers value) → r ≡ callNumbers c
+  unfolding callNumbers
+  string-row value e h = h ∙ rw (e, q)
+
+  pub set-row : (paths : Items) → c ≡ PathSet op paths → r ≡ padded 16 (3 ∷ k ∷ itemsNumbers paths) → r ≡ callNumbers c
+  unfolding callNumbers
+  set-row paths e h = h ∙ rw (e, q)
+
+  pub flag-row : (paths : Items) (b : Bool) (l : ℕ) → l ≡ flag b → c ≡ PathSetFlag op paths b → r ≡ padded 16 ((4 ∷ k ∷ itemsNumbers paths) ++ (l ∷ 0 ∷ [])) → r ≡ callNumbers c
+  unfolding callNumbers padded itemsNumbers
+  flag-row paths b l p e h = h ∙ rw (e, p, q)
+
+  pub mode-row : (paths : Items) (mode : Place) → c ≡ PathSetMode op paths mode → r ≡ padded 16 ((5 ∷ k ∷ itemsNumbers paths) ++ placeNumbers mode) → r ≡ callNumbers c
+  unfolding callNumbers
+  mode-row paths mode e h = h ∙ rw (e, q)
+
+  pub bare-row : c ≡ NoArgs op → r ≡ padded 16 (6 ∷ k ∷ 0 ∷ 0 ∷ 0 ∷ 0 ∷ 0 ∷ 0 ∷ []) → r ≡ callNumbers c
+  unfolding callNumbers padded
+  bare-row e h = h ∙ rw (e, q)
+
+  pub raw-row : (d : Place) → c ≡ RawBytes op d → r ≡ padded 16 (20 ∷ k ∷ placeNumbers d) → r ≡ callNumbers c
+  unfolding callNumbers
+  raw-row d e h = h ∙ rw (e, q)
 
 -- ---- data
 
@@ -204,14 +159,14 @@ module _ (d : FramedData) (n : List ℕ) (e : n ≡ dataNumbers d) where
   three : spread 0 3 n ≡ dataNumbers d
   three = spread-is 3 n (dataNumbers d) e (data-three d)
 
-  pub data-few : (a b : ℕ) (r : List ℕ) → r ≡ padded 14 ((a ∷ b ∷ spread 0 3 n) ++ (0 ∷ [])) → r ≡ padded 14 (a ∷ b ∷ dataNumbers d)
+  pub data-few : (kind a b : ℕ) (r : List ℕ) → r ≡ padded 16 ((kind ∷ 0 ∷ a ∷ b ∷ spread 0 3 n) ++ (0 ∷ [])) → r ≡ padded 16 (kind ∷ 0 ∷ a ∷ b ∷ dataNumbers d)
   unfolding padded
-  data-few a b r h = h ∙ ap (λ (l : List ℕ). padded 14 (a ∷ b ∷ l)) three
+  data-few kind a b r h = h ∙ ap (λ (l : List ℕ). padded 16 (kind ∷ 0 ∷ a ∷ b ∷ l)) three
 
-  pub data-store : (name cam : Place) (refs : Items) (b : Bool) (k : ℕ) → k ≡ flag b
-      → placeNumbers name ++ placeNumbers cam ++ itemsNumbers refs ++ (k ∷ spread 0 3 n) ++ (0 ∷ 0 ∷ 0 ∷ 0 ∷ []) ≡ padded 14 (placeNumbers name ++ placeNumbers cam ++ itemsNumbers refs ++ (flag b ∷ dataNumbers d))
+  pub data-store : (kind : ℕ) (name cam : Place) (refs : Items) (b : Bool) (k : ℕ) → k ≡ flag b
+      → (kind ∷ 0 ∷ placeNumbers name) ++ placeNumbers cam ++ itemsNumbers refs ++ (k ∷ spread 0 3 n) ++ (0 ∷ 0 ∷ 0 ∷ 0 ∷ []) ≡ padded 16 ((kind ∷ 0 ∷ placeNumbers name) ++ placeNumbers cam ++ itemsNumbers refs ++ (flag b ∷ dataNumbers d))
   unfolding padded placeNumbers itemsNumbers
-  data-store name cam refs b k p = rw (p, ← three)
+  data-store kind name cam refs b k p = rw (p, ← three)
 
 -- ---- a timestamp, an entry
 
@@ -229,19 +184,35 @@ stamp-at s t k l e p q = rw (e, p, q)
 
 call-sixteen : (c : OpCall) → length (callNumbers c) ≡ 16
 unfolding callNumbers
-call-sixteen c = ap (λ (n : ℕ). suc (suc n)) (padded-length 14 (fieldsOf c))
+call-sixteen (SinglePath op path) = padded-length 16 _
+call-sixteen (SingleString op value) = padded-length 16 _
+call-sixteen (PathSet op paths) = padded-length 16 _
+call-sixteen (PathSetFlag op paths substitute) = padded-length 16 _
+call-sixteen (PathSetMode op paths mode) = padded-length 16 _
+call-sixteen (NoArgs op) = padded-length 16 _
+call-sixteen (SetOptions o) = padded-length 16 _
+call-sixteen (CollectGarbage action paths ignore freed) = padded-length 16 _
+call-sixteen (VerifyStore check repair) = padded-length 16 _
+call-sixteen (AddPermRoot path root) = padded-length 16 _
+call-sixteen (AddSignatures path sigs) = padded-length 16 _
+call-sixteen (AddTextToStore suffix text refs) = padded-length 16 _
+call-sixteen (AddToStore name cam refs repair d) = padded-length 16 _
+call-sixteen (AddMultipleToStore repair unchecked d) = padded-length 16 _
+call-sixteen (AddBuildLog path d) = padded-length 16 _
+call-sixteen (RegisterDrvOutput value) = padded-length 16 _
+call-sixteen (QueryRealisation value) = padded-length 16 _
+call-sixteen (QuerySubstitutablePathInfo path) = padded-length 16 _
+call-sixteen (QuerySubstitutablePathInfos paths) = padded-length 16 _
+call-sixteen (RawBytes op d) = padded-length 16 _
 
-pub entry-is : (e : Entry) (s k : List ℕ) → s ≡ stampNumbers (e .«timestamp_ms») → k ≡ callNumbers (e .«op_call»)
-    → (e .line ∷ spread 0 4 s) ++ itemsNumbers (e .expects) ++ spread 0 16 k ≡ entryNumbers e
-unfolding entryNumbers
-entry-is e s k p q =
-    ap (λ (l : List ℕ). (e .line ∷ l) ++ itemsNumbers (e .expects) ++ spread 0 16 k) (spread-is 4 s (stampNumbers (e .«timestamp_ms»)) p (stamp-four (e .«timestamp_ms»)))
-    ∙ ap (λ (l : List ℕ). (e .line ∷ stampNumbers (e .«timestamp_ms»)) ++ itemsNumbers (e .expects) ++ l) (spread-is 16 k (callNumbers (e .«op_call»)) q (call-sixteen (e .«op_call»)))
+pub head-is : (e : Entry) (s : List ℕ) → s ≡ stampNumbers (e .«timestamp_ms») → (e .line ∷ spread 0 4 s) ++ itemsNumbers (e .expects) ≡ entryHead e
+unfolding entryHead
+head-is e s p = ap (λ (l : List ℕ). (e .line ∷ l) ++ itemsNumbers (e .expects)) (spread-is 4 s (stampNumbers (e .«timestamp_ms»)) p (stamp-four (e .«timestamp_ms»)))
 
 pub entry-count : (e : Entry) → length (entryNumbers e) ≡ 23
-unfolding entryNumbers itemsNumbers
+unfolding entryNumbers entryHead itemsNumbers
 entry-count e =
-    length-append ((e .line ∷ stampNumbers (e .«timestamp_ms»)) ++ itemsNumbers (e .expects)) (callNumbers (e .«op_call»))
+    length-append (entryHead e) (callNumbers (e .«op_call»))
     ∙ rw (length-append (stampNumbers (e .«timestamp_ms»)) (itemsNumbers (e .expects)), stamp-four (e .«timestamp_ms»), call-sixteen (e .«op_call»))
 
 -- ---- an expectation

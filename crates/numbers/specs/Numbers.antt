@@ -90,80 +90,35 @@ optionsNumbers o =
     ∷ o .«use_substitutes»
     ∷ itemsNumbers (o .overrides)
 
--- the kind of the operation, in the order of the declaration
-unfoldable pub caseOf : OpCall → ℕ
-caseOf (SinglePath op path) = 1
-caseOf (SingleString op value) = 2
-caseOf (PathSet op paths) = 3
-caseOf (PathSetFlag op paths substitute) = 4
-caseOf (PathSetMode op paths mode) = 5
-caseOf (NoArgs op) = 6
-caseOf (SetOptions o) = 7
-caseOf (CollectGarbage action paths ignore freed) = 8
-caseOf (VerifyStore check repair) = 9
-caseOf (AddPermRoot path root) = 10
-caseOf (AddSignatures path sigs) = 11
-caseOf (AddTextToStore suffix text refs) = 12
-caseOf (AddToStore name cam refs repair d) = 13
-caseOf (AddMultipleToStore repair unchecked d) = 14
-caseOf (AddBuildLog path d) = 15
-caseOf (RegisterDrvOutput value) = 16
-caseOf (QueryRealisation value) = 17
-caseOf (QuerySubstitutablePathInfo path) = 18
-caseOf (QuerySubstitutablePathInfos paths) = 19
-caseOf (RawBytes op d) = 20
-
--- the code of the operation where the record has one, else 0
-unfoldable pub codeOf : OpCall → ℕ
-codeOf (SinglePath op path) = operation op .code
-codeOf (SingleString op value) = operation op .code
-codeOf (PathSet op paths) = operation op .code
-codeOf (PathSetFlag op paths substitute) = operation op .code
-codeOf (PathSetMode op paths mode) = operation op .code
-codeOf (NoArgs op) = operation op .code
-codeOf (SetOptions o) = 0
-codeOf (CollectGarbage action paths ignore freed) = 0
-codeOf (VerifyStore check repair) = 0
-codeOf (AddPermRoot path root) = 0
-codeOf (AddSignatures path sigs) = 0
-codeOf (AddTextToStore suffix text refs) = 0
-codeOf (AddToStore name cam refs repair d) = 0
-codeOf (AddMultipleToStore repair unchecked d) = 0
-codeOf (AddBuildLog path d) = 0
-codeOf (RegisterDrvOutput value) = 0
-codeOf (QueryRealisation value) = 0
-codeOf (QuerySubstitutablePathInfo path) = 0
-codeOf (QuerySubstitutablePathInfos paths) = 0
-codeOf (RawBytes op d) = operation op .code
-
--- the other fields, in the order of the declaration
-unfoldable pub fieldsOf : OpCall → List ℕ
-fieldsOf (SinglePath op path) = placeNumbers path
-fieldsOf (SingleString op value) = placeNumbers value
-fieldsOf (PathSet op paths) = itemsNumbers paths
-fieldsOf (PathSetFlag op paths substitute) = itemsNumbers paths ++ (flag substitute ∷ [])
-fieldsOf (PathSetMode op paths mode) = itemsNumbers paths ++ placeNumbers mode
-fieldsOf (NoArgs op) = []
-fieldsOf (SetOptions o) = optionsNumbers o
-fieldsOf (CollectGarbage action paths ignore freed) = (action ∷ itemsNumbers paths) ++ (ignore ∷ freed ∷ [])
-fieldsOf (VerifyStore check repair) = flag check ∷ flag repair ∷ []
-fieldsOf (AddPermRoot path root) = placeNumbers path ++ placeNumbers root
-fieldsOf (AddSignatures path sigs) = placeNumbers path ++ itemsNumbers sigs
-fieldsOf (AddTextToStore suffix text refs) = placeNumbers suffix ++ placeNumbers text ++ itemsNumbers refs
-fieldsOf (AddToStore name cam refs repair d) = placeNumbers name ++ placeNumbers cam ++ itemsNumbers refs ++ (flag repair ∷ dataNumbers d)
-fieldsOf (AddMultipleToStore repair unchecked d) = flag repair ∷ flag unchecked ∷ dataNumbers d
-fieldsOf (AddBuildLog path d) = placeNumbers path ++ dataNumbers d
-fieldsOf (RegisterDrvOutput value) = placeNumbers value
-fieldsOf (QueryRealisation value) = placeNumbers value
-fieldsOf (QuerySubstitutablePathInfo path) = placeNumbers path
-fieldsOf (QuerySubstitutablePathInfos paths) = itemsNumbers paths
-fieldsOf (RawBytes op d) = placeNumbers d
-
+-- the kind of the operation in the order of the declaration, its code where the record has one, else 0, and the other fields
 unfoldable pub callNumbers : OpCall → List ℕ
-callNumbers c = caseOf c ∷ codeOf c ∷ padded 14 (fieldsOf c)
+callNumbers (SinglePath op path) = padded 16 (1 ∷ operation op .code ∷ placeNumbers path)
+callNumbers (SingleString op value) = padded 16 (2 ∷ operation op .code ∷ placeNumbers value)
+callNumbers (PathSet op paths) = padded 16 (3 ∷ operation op .code ∷ itemsNumbers paths)
+callNumbers (PathSetFlag op paths substitute) = padded 16 ((4 ∷ operation op .code ∷ itemsNumbers paths) ++ (flag substitute ∷ []))
+callNumbers (PathSetMode op paths mode) = padded 16 ((5 ∷ operation op .code ∷ itemsNumbers paths) ++ placeNumbers mode)
+callNumbers (NoArgs op) = padded 16 (6 ∷ operation op .code ∷ [])
+callNumbers (SetOptions o) = padded 16 (7 ∷ 0 ∷ optionsNumbers o)
+callNumbers (CollectGarbage action paths ignore freed) = padded 16 ((8 ∷ 0 ∷ action ∷ itemsNumbers paths) ++ (ignore ∷ freed ∷ []))
+callNumbers (VerifyStore check repair) = padded 16 (9 ∷ 0 ∷ flag check ∷ flag repair ∷ [])
+callNumbers (AddPermRoot path root) = padded 16 ((10 ∷ 0 ∷ placeNumbers path) ++ placeNumbers root)
+callNumbers (AddSignatures path sigs) = padded 16 ((11 ∷ 0 ∷ placeNumbers path) ++ itemsNumbers sigs)
+callNumbers (AddTextToStore suffix text refs) = padded 16 ((12 ∷ 0 ∷ placeNumbers suffix) ++ placeNumbers text ++ itemsNumbers refs)
+callNumbers (AddToStore name cam refs repair d) = padded 16 ((13 ∷ 0 ∷ placeNumbers name) ++ placeNumbers cam ++ itemsNumbers refs ++ (flag repair ∷ dataNumbers d))
+callNumbers (AddMultipleToStore repair unchecked d) = padded 16 (14 ∷ 0 ∷ flag repair ∷ flag unchecked ∷ dataNumbers d)
+callNumbers (AddBuildLog path d) = padded 16 ((15 ∷ 0 ∷ placeNumbers path) ++ dataNumbers d)
+callNumbers (RegisterDrvOutput value) = padded 16 (16 ∷ 0 ∷ placeNumbers value)
+callNumbers (QueryRealisation value) = padded 16 (17 ∷ 0 ∷ placeNumbers value)
+callNumbers (QuerySubstitutablePathInfo path) = padded 16 (18 ∷ 0 ∷ placeNumbers path)
+callNumbers (QuerySubstitutablePathInfos paths) = padded 16 (19 ∷ 0 ∷ itemsNumbers paths)
+callNumbers (RawBytes op d) = padded 16 (20 ∷ operation op .code ∷ placeNumbers d)
+
+-- what stands in front of the call
+unfoldable pub entryHead : Entry → List ℕ
+entryHead e = (e .line ∷ stampNumbers (e .«timestamp_ms»)) ++ itemsNumbers (e .expects)
 
 unfoldable pub entryNumbers : Entry → List ℕ
-entryNumbers e = (e .line ∷ stampNumbers (e .«timestamp_ms»)) ++ itemsNumbers (e .expects) ++ callNumbers (e .«op_call»)
+entryNumbers e = entryHead e ++ callNumbers (e .«op_call»)
 
 -- ---- an item, 2 numbers
 

@@ -2,8 +2,9 @@
 ghost use mathlib.Core.Path.{_≡_};
 ghost use mathlib.Core.List.{[], _∷_, _++_};
 ghost use Prim.Native.Nat.{_<_};
+ghost use lib.ListN.{getD};
 ghost use Rattle.numbers.specs.Numbers as Numbers;
-ghost use Rattle.numbers.specs.Numbers.{padded, placeNumbers, itemsNumbers, stampNumbers, dataNumbers, optionsNumbers, caseOf, codeOf, fieldsOf, callNumbers, entryNumbers};
+ghost use Rattle.numbers.specs.Numbers.{padded, placeNumbers, itemsNumbers, stampNumbers, dataNumbers, optionsNumbers, callNumbers, entryHead};
 use crate::bytes::flag;
 use crate::bytes::unsigned;
 use script::records::Entry;
@@ -33,87 +34,45 @@ fn data_numbers(d: FramedData) -> [u64; 3]
     }
 }
 
-// The kind of an operation, in the order of the declaration.
-fn case_of(c: OpCall) -> u64
-    ensures { λ r. ⌜ r ≡ caseOf c ⌝ }
+// The kind, the code, a few numbers, and zeros behind them.
+fn few(kind: u64, code: u64, a: u64, b: u64, c: u64, d: u64, e: u64, f: u64) -> [u64; 16]
+    ensures { λ r. ⌜ r ≡ padded 16 (kind ∷ code ∷ a ∷ b ∷ c ∷ d ∷ e ∷ f ∷ []) ⌝ }
 {
-    match c {
-        OpCall::SinglePath { .. } => 1,
-        OpCall::SingleString { .. } => 2,
-        OpCall::PathSet { .. } => 3,
-        OpCall::PathSetFlag { .. } => 4,
-        OpCall::PathSetMode { .. } => 5,
-        OpCall::NoArgs { .. } => 6,
-        OpCall::SetOptions(_) => 7,
-        OpCall::CollectGarbage { .. } => 8,
-        OpCall::VerifyStore { .. } => 9,
-        OpCall::AddPermRoot { .. } => 10,
-        OpCall::AddSignatures { .. } => 11,
-        OpCall::AddTextToStore { .. } => 12,
-        OpCall::AddToStore { .. } => 13,
-        OpCall::AddMultipleToStore { .. } => 14,
-        OpCall::AddBuildLog { .. } => 15,
-        OpCall::RegisterDrvOutput { .. } => 16,
-        OpCall::QueryRealisation { .. } => 17,
-        OpCall::QuerySubstitutablePathInfo { .. } => 18,
-        OpCall::QuerySubstitutablePathInfos { .. } => 19,
-        OpCall::RawBytes { .. } => 20,
-    }
+    [kind, code, a, b, c, d, e, f, 0, 0, 0, 0, 0, 0, 0, 0]
 }
 
-// The code of an operation where the record has one, else 0.
-fn code_of(c: OpCall) -> u64
-    ensures { λ r. ⌜ r ≡ codeOf c ⌝ }
+fn place_fields(kind: u64, code: u64, p: Place) -> [u64; 16]
+    ensures { λ r. ⌜ r ≡ padded 16 (kind ∷ code ∷ placeNumbers p) ⌝ }
 {
-    match c {
-        OpCall::SinglePath { op, .. } => Op::code(op),
-        OpCall::SingleString { op, .. } => Op::code(op),
-        OpCall::PathSet { op, .. } => Op::code(op),
-        OpCall::PathSetFlag { op, .. } => Op::code(op),
-        OpCall::PathSetMode { op, .. } => Op::code(op),
-        OpCall::NoArgs { op } => Op::code(op),
-        OpCall::RawBytes { op, .. } => Op::code(op),
-        _ => 0,
-    }
+    few(kind, code, p.start as u64, p.len as u64, 0, 0, 0, 0)
 }
 
-// A few numbers, and zeros behind them.
-fn few(a: u64, b: u64, c: u64, d: u64, e: u64, f: u64) -> [u64; 14]
-    ensures { λ r. ⌜ r ≡ padded 14 (a ∷ b ∷ c ∷ d ∷ e ∷ f ∷ []) ⌝ }
+fn items_fields(kind: u64, code: u64, i: Items) -> [u64; 16]
+    ensures { λ r. ⌜ r ≡ padded 16 (kind ∷ code ∷ itemsNumbers i) ⌝ }
 {
-    [a, b, c, d, e, f, 0, 0, 0, 0, 0, 0, 0, 0]
-}
-
-fn place_fields(p: Place) -> [u64; 14]
-    ensures { λ r. ⌜ r ≡ padded 14 (placeNumbers p) ⌝ }
-{
-    few(p.start as u64, p.len as u64, 0, 0, 0, 0)
-}
-
-fn items_fields(i: Items) -> [u64; 14]
-    ensures { λ r. ⌜ r ≡ padded 14 (itemsNumbers i) ⌝ }
-{
-    few(i.first as u64, i.count as u64, 0, 0, 0, 0)
+    few(kind, code, i.first as u64, i.count as u64, 0, 0, 0, 0)
 }
 
 // A range and two more numbers.
-fn range_fields(i: Items, a: u64, b: u64) -> [u64; 14]
-    ensures { λ r. ⌜ r ≡ padded 14 (itemsNumbers i ++ (a ∷ b ∷ [])) ⌝ }
+fn range_fields(kind: u64, code: u64, i: Items, a: u64, b: u64) -> [u64; 16]
+    ensures { λ r. ⌜ r ≡ padded 16 ((kind ∷ code ∷ itemsNumbers i) ++ (a ∷ b ∷ [])) ⌝ }
 {
-    few(i.first as u64, i.count as u64, a, b, 0, 0)
+    few(kind, code, i.first as u64, i.count as u64, a, b, 0, 0)
 }
 
 // A place and two more numbers.
-fn pair_fields(p: Place, a: u64, b: u64) -> [u64; 14]
-    ensures { λ r. ⌜ r ≡ padded 14 (placeNumbers p ++ (a ∷ b ∷ [])) ⌝ }
+fn pair_fields(kind: u64, p: Place, a: u64, b: u64) -> [u64; 16]
+    ensures { λ r. ⌜ r ≡ padded 16 ((kind ∷ 0 ∷ placeNumbers p) ++ (a ∷ b ∷ [])) ⌝ }
 {
-    few(p.start as u64, p.len as u64, a, b, 0, 0)
+    few(kind, 0, p.start as u64, p.len as u64, a, b, 0, 0)
 }
 
-fn text_fields(suffix: Place, text: Place, refs: Items) -> [u64; 14]
-    ensures { λ r. ⌜ r ≡ padded 14 (placeNumbers suffix ++ placeNumbers text ++ itemsNumbers refs) ⌝ }
+fn text_fields(kind: u64, suffix: Place, text: Place, refs: Items) -> [u64; 16]
+    ensures { λ r. ⌜ r ≡ padded 16 ((kind ∷ 0 ∷ placeNumbers suffix) ++ placeNumbers text ++ itemsNumbers refs) ⌝ }
 {
     few(
+        kind,
+        0,
         suffix.start as u64,
         suffix.len as u64,
         text.start as u64,
@@ -124,16 +83,19 @@ fn text_fields(suffix: Place, text: Place, refs: Items) -> [u64; 14]
 }
 
 fn store_fields(
+    kind: u64,
     name: Place,
     cam_str: Place,
     refs: Items,
     repair: bool,
     data: FramedData,
-) -> [u64; 14]
-    ensures { λ r. ⌜ r ≡ padded 14 (placeNumbers name ++ placeNumbers «cam_str» ++ itemsNumbers refs ++ (Numbers.flag repair ∷ dataNumbers «data»)) ⌝ }
+) -> [u64; 16]
+    ensures { λ r. ⌜ r ≡ padded 16 ((kind ∷ 0 ∷ placeNumbers name) ++ placeNumbers «cam_str» ++ itemsNumbers refs ++ (Numbers.flag repair ∷ dataNumbers «data»)) ⌝ }
 {
     let d = data_numbers(data);
     [
+        kind,
+        0,
         name.start as u64,
         name.len as u64,
         cam_str.start as u64,
@@ -152,18 +114,20 @@ fn store_fields(
 }
 
 // Two numbers and data.
-fn data_fields(a: u64, b: u64, data: FramedData) -> [u64; 14]
-    ensures { λ r. ⌜ r ≡ padded 14 (a ∷ b ∷ dataNumbers «data») ⌝ }
+fn data_fields(kind: u64, a: u64, b: u64, data: FramedData) -> [u64; 16]
+    ensures { λ r. ⌜ r ≡ padded 16 (kind ∷ 0 ∷ a ∷ b ∷ dataNumbers «data») ⌝ }
 {
     let d = data_numbers(data);
-    few(a, b, d[0], d[1], d[2], 0)
+    few(kind, 0, a, b, d[0], d[1], d[2], 0)
 }
 
-fn options_fields(o: Options) -> [u64; 14]
-    ensures { λ r. ⌜ r ≡ optionsNumbers o ⌝ }
+fn options_fields(kind: u64, o: Options) -> [u64; 16]
+    ensures { λ r. ⌜ r ≡ padded 16 (kind ∷ 0 ∷ optionsNumbers o) ⌝ }
 {
     let overrides = o.overrides;
     [
+        kind,
+        0,
         o.keep_failed,
         o.keep_going,
         o.try_fallback,
@@ -181,71 +145,82 @@ fn options_fields(o: Options) -> [u64; 14]
     ]
 }
 
-// The other fields of the kinds from the tenth on.
-fn later_fields(c: OpCall) -> [u64; 14]
-    requires { ⌜ 9 < caseOf c ⌝ }
-    ensures { λ r. ⌜ r ≡ padded 14 (fieldsOf c) ⌝ }
+// The numbers of the kinds from the tenth on.
+fn later_numbers(c: OpCall) -> [u64; 16]
+    requires { ⌜ 9 < getD (callNumbers c) 0 0 ⌝ }
+    ensures { λ r. ⌜ r ≡ callNumbers c ⌝ }
 {
     match c {
         OpCall::AddPermRoot { path, gc_root } => pair_fields(
+            10,
             path,
             gc_root.start as u64,
             gc_root.len as u64,
         ),
         OpCall::AddSignatures { path, sigs } => pair_fields(
+            11,
             path,
             sigs.first as u64,
             sigs.count as u64,
         ),
-        OpCall::AddTextToStore { suffix, text, refs } => text_fields(suffix, text, refs),
+        OpCall::AddTextToStore { suffix, text, refs } => text_fields(12, suffix, text, refs),
         OpCall::AddToStore {
             name,
             cam_str,
             refs,
             repair,
             data,
-        } => store_fields(name, cam_str, refs, repair, data),
+        } => store_fields(13, name, cam_str, refs, repair, data),
         OpCall::AddMultipleToStore {
             repair,
             dont_check_sigs,
             data,
-        } => data_fields(flag(repair), flag(dont_check_sigs), data),
-        OpCall::AddBuildLog { path, data } => data_fields(path.start as u64, path.len as u64, data),
-        OpCall::RegisterDrvOutput { value } => place_fields(value),
-        OpCall::QueryRealisation { value } => place_fields(value),
-        OpCall::QuerySubstitutablePathInfo { path } => place_fields(path),
-        OpCall::QuerySubstitutablePathInfos { paths } => items_fields(paths),
-        OpCall::RawBytes { data, .. } => place_fields(data),
-        _ => few(0, 0, 0, 0, 0, 0),
+        } => data_fields(14, flag(repair), flag(dont_check_sigs), data),
+        OpCall::AddBuildLog { path, data } => data_fields(
+            15,
+            path.start as u64,
+            path.len as u64,
+            data,
+        ),
+        OpCall::RegisterDrvOutput { value } => place_fields(16, 0, value),
+        OpCall::QueryRealisation { value } => place_fields(17, 0, value),
+        OpCall::QuerySubstitutablePathInfo { path } => place_fields(18, 0, path),
+        OpCall::QuerySubstitutablePathInfos { paths } => items_fields(19, 0, paths),
+        OpCall::RawBytes { op, data } => place_fields(20, Op::code(op), data),
+        _ => few(0, 0, 0, 0, 0, 0, 0, 0),
     }
 }
 
-// The other fields.
-fn fields_of(c: OpCall) -> [u64; 14]
-    ensures { λ r. ⌜ r ≡ padded 14 (fieldsOf c) ⌝ }
+// The kind, the code where the record has one, else 0, and the other fields.
+pub fn call_numbers(c: OpCall) -> [u64; 16]
+    ensures { λ r. ⌜ r ≡ callNumbers c ⌝ }
 {
     match c {
-        OpCall::SinglePath { path, .. } => place_fields(path),
-        OpCall::SingleString { value, .. } => place_fields(value),
-        OpCall::PathSet { paths, .. } => items_fields(paths),
+        OpCall::SinglePath { op, path } => place_fields(1, Op::code(op), path),
+        OpCall::SingleString { op, value } => place_fields(2, Op::code(op), value),
+        OpCall::PathSet { op, paths } => items_fields(3, Op::code(op), paths),
         OpCall::PathSetFlag {
+            op,
             paths,
             substitute,
-            ..
-        } => range_fields(paths, flag(substitute), 0),
-        OpCall::PathSetMode { paths, mode, .. } => range_fields(
+        } => range_fields(4, Op::code(op), paths, flag(substitute), 0),
+        OpCall::PathSetMode { op, paths, mode } => range_fields(
+            5,
+            Op::code(op),
             paths,
             mode.start as u64,
             mode.len as u64,
         ),
-        OpCall::NoArgs { .. } => few(0, 0, 0, 0, 0, 0),
-        OpCall::SetOptions(o) => options_fields(o),
+        OpCall::NoArgs { op } => few(6, Op::code(op), 0, 0, 0, 0, 0, 0),
+        OpCall::SetOptions(o) => options_fields(7, o),
         OpCall::CollectGarbage {
             action,
             paths,
             ignore_liveness,
             max_freed,
         } => few(
+            8,
+            0,
             action,
             paths.first as u64,
             paths.count as u64,
@@ -256,44 +231,18 @@ fn fields_of(c: OpCall) -> [u64; 14]
         OpCall::VerifyStore {
             check_contents,
             repair,
-        } => few(flag(check_contents), flag(repair), 0, 0, 0, 0),
-        _ => later_fields(c),
+        } => few(9, 0, flag(check_contents), flag(repair), 0, 0, 0, 0),
+        _ => later_numbers(c),
     }
 }
 
-// The kind, the code, and the other fields.
-pub fn call_numbers(c: OpCall) -> [u64; 16]
-    ensures { λ r. ⌜ r ≡ callNumbers c ⌝ }
-{
-    let f = fields_of(c);
-    [
-        case_of(c),
-        code_of(c),
-        f[0],
-        f[1],
-        f[2],
-        f[3],
-        f[4],
-        f[5],
-        f[6],
-        f[7],
-        f[8],
-        f[9],
-        f[10],
-        f[11],
-        f[12],
-        f[13],
-    ]
-}
-
-pub fn entry_numbers(e: Entry) -> [u64; 23]
-    ensures { λ r. ⌜ r ≡ entryNumbers e ⌝ }
+// What stands in front of the call: the line, the timestamp, the range of expectations.
+pub fn entry_head(e: Entry) -> [u64; 7]
+    ensures { λ r. ⌜ r ≡ entryHead e ⌝ }
 {
     let stamp = e.timestamp_ms;
-    let call = e.op_call;
     let x = e.expects;
     let s = stamp_numbers(stamp);
-    let k = call_numbers(call);
     [
         e.line as u64,
         s[0],
@@ -302,21 +251,5 @@ pub fn entry_numbers(e: Entry) -> [u64; 23]
         s[3],
         x.first as u64,
         x.count as u64,
-        k[0],
-        k[1],
-        k[2],
-        k[3],
-        k[4],
-        k[5],
-        k[6],
-        k[7],
-        k[8],
-        k[9],
-        k[10],
-        k[11],
-        k[12],
-        k[13],
-        k[14],
-        k[15],
     ]
 }

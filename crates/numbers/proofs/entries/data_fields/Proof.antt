@@ -20,7 +20,7 @@ few-requires : tie.Need-few-requires
 few-requires c κs = search needs
 
 returns : tie.Need-returns
-returns c = data-few _ _ (c .before .data-numbers .ensures) _ _ _ (c .few .ensures)
+returns c = data-few _ _ (c .before .data-numbers .ensures) _ _ _ _ (c .few .ensures)
 
 pub data-fields-spec : {M : Type 1} → statement M
 data-fields-spec =

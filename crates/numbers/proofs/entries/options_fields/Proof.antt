@@ -1,11 +1,11 @@
 -- `numbers::entries::options_fields` meets its contract. Assumes nothing.
-use Rattle.numbers.specs.Numbers.{optionsNumbers, itemsNumbers}
+use Rattle.numbers.specs.Numbers.{padded, optionsNumbers, itemsNumbers}
 use borrow.Author.Needs.{needs}
 use Rattle.numbers.proofs.entries.options_fields.Statement.{statement}
 use Rattle.numbers.proofs.entries.options_fields.Tie as tie
 
 returns : tie.Need-returns
-unfolding optionsNumbers itemsNumbers
+unfolding padded optionsNumbers itemsNumbers
 returns c = search needs
 
 pub options-fields-spec : {M : Type 1} → statement M

@@ -11,18 +11,18 @@ data-numbers-requires c κs = search needs
 flag-requires : tie.Need-flag-requires
 flag-requires c κs = search needs
 
-array-read-t17 : tie.Need-array-read-t17
-array-read-t17 c = search needs
+array-read-t18 : tie.Need-array-read-t18
+array-read-t18 c = search needs
 
-array-read-t20 : tie.Need-array-read-t20
-array-read-t20 c = search needs
+array-read-t21 : tie.Need-array-read-t21
+array-read-t21 c = search needs
 
-array-read-t23 : tie.Need-array-read-t23
-array-read-t23 c = search needs
+array-read-t24 : tie.Need-array-read-t24
+array-read-t24 c = search needs
 
 returns : tie.Need-returns
 unfolding placeNumbers itemsNumbers
-returns c = data-store _ _ (c .before .data-numbers .ensures) _ _ _ _ _ (c .flag .ensures)
+returns c = data-store _ _ (c .before .data-numbers .ensures) _ _ _ _ _ _ (c .flag .ensures)
 
 pub store-fields-spec : {M : Type 1} → statement M
 store-fields-spec =
@@ -30,7 +30,7 @@ store-fields-spec =
     (tie.spec
     data-numbers-requires
     flag-requires
-    array-read-t17
-    array-read-t20
-    array-read-t23
+    array-read-t18
+    array-read-t21
+    array-read-t24
     returns)

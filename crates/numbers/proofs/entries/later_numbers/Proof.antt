@@ -1,9 +1,9 @@
--- `numbers::entries::later_fields` meets its contract. Assumes nothing.
-use Rattle.numbers.specs.Numbers.{padded, placeNumbers, itemsNumbers, fieldsOf}
-use Rattle.numbers.proofs.NumberLaws.{fields-by, multiple-fields, not-early}
+-- `numbers::entries::later_numbers` meets its contract. Assumes nothing.
+use Rattle.numbers.specs.Numbers.{padded, placeNumbers, itemsNumbers, callNumbers}
+use Rattle.numbers.proofs.NumberLaws.{call-by, multiple-row, raw-row, not-early}
 use borrow.Author.Needs.{needs}
-use Rattle.numbers.proofs.entries.later_fields.Statement.{statement}
-use Rattle.numbers.proofs.entries.later_fields.Tie as tie
+use Rattle.numbers.proofs.entries.later_numbers.Statement.{statement}
+use Rattle.numbers.proofs.entries.later_numbers.Tie as tie
 
 enum-known-c : tie.Need-enum-known-c
 enum-known-c c = search needs
@@ -74,6 +74,9 @@ items-fields-requires c κs = search needs
 enum-known-c-11 : tie.Need-enum-known-c-11
 enum-known-c-11 c = search needs
 
+code-requires : tie.Need-code-requires
+code-requires c κs = search needs
+
 place-fields-requires-4 : tie.Need-place-fields-requires-4
 place-fields-requires-4 c κs = search needs
 
@@ -81,55 +84,55 @@ few-requires : tie.Need-few-requires
 few-requires c κs = search needs
 
 returns : tie.Need-returns
-unfolding padded placeNumbers itemsNumbers fieldsOf
-returns c = search (needs, fields-by)
+unfolding padded placeNumbers itemsNumbers callNumbers
+returns c = search (needs, call-by)
 
 returns-2 : tie.Need-returns-2
-unfolding padded placeNumbers itemsNumbers fieldsOf
-returns-2 c = search (needs, fields-by)
+unfolding padded placeNumbers itemsNumbers callNumbers
+returns-2 c = search (needs, call-by)
 
 returns-3 : tie.Need-returns-3
-unfolding padded placeNumbers itemsNumbers fieldsOf
-returns-3 c = search (needs, fields-by)
+unfolding padded placeNumbers itemsNumbers callNumbers
+returns-3 c = search (needs, call-by)
 
 returns-4 : tie.Need-returns-4
-unfolding padded placeNumbers itemsNumbers fieldsOf
-returns-4 c = search (needs, fields-by)
+unfolding padded placeNumbers itemsNumbers callNumbers
+returns-4 c = search (needs, call-by)
 
 returns-5 : tie.Need-returns-5
-unfolding padded placeNumbers itemsNumbers fieldsOf
-returns-5 c = search (needs, multiple-fields)
+unfolding padded placeNumbers itemsNumbers callNumbers
+returns-5 c = search (needs, multiple-row)
 
 returns-6 : tie.Need-returns-6
-unfolding padded placeNumbers itemsNumbers fieldsOf
-returns-6 c = search (needs, fields-by)
+unfolding padded placeNumbers itemsNumbers callNumbers
+returns-6 c = search (needs, call-by)
 
 returns-7 : tie.Need-returns-7
-unfolding padded placeNumbers itemsNumbers fieldsOf
-returns-7 c = search (needs, fields-by)
+unfolding padded placeNumbers itemsNumbers callNumbers
+returns-7 c = search (needs, call-by)
 
 returns-8 : tie.Need-returns-8
-unfolding padded placeNumbers itemsNumbers fieldsOf
-returns-8 c = search (needs, fields-by)
+unfolding padded placeNumbers itemsNumbers callNumbers
+returns-8 c = search (needs, call-by)
 
 returns-9 : tie.Need-returns-9
-unfolding padded placeNumbers itemsNumbers fieldsOf
-returns-9 c = search (needs, fields-by)
+unfolding padded placeNumbers itemsNumbers callNumbers
+returns-9 c = search (needs, call-by)
 
 returns-10 : tie.Need-returns-10
-unfolding padded placeNumbers itemsNumbers fieldsOf
-returns-10 c = search (needs, fields-by)
+unfolding padded placeNumbers itemsNumbers callNumbers
+returns-10 c = search (needs, call-by)
 
 returns-11 : tie.Need-returns-11
-unfolding padded placeNumbers itemsNumbers fieldsOf
-returns-11 c = search (needs, fields-by)
+unfolding padded placeNumbers itemsNumbers callNumbers
+returns-11 c = search (needs, raw-row)
 
 returns-12 : tie.Need-returns-12
-unfolding padded placeNumbers itemsNumbers fieldsOf
+unfolding padded placeNumbers itemsNumbers callNumbers
 returns-12 c = search (needs, not-early)
 
-pub later-fields-spec : {M : Type 1} → statement M
-later-fields-spec =
+pub later-numbers-spec : {M : Type 1} → statement M
+later-numbers-spec =
     tie.close
     (tie.spec
     enum-known-c
@@ -155,6 +158,7 @@ later-fields-spec =
     enum-known-c-10
     items-fields-requires
     enum-known-c-11
+    code-requires
     place-fields-requires-4
     few-requires
     returns
