@@ -17,7 +17,8 @@ use Rattle.script.specs.declared.records.FramedData.{FramedData}
 use Rattle.script.specs.declared.records.Stamp.{Stamp}
 use Rattle.script.specs.declared.records.OpCall.{OpCall}
 use Rattle.slots.specs.Blank.{blankEntry, blankExpectation}
-use Rattle.numbers.specs.Numbers.{lowBytes, bytesOf, flag, unsigned, placeNumbers, itemsNumbers, padded, stampNumbers, dataNumbers, callNumbers, entryHead, entryNumbers, matcherNumbers, expectNumbers, expectationNumbers, maybeNumbers, maybeItemsNumbers, countsNumbers, scriptNumbers, headNumbers}
+use Rattle.call_fields.specs.CallFields.{flag, placeNumbers, itemsNumbers, padded, dataNumbers}
+use Rattle.numbers.specs.Numbers.{lowBytes, bytesOf, unsigned, stampNumbers, callNumbers, entryHead, entryNumbers, matcherNumbers, expectNumbers, expectationNumbers, maybeNumbers, maybeItemsNumbers, countsNumbers, scriptNumbers, headNumbers}
 
 abbrev at : ℕ → ℕ → Place
 at start len = record { start = start; len = len }

@@ -4,11 +4,9 @@ use mathlib.Core.Path.{_≡_, refl, sym, ap, _∙_}
 use mathlib.Core.List.{List, [], _∷_, _++_}
 use mathlib.Core.Bool.{Bool}
 use mathlib.Core.Logic.{inl, inr}
-use native.Mathlib.Nat.{zero-add}
 use native.Mathlib.Omega.{arith}
 use lib.IntN.{ℤ}
-use lib.ListN.{length, getD, drop, drop-of-length-le, length-append}
-use lib.Seq.{drop-cons}
+use lib.ListN.{length, getD, length-append}
 use types.Run.{OneOf}
 use denote.Enum.Declared.{tagOf}
 use Rattle.script.specs.declared.records.OpCall.{OpCall}
@@ -19,7 +17,6 @@ use Rattle.script.specs.declared.records.Expect.{Expect}
 use Rattle.script.specs.declared.records.Expect.the-variants.{Terminal, Result, ResultField, Error, StderrCount, Daemon, Trust, ServerFeatures}
 use Rattle.script.specs.declared.records.Expectation.{Expectation}
 use Rattle.script.specs.declared.records.FramedData.{FramedData}
-use Rattle.script.specs.declared.records.FramedData.the-variants.{Inline, FileRef}
 use Rattle.script.specs.declared.records.Items.{Items}
 use Rattle.script.specs.declared.records.Matcher.{Matcher}
 use Rattle.script.specs.declared.records.Matcher.the-variants.{Exact, Regex, GreaterThan, LessThan, GreaterOrEqual, LessOrEqual}
@@ -35,27 +32,9 @@ use Rattle.script.specs.declared.records.Time.{Time}
 use Rattle.script.specs.Reading.{Parsed, refusedAt, read}
 use Rattle.wire.specs.declared.ops.Op.{Op}
 use Rattle.wire.specs.Operations.{operation}
-use Rattle.numbers.specs.Numbers.{padded, flag, unsigned, placeNumbers, itemsNumbers, stampNumbers, dataNumbers, callNumbers, entryHead, entryNumbers, matcherNumbers, expectNumbers, expectationNumbers, maybeNumbers, maybeItemsNumbers, countsNumbers, scriptNumbers, headNumbers}
-
--- ---- an array, number by number
-
-abbrev pub spread : (i n : ℕ) → List ℕ → List ℕ
-spread i zero xs = []
-spread i (suc n) xs = getD xs i 0 ∷ spread (suc i) n xs
-
-spread-from : (i n : ℕ) (xs : List ℕ) → length xs ≡ i + n → spread i n xs ≡ drop i xs
-spread-from i zero xs h = sym (drop-of-length-le xs {i = i} (omega arith))
-spread-from i (suc n) xs h = ap (λ (l : List ℕ). getD xs i 0 ∷ l) (spread-from (suc i) n xs (omega arith)) ∙ sym (drop-cons xs i 0 (omega arith))
-
--- an array that is a list of so many numbers
-pub spread-is : (n : ℕ) (xs ys : List ℕ) → xs ≡ ys → length ys ≡ n → spread 0 n xs ≡ ys
-spread-is n xs ys e h = spread-from 0 n xs (ap length e ∙ h ∙ sym (zero-add n)) ∙ e
-
-pub padded-length : (n : ℕ) (xs : List ℕ) → length (padded n xs) ≡ n
-unfolding padded
-padded-length zero xs = refl
-padded-length (suc n) [] = ap suc (padded-length n [])
-padded-length (suc n) (x ∷ xs) = ap suc (padded-length n xs)
+use Rattle.call_fields.specs.CallFields.{padded, flag, placeNumbers, itemsNumbers, dataNumbers}
+use Rattle.call_fields.proofs.FieldLaws.{spread, spread-is, padded-length}
+use Rattle.numbers.specs.Numbers.{unsigned, stampNumbers, callNumbers, entryHead, entryNumbers, matcherNumbers, expectNumbers, expectationNumbers, maybeNumbers, maybeItemsNumbers, countsNumbers, scriptNumbers, headNumbers}
 
 -- ---- the kinds of an operation
 
@@ -143,30 +122,6 @@ module _ (c : OpCall) (r : List ℕ) (op : Op) (k : ℕ) (q : k ≡ operation op
   pub raw-row : (d : Place) → c ≡ RawBytes op d → r ≡ padded 16 (20 ∷ k ∷ placeNumbers d) → r ≡ callNumbers c
   unfolding callNumbers
   raw-row d e h = h ∙ rw (e, q)
-
--- ---- data
-
-data-three : (d : FramedData) → length (dataNumbers d) ≡ 3
-unfolding dataNumbers placeNumbers
-data-three (Inline p) = refl
-data-three (FileRef p) = refl
-
-pub data-by : (d x : FramedData) → d ≡ x → (r : List ℕ) → r ≡ dataNumbers x → r ≡ dataNumbers d
-data-by d x e r h = h ∙ ap dataNumbers (sym e)
-
--- an array of it, number by number
-module _ (d : FramedData) (n : List ℕ) (e : n ≡ dataNumbers d) where
-  three : spread 0 3 n ≡ dataNumbers d
-  three = spread-is 3 n (dataNumbers d) e (data-three d)
-
-  pub data-few : (kind a b : ℕ) (r : List ℕ) → r ≡ padded 16 ((kind ∷ 0 ∷ a ∷ b ∷ spread 0 3 n) ++ (0 ∷ [])) → r ≡ padded 16 (kind ∷ 0 ∷ a ∷ b ∷ dataNumbers d)
-  unfolding padded
-  data-few kind a b r h = h ∙ ap (λ (l : List ℕ). padded 16 (kind ∷ 0 ∷ a ∷ b ∷ l)) three
-
-  pub data-store : (kind : ℕ) (name cam : Place) (refs : Items) (b : Bool) (k : ℕ) → k ≡ flag b
-      → (kind ∷ 0 ∷ placeNumbers name) ++ placeNumbers cam ++ itemsNumbers refs ++ (k ∷ spread 0 3 n) ++ (0 ∷ 0 ∷ 0 ∷ 0 ∷ []) ≡ padded 16 ((kind ∷ 0 ∷ placeNumbers name) ++ placeNumbers cam ++ itemsNumbers refs ++ (flag b ∷ dataNumbers d))
-  unfolding padded placeNumbers itemsNumbers
-  data-store kind name cam refs b k p = rw (p, ← three)
 
 -- ---- a timestamp, an entry
 

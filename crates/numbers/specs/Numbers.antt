@@ -1,13 +1,10 @@
 -- The records of a script as numbers, and a number as 8 bytes, by which a host sees them. Assumes nothing.
 use Prim.Native.Nat.{ℕ, zero, suc, _-_, _/_, _%_}
-use mathlib.Core.Bool.{Bool, true, false}
 use mathlib.Core.List.{List, [], _∷_, _++_, flatMap}
 use lib.IntN.{ℤ, pos, negsuc}
 use lib.ListN.{getD}
 use Rattle.wire.specs.Operations.{operation}
 use Rattle.script.specs.Reading.{Parsed, refusedAt, read}
-use Rattle.script.specs.declared.records.Place.{Place}
-use Rattle.script.specs.declared.records.Items.{Items}
 use Rattle.script.specs.declared.records.Maybe.{Maybe}
 use Rattle.script.specs.declared.records.Maybe.the-variants as Maybe
 use Rattle.script.specs.declared.records.MaybeItems.{MaybeItems}
@@ -17,18 +14,16 @@ use Rattle.script.specs.declared.records.Matcher.the-variants.{Exact, Regex, Gr
 use Rattle.script.specs.declared.records.Expect.{Expect}
 use Rattle.script.specs.declared.records.Expect.the-variants.{Terminal, Result, ResultField, Error, StderrCount, Daemon, Trust, ServerFeatures}
 use Rattle.script.specs.declared.records.Expectation.{Expectation}
-use Rattle.script.specs.declared.records.FramedData.{FramedData}
-use Rattle.script.specs.declared.records.FramedData.the-variants.{Inline, FileRef}
 use Rattle.script.specs.declared.records.Stamp.{Stamp}
 use Rattle.script.specs.declared.records.Stamp.the-variants as Stamp
-use Rattle.script.specs.declared.records.Options.{Options}
 use Rattle.script.specs.declared.records.OpCall.{OpCall}
 use Rattle.script.specs.declared.records.OpCall.the-variants.{SinglePath, SingleString, PathSet, PathSetFlag, PathSetMode, NoArgs, SetOptions, CollectGarbage, VerifyStore, AddPermRoot, AddSignatures, AddTextToStore, AddToStore, AddMultipleToStore, AddBuildLog, RegisterDrvOutput, QueryRealisation, QuerySubstitutablePathInfo, QuerySubstitutablePathInfos, RawBytes}
 use Rattle.script.specs.declared.records.Entry.{Entry}
 use Rattle.script.specs.declared.records.Counts.{Counts}
 use Rattle.script.specs.declared.records.Script.{Script}
+use Rattle.call_fields.specs.CallFields.{flag, placeNumbers, itemsNumbers, padded, dataNumbers, optionsNumbers}
 
--- ---- bytes
+-- ---- bytes and integers
 
 -- the lowest bytes of a number, the lowest first
 unfoldable pub lowBytes : (count n : ℕ) → List ℕ
@@ -41,54 +36,16 @@ bytesOf n = lowBytes 8 n
 abbrev pub inBytes : (numbers : List ℕ) → List ℕ
 inBytes numbers = flatMap bytesOf numbers
 
--- ---- numbers
-
-unfoldable pub flag : Bool → ℕ
-flag false = 0
-flag true = 1
-
 -- an integer of 64 bits, by its two's complement
 unfoldable pub unsigned : ℤ → ℕ
 unsigned (pos n) = n
 unsigned (negsuc n) = 0xFFFF_FFFF_FFFF_FFFF - n
-
-unfoldable pub placeNumbers : Place → List ℕ
-placeNumbers p = p .start ∷ p .len ∷ []
-
-unfoldable pub itemsNumbers : Items → List ℕ
-itemsNumbers i = i .first ∷ i .count ∷ []
-
--- the first so many numbers, with zeros behind them
-unfoldable pub padded : (count : ℕ) → List ℕ → List ℕ
-padded zero ns = []
-padded (suc count) [] = 0 ∷ padded count []
-padded (suc count) (n ∷ ns) = n ∷ padded count ns
 
 -- ---- an entry, 23 numbers
 
 unfoldable pub stampNumbers : Stamp → List ℕ
 stampNumbers Stamp.Absent = 0 ∷ 0 ∷ 0 ∷ 0 ∷ []
 stampNumbers (Stamp.At t) = 1 ∷ flag (t .negative) ∷ t .digits ∷ unsigned (t .decimals) ∷ []
-
-unfoldable pub dataNumbers : FramedData → List ℕ
-dataNumbers (Inline p) = 0 ∷ placeNumbers p
-dataNumbers (FileRef p) = 1 ∷ placeNumbers p
-
-unfoldable pub optionsNumbers : Options → List ℕ
-optionsNumbers o =
-    o .«keep_failed»
-    ∷ o .«keep_going»
-    ∷ o .«try_fallback»
-    ∷ o .verbosity
-    ∷ o .«max_build_jobs»
-    ∷ o .«max_silent_time»
-    ∷ o .«use_build_hook»
-    ∷ o .«verbose_build»
-    ∷ o .«log_type»
-    ∷ o .«print_build_trace»
-    ∷ o .«build_cores»
-    ∷ o .«use_substitutes»
-    ∷ itemsNumbers (o .overrides)
 
 -- the kind of the operation in the order of the declaration, its code where the record has one, else 0, and the other fields
 unfoldable pub callNumbers : OpCall → List ℕ

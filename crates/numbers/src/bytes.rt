@@ -6,12 +6,6 @@ ghost use Rattle.tables.specs.Written.{writtenAt};
 ghost use Rattle.numbers.specs.Numbers as Numbers;
 ghost use Rattle.numbers.specs.Numbers.{bytesOf, inBytes};
 
-pub fn flag(b: bool) -> u64
-    ensures { λ r. ⌜ r ≡ Numbers.flag b ⌝ }
-{
-    if b { 1 } else { 0 }
-}
-
 // An i64 by its two's complement.
 pub fn unsigned(v: i64) -> u64
     ensures { λ r. ⌜ r ≡ Numbers.unsigned v ⌝ }

@@ -1,18 +1,21 @@
 // The numbers of an entry.
 ghost use mathlib.Core.Path.{_≡_};
-ghost use mathlib.Core.List.{[], _∷_, _++_};
 ghost use Prim.Native.Nat.{_<_};
 ghost use lib.ListN.{getD};
-ghost use Rattle.numbers.specs.Numbers as Numbers;
-ghost use Rattle.numbers.specs.Numbers.{padded, placeNumbers, itemsNumbers, stampNumbers, dataNumbers, optionsNumbers, callNumbers, entryHead};
-use crate::bytes::flag;
+ghost use Rattle.numbers.specs.Numbers.{stampNumbers, callNumbers, entryHead};
 use crate::bytes::unsigned;
+use call_fields::data_fields;
+use call_fields::few;
+use call_fields::flag;
+use call_fields::items_fields;
+use call_fields::options_fields;
+use call_fields::pair_fields;
+use call_fields::place_fields;
+use call_fields::range_fields;
+use call_fields::store_fields;
+use call_fields::text_fields;
 use script::records::Entry;
-use script::records::FramedData;
-use script::records::Items;
 use script::records::OpCall;
-use script::records::Options;
-use script::records::Place;
 use script::records::Stamp;
 use wire::ops::Op;
 
@@ -23,126 +26,6 @@ fn stamp_numbers(s: Stamp) -> [u64; 4]
         Stamp::Absent => [0, 0, 0, 0],
         Stamp::At(t) => [1, flag(t.negative), t.digits, unsigned(t.decimals)],
     }
-}
-
-fn data_numbers(d: FramedData) -> [u64; 3]
-    ensures { λ r. ⌜ r ≡ dataNumbers d ⌝ }
-{
-    match d {
-        FramedData::Inline(p) => [0, p.start as u64, p.len as u64],
-        FramedData::FileRef(p) => [1, p.start as u64, p.len as u64],
-    }
-}
-
-// The kind, the code, a few numbers, and zeros behind them.
-fn few(kind: u64, code: u64, a: u64, b: u64, c: u64, d: u64, e: u64, f: u64) -> [u64; 16]
-    ensures { λ r. ⌜ r ≡ padded 16 (kind ∷ code ∷ a ∷ b ∷ c ∷ d ∷ e ∷ f ∷ []) ⌝ }
-{
-    [kind, code, a, b, c, d, e, f, 0, 0, 0, 0, 0, 0, 0, 0]
-}
-
-fn place_fields(kind: u64, code: u64, p: Place) -> [u64; 16]
-    ensures { λ r. ⌜ r ≡ padded 16 (kind ∷ code ∷ placeNumbers p) ⌝ }
-{
-    few(kind, code, p.start as u64, p.len as u64, 0, 0, 0, 0)
-}
-
-fn items_fields(kind: u64, code: u64, i: Items) -> [u64; 16]
-    ensures { λ r. ⌜ r ≡ padded 16 (kind ∷ code ∷ itemsNumbers i) ⌝ }
-{
-    few(kind, code, i.first as u64, i.count as u64, 0, 0, 0, 0)
-}
-
-// A range and two more numbers.
-fn range_fields(kind: u64, code: u64, i: Items, a: u64, b: u64) -> [u64; 16]
-    ensures { λ r. ⌜ r ≡ padded 16 ((kind ∷ code ∷ itemsNumbers i) ++ (a ∷ b ∷ [])) ⌝ }
-{
-    few(kind, code, i.first as u64, i.count as u64, a, b, 0, 0)
-}
-
-// A place and two more numbers.
-fn pair_fields(kind: u64, p: Place, a: u64, b: u64) -> [u64; 16]
-    ensures { λ r. ⌜ r ≡ padded 16 ((kind ∷ 0 ∷ placeNumbers p) ++ (a ∷ b ∷ [])) ⌝ }
-{
-    few(kind, 0, p.start as u64, p.len as u64, a, b, 0, 0)
-}
-
-fn text_fields(kind: u64, suffix: Place, text: Place, refs: Items) -> [u64; 16]
-    ensures { λ r. ⌜ r ≡ padded 16 ((kind ∷ 0 ∷ placeNumbers suffix) ++ placeNumbers text ++ itemsNumbers refs) ⌝ }
-{
-    few(
-        kind,
-        0,
-        suffix.start as u64,
-        suffix.len as u64,
-        text.start as u64,
-        text.len as u64,
-        refs.first as u64,
-        refs.count as u64,
-    )
-}
-
-fn store_fields(
-    kind: u64,
-    name: Place,
-    cam_str: Place,
-    refs: Items,
-    repair: bool,
-    data: FramedData,
-) -> [u64; 16]
-    ensures { λ r. ⌜ r ≡ padded 16 ((kind ∷ 0 ∷ placeNumbers name) ++ placeNumbers «cam_str» ++ itemsNumbers refs ++ (Numbers.flag repair ∷ dataNumbers «data»)) ⌝ }
-{
-    let d = data_numbers(data);
-    [
-        kind,
-        0,
-        name.start as u64,
-        name.len as u64,
-        cam_str.start as u64,
-        cam_str.len as u64,
-        refs.first as u64,
-        refs.count as u64,
-        flag(repair),
-        d[0],
-        d[1],
-        d[2],
-        0,
-        0,
-        0,
-        0,
-    ]
-}
-
-// Two numbers and data.
-fn data_fields(kind: u64, a: u64, b: u64, data: FramedData) -> [u64; 16]
-    ensures { λ r. ⌜ r ≡ padded 16 (kind ∷ 0 ∷ a ∷ b ∷ dataNumbers «data») ⌝ }
-{
-    let d = data_numbers(data);
-    few(kind, 0, a, b, d[0], d[1], d[2], 0)
-}
-
-fn options_fields(kind: u64, o: Options) -> [u64; 16]
-    ensures { λ r. ⌜ r ≡ padded 16 (kind ∷ 0 ∷ optionsNumbers o) ⌝ }
-{
-    let overrides = o.overrides;
-    [
-        kind,
-        0,
-        o.keep_failed,
-        o.keep_going,
-        o.try_fallback,
-        o.verbosity,
-        o.max_build_jobs,
-        o.max_silent_time,
-        o.use_build_hook,
-        o.verbose_build,
-        o.log_type,
-        o.print_build_trace,
-        o.build_cores,
-        o.use_substitutes,
-        overrides.first as u64,
-        overrides.count as u64,
-    ]
 }
 
 // The numbers of the kinds from the tenth on.

@@ -4,7 +4,8 @@ use mathlib.Core.Path.{_≡_, sym, ap, _∙_}
 use mathlib.Core.List.{List}
 use Rattle.read.specs.Read.{answerOf}
 use Rattle.read.specs.declared.reading.Answer.{Answer}
-use Rattle.numbers.specs.Numbers.{headNumbers, padded}
+use Rattle.call_fields.specs.CallFields.{padded}
+use Rattle.numbers.specs.Numbers.{headNumbers}
 use borrow.Author.Needs.{needs}
 use Rattle.dump.proofs.answers.head_numbers.Statement.{statement}
 use Rattle.dump.proofs.answers.head_numbers.Tie as tie

@@ -1,5 +1,6 @@
 -- `dump::answers::maybe_items_numbers` meets its contract. Assumes nothing.
-use Rattle.numbers.specs.Numbers.{maybeItemsNumbers, itemsNumbers}
+use Rattle.call_fields.specs.CallFields.{itemsNumbers}
+use Rattle.numbers.specs.Numbers.{maybeItemsNumbers}
 use Rattle.numbers.proofs.NumberLaws.{maybe-items-by}
 use borrow.Author.Needs.{needs}
 use Rattle.dump.proofs.answers.maybe_items_numbers.Statement.{statement}

@@ -1,5 +1,6 @@
 -- `dump::answers::maybe_numbers` meets its contract. Assumes nothing.
-use Rattle.numbers.specs.Numbers.{maybeNumbers, placeNumbers}
+use Rattle.call_fields.specs.CallFields.{placeNumbers}
+use Rattle.numbers.specs.Numbers.{maybeNumbers}
 use Rattle.numbers.proofs.NumberLaws.{maybe-by}
 use borrow.Author.Needs.{needs}
 use Rattle.dump.proofs.answers.maybe_numbers.Statement.{statement}

@@ -1,5 +1,6 @@
 -- `dump::answers::script_numbers` meets its contract. Assumes nothing.
-use Rattle.numbers.specs.Numbers.{itemsNumbers, countsNumbers}
+use Rattle.call_fields.specs.CallFields.{itemsNumbers}
+use Rattle.numbers.specs.Numbers.{countsNumbers}
 use Rattle.numbers.proofs.NumberLaws.{script-is}
 use borrow.Author.Needs.{needs}
 use Rattle.dump.proofs.answers.script_numbers.Statement.{statement}

@@ -1,5 +1,6 @@
 -- `numbers::entries::call_numbers` meets its contract. Assumes nothing.
-use Rattle.numbers.specs.Numbers.{padded, placeNumbers, itemsNumbers, optionsNumbers, callNumbers}
+use Rattle.call_fields.specs.CallFields.{padded, placeNumbers, itemsNumbers, optionsNumbers}
+use Rattle.numbers.specs.Numbers.{callNumbers}
 use Rattle.numbers.proofs.NumberLaws.{call-by, path-row, string-row, set-row, flag-row, mode-row, bare-row, verify-row, is-late}
 use borrow.Author.Needs.{needs}
 use Rattle.numbers.proofs.entries.call_numbers.Statement.{statement}

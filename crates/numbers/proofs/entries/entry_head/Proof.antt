@@ -1,5 +1,5 @@
 -- `numbers::entries::entry_head` meets its contract. Assumes nothing.
-use Rattle.numbers.specs.Numbers.{itemsNumbers}
+use Rattle.call_fields.specs.CallFields.{itemsNumbers}
 use Rattle.numbers.proofs.NumberLaws.{head-is}
 use borrow.Author.Needs.{needs}
 use Rattle.numbers.proofs.entries.entry_head.Statement.{statement}

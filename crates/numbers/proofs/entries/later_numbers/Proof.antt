@@ -1,5 +1,6 @@
 -- `numbers::entries::later_numbers` meets its contract. Assumes nothing.
-use Rattle.numbers.specs.Numbers.{padded, placeNumbers, itemsNumbers, callNumbers}
+use Rattle.call_fields.specs.CallFields.{padded, placeNumbers, itemsNumbers}
+use Rattle.numbers.specs.Numbers.{callNumbers}
 use Rattle.numbers.proofs.NumberLaws.{call-by, multiple-row, raw-row, not-early}
 use borrow.Author.Needs.{needs}
 use Rattle.numbers.proofs.entries.later_numbers.Statement.{statement}

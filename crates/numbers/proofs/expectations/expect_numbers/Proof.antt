@@ -1,5 +1,6 @@
 -- `numbers::expectations::expect_numbers` meets its contract. Assumes nothing.
-use Rattle.numbers.specs.Numbers.{expectNumbers, placeNumbers}
+use Rattle.call_fields.specs.CallFields.{placeNumbers}
+use Rattle.numbers.specs.Numbers.{expectNumbers}
 use Rattle.numbers.proofs.NumberLaws.{expect-by}
 use borrow.Author.Needs.{needs}
 use Rattle.numbers.proofs.expectations.expect_numbers.Statement.{statement}

@@ -1,5 +1,6 @@
 -- `numbers::expectations::matcher_numbers` meets its contract. Assumes nothing.
-use Rattle.numbers.specs.Numbers.{matcherNumbers, placeNumbers}
+use Rattle.call_fields.specs.CallFields.{placeNumbers}
+use Rattle.numbers.specs.Numbers.{matcherNumbers}
 use Rattle.numbers.proofs.NumberLaws.{matcher-by, greater-is, less-is, at-least-is, at-most-is}
 use borrow.Author.Needs.{needs}
 use Rattle.numbers.proofs.expectations.matcher_numbers.Statement.{statement}

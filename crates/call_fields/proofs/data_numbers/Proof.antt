@@ -1,9 +1,9 @@
--- `numbers::entries::data_numbers` meets its contract. Assumes nothing.
-use Rattle.numbers.specs.Numbers.{dataNumbers, placeNumbers}
-use Rattle.numbers.proofs.NumberLaws.{data-by}
+-- `call_fields::data_numbers` meets its contract. Assumes nothing.
+use Rattle.call_fields.specs.CallFields.{dataNumbers, placeNumbers}
+use Rattle.call_fields.proofs.FieldLaws.{data-by}
 use borrow.Author.Needs.{needs}
-use Rattle.numbers.proofs.entries.data_numbers.Statement.{statement}
-use Rattle.numbers.proofs.entries.data_numbers.Tie as tie
+use Rattle.call_fields.proofs.data_numbers.Statement.{statement}
+use Rattle.call_fields.proofs.data_numbers.Tie as tie
 
 enum-known-d : tie.Need-enum-known-d
 enum-known-d c = search needs

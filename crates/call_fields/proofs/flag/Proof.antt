@@ -1,8 +1,8 @@
--- `numbers::bytes::flag` meets its contract. Assumes nothing.
-use Rattle.numbers.specs.Numbers.{flag}
+-- `call_fields::flag` meets its contract. Assumes nothing.
+use Rattle.call_fields.specs.CallFields.{flag}
 use borrow.Author.Needs.{needs}
-use Rattle.numbers.proofs.bytes.flag.Statement.{statement}
-use Rattle.numbers.proofs.bytes.flag.Tie as tie
+use Rattle.call_fields.proofs.flag.Statement.{statement}
+use Rattle.call_fields.proofs.flag.Tie as tie
 
 returns : tie.Need-returns
 unfolding flag

@@ -1,9 +1,9 @@
--- `numbers::entries::store_fields` meets its contract. Assumes nothing.
-use Rattle.numbers.specs.Numbers.{placeNumbers, itemsNumbers}
-use Rattle.numbers.proofs.NumberLaws.{data-store}
+-- `call_fields::store_fields` meets its contract. Assumes nothing.
+use Rattle.call_fields.specs.CallFields.{placeNumbers, itemsNumbers}
+use Rattle.call_fields.proofs.FieldLaws.{data-store}
 use borrow.Author.Needs.{needs}
-use Rattle.numbers.proofs.entries.store_fields.Statement.{statement}
-use Rattle.numbers.proofs.entries.store_fields.Tie as tie
+use Rattle.call_fields.proofs.store_fields.Statement.{statement}
+use Rattle.call_fields.proofs.store_fields.Tie as tie
 
 data-numbers-requires : tie.Need-data-numbers-requires
 data-numbers-requires c κs = search needs

@@ -1,8 +1,8 @@
--- `numbers::entries::text_fields` meets its contract. Assumes nothing.
-use Rattle.numbers.specs.Numbers.{padded, placeNumbers, itemsNumbers}
+-- `call_fields::text_fields` meets its contract. Assumes nothing.
+use Rattle.call_fields.specs.CallFields.{padded, placeNumbers, itemsNumbers}
 use borrow.Author.Needs.{needs}
-use Rattle.numbers.proofs.entries.text_fields.Statement.{statement}
-use Rattle.numbers.proofs.entries.text_fields.Tie as tie
+use Rattle.call_fields.proofs.text_fields.Statement.{statement}
+use Rattle.call_fields.proofs.text_fields.Tie as tie
 
 few-requires : tie.Need-few-requires
 few-requires c κs = search needs

@@ -1,8 +1,8 @@
--- `numbers::entries::data_fields` meets its contract. Assumes nothing.
-use Rattle.numbers.proofs.NumberLaws.{data-few}
+-- `call_fields::data_fields` meets its contract. Assumes nothing.
+use Rattle.call_fields.proofs.FieldLaws.{data-few}
 use borrow.Author.Needs.{needs}
-use Rattle.numbers.proofs.entries.data_fields.Statement.{statement}
-use Rattle.numbers.proofs.entries.data_fields.Tie as tie
+use Rattle.call_fields.proofs.data_fields.Statement.{statement}
+use Rattle.call_fields.proofs.data_fields.Tie as tie
 
 data-numbers-requires : tie.Need-data-numbers-requires
 data-numbers-requires c κs = search needs

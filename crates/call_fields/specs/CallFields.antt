@@ -1,0 +1,45 @@
+-- The numbers of the fields of an operation, and so many numbers with zeros behind them. Assumes nothing.
+use Prim.Native.Nat.{ℕ, zero, suc}
+use mathlib.Core.Bool.{Bool, true, false}
+use mathlib.Core.List.{List, [], _∷_}
+use Rattle.script.specs.declared.records.Place.{Place}
+use Rattle.script.specs.declared.records.Items.{Items}
+use Rattle.script.specs.declared.records.FramedData.{FramedData}
+use Rattle.script.specs.declared.records.FramedData.the-variants.{Inline, FileRef}
+use Rattle.script.specs.declared.records.Options.{Options}
+
+unfoldable pub flag : Bool → ℕ
+flag false = 0
+flag true = 1
+
+unfoldable pub placeNumbers : Place → List ℕ
+placeNumbers p = p .start ∷ p .len ∷ []
+
+unfoldable pub itemsNumbers : Items → List ℕ
+itemsNumbers i = i .first ∷ i .count ∷ []
+
+-- the first so many numbers, with zeros behind them
+unfoldable pub padded : (count : ℕ) → List ℕ → List ℕ
+padded zero ns = []
+padded (suc count) [] = 0 ∷ padded count []
+padded (suc count) (n ∷ ns) = n ∷ padded count ns
+
+unfoldable pub dataNumbers : FramedData → List ℕ
+dataNumbers (Inline p) = 0 ∷ placeNumbers p
+dataNumbers (FileRef p) = 1 ∷ placeNumbers p
+
+unfoldable pub optionsNumbers : Options → List ℕ
+optionsNumbers o =
+    o .«keep_failed»
+    ∷ o .«keep_going»
+    ∷ o .«try_fallback»
+    ∷ o .verbosity
+    ∷ o .«max_build_jobs»
+    ∷ o .«max_silent_time»
+    ∷ o .«use_build_hook»
+    ∷ o .«verbose_build»
+    ∷ o .«log_type»
+    ∷ o .«print_build_trace»
+    ∷ o .«build_cores»
+    ∷ o .«use_substitutes»
+    ∷ itemsNumbers (o .overrides)
