@@ -24,7 +24,7 @@ fn regex(pattern: &[u8], braces: bool, r: Items, bytes: &[u8], lists: &[[usize; 
     ensures { λ v. ⌜ v ≡ decides (expected.regex (now (pattern .entry))) (listText braces (textsIn (now (bytes .entry)) (now (lists .entry)) r)) ⌝ }
 {
     if signs::is_plain(pattern) {
-        orders::passed_if(crate::search::contains(pattern, braces, r, bytes, lists))
+        orders::passed_if(list_search::contains(pattern, braces, r, bytes, lists))
     } else {
         Verdict::Undecided
     }

@@ -1,4 +1,4 @@
-// Looking for a pattern in a list as it is shown.
+// Looking for a pattern in a list as it is shown, without writing it: piece by piece.
 ghost use mathlib.Core.Path.{_≡_};
 ghost use Prim.Native.Nat.{_+_, _≤_, _<_};
 ghost use lib.ListN.{length, drop};

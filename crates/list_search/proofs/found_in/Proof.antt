@@ -1,4 +1,4 @@
--- `joined::search::found_in` meets its contract. The loop's invariant: the pattern stands in the row from here on just where it stands in the row from
+-- `list_search::found_in` meets its contract. The loop's invariant: the pattern stands in the row from here on just where it stands in the row from
 -- the piece on. Assumes nothing.
 use Prim.Native.Nat.{_-_, _≤_, _<_}
 use mathlib.Core.Path.{_≡_, ap}
@@ -9,9 +9,9 @@ use borrow.Author.Needs.{needs}
 use Rattle.verdicts.specs.Decisions.{contains}
 use Rattle.list_pieces.specs.Pieces.{piecesOf, row, rowFrom}
 use Rattle.list_pieces.proofs.PieceLaws.{in-count}
-use Rattle.joined.proofs.FindLaws.{piece-begun, piece-later, piece-other, piece-turns}
-use Rattle.joined.proofs.search.found_in.Statement.{statement}
-use Rattle.joined.proofs.search.found_in.Tie as tie
+use Rattle.list_search.proofs.FindLaws.{piece-begun, piece-later, piece-other, piece-turns}
+use Rattle.list_search.proofs.found_in.Statement.{statement}
+use Rattle.list_search.proofs.found_in.Tie as tie
 
 abbrev Inv-loop : tie.InvT-loop
 Inv-loop bytes lists signs n r j pattern piece first from i₀ i =

@@ -1,4 +1,4 @@
--- `joined::search::found` meets its contract. The loop's invariant: the pattern stands in the row from here on just where it stands in the whole row.
+-- `list_search::found` meets its contract. The loop's invariant: the pattern stands in the row from here on just where it stands in the whole row.
 -- Assumes nothing.
 use Prim.Native.Nat.{_-_}
 use mathlib.Core.Path.{_≡_, refl}
@@ -8,9 +8,9 @@ use Rattle.verdicts.specs.Decisions.{contains}
 use Rattle.finding.proofs.SearchLaws.{empty-in}
 use Rattle.list_pieces.specs.Pieces.{piecesOf, row}
 use Rattle.list_pieces.proofs.PieceLaws.{count-is}
-use Rattle.joined.proofs.FindLaws.{list-search}
-use Rattle.joined.proofs.search.found.Statement.{statement}
-use Rattle.joined.proofs.search.found.Tie as tie
+use Rattle.list_search.proofs.FindLaws.{list-search}
+use Rattle.list_search.proofs.found.Statement.{statement}
+use Rattle.list_search.proofs.found.Tie as tie
 
 abbrev Inv-loop : tie.InvT-loop
 Inv-loop bytes lists signs n r pattern end j₀ j =

@@ -1,4 +1,4 @@
--- `joined::search::contains` meets its contract: a list is its pieces in a row. Assumes nothing.
+-- `list_search::contains` meets its contract: a list is its pieces in a row. Assumes nothing.
 use Prim.Native.Nat.{ℕ}
 use mathlib.Core.Path.{ap, _∙_}
 use mathlib.Core.List.{List}
@@ -6,8 +6,8 @@ use Rattle.verdicts.specs.Decisions as decisions
 use Rattle.verdicts.specs.Held.{textsIn}
 use Rattle.list_pieces.proofs.PieceLaws.{in-brackets, in-braces}
 use borrow.Author.Needs.{needs}
-use Rattle.joined.proofs.search.contains.Statement.{statement}
-use Rattle.joined.proofs.search.contains.Tie as tie
+use Rattle.list_search.proofs.contains.Statement.{statement}
+use Rattle.list_search.proofs.contains.Tie as tie
 
 slice-aggregate-found : tie.Need-slice-aggregate-found
 slice-aggregate-found c = search needs
