@@ -26,8 +26,9 @@ use Rattle.script.specs.declared.roles.Role.{Role}
 use Rattle.script.specs.declared.roles.Role.the-variants.{Nothing, Says, Expects, Opens, Bad}
 use Rattle.script.proofs.RolesInside.{role-in}
 use Rattle.said.specs.Said.{pieceAt}
-use Rattle.tables.specs.Written.{itemOf, itemsFor, writtenAt}
-use Rattle.tables.proofs.WrittenLaws.{Filling, filling-begun, filling-length, filled, filling-room, filling-on, filling-place, filling-more, written-one}
+use Rattle.written.specs.Written.{writtenAt}
+use Rattle.tables.specs.Items.{itemOf, itemsFor}
+use Rattle.written.proofs.WrittenLaws.{Filling, filling-begun, filling-length, filled, filling-room, filling-on, filling-place, filling-more, written-one}
 use Rattle.below.specs.Below.{belowOf, rolesAt, ahead, aheadOf, NextIn, pairsItems}
 use Rattle.says.specs.Says.{pairItems, Forward}
 use Rattle.below.specs.declared.lines.Below.{Below}

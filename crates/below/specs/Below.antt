@@ -12,7 +12,7 @@ use Rattle.script.specs.Contents.{isOpening, pairs}
 use Rattle.script.specs.declared.roles.Where.{Where}
 use Rattle.script.specs.declared.roles.Saying.{Saying}
 use Rattle.script.specs.declared.roles.Role.the-variants.{Opens}
-use Rattle.tables.specs.Written.{itemsFor}
+use Rattle.tables.specs.Items.{itemsFor}
 use Rattle.below.specs.declared.lines.Below.{Below}
 use Rattle.below.specs.declared.lines.Next.{Next}
 use Rattle.below.specs.declared.lines.Next.the-variants.{End, Entry}

@@ -7,7 +7,7 @@ ghost use Rattle.script.specs.Contents.{lastOf, lead, sayings};
 ghost use Rattle.script.specs.declared.roles.Key.{Key};
 ghost use Rattle.kept.specs.Kept.{Memo};
 ghost use Rattle.said.specs.Said.{pieceAt};
-ghost use Rattle.tables.specs.Written.{writtenAt};
+ghost use Rattle.written.specs.Written.{writtenAt};
 ghost use Rattle.below.specs.declared.lines.Next.the-variants as Next;
 ghost use Rattle.below.specs.Below.{belowOf, rolesAt, ahead, aheadOf, NextIn, pairsItems};
 use kept::Kept;

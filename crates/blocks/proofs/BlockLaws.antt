@@ -7,8 +7,8 @@ use native.Mathlib.Omega.{arith}
 use lib.ListN.{length, take, drop, getD, set, length-append, length-drop}
 use lib.Seq.{length-take-le, take-suc, take-suc-set, take-all, take-add, take-append-le, take-at, drop-append-add, drop-drop, getD-drop}
 use Rattle.text.specs.Base.{part}
-use Rattle.tables.specs.Written.{writtenAt}
-use Rattle.tables.proofs.WrittenLaws.{written-none, written-more, written-twice, written-length}
+use Rattle.written.specs.Written.{writtenAt}
+use Rattle.written.proofs.WrittenLaws.{written-none, written-more, written-twice, written-length}
 
 -- ---- a word, byte by byte
 

@@ -7,8 +7,9 @@ use native.Mathlib.Omega.{arith}
 use lib.ListN.{length, length-append}
 use borrow.Author.Tests.{le-leb, lt-leb}
 use Rattle.text.specs.Base.{overlaid}
-use Rattle.tables.specs.Written.{itemOf, writtenAt}
-use Rattle.tables.proofs.WrittenLaws.{written-length, written-twice}
+use Rattle.written.specs.Written.{writtenAt}
+use Rattle.tables.specs.Items.{itemOf}
+use Rattle.written.proofs.WrittenLaws.{written-length, written-twice}
 use Rattle.script.specs.Reading.{Parsed, readInto}
 use Rattle.script.specs.Layout.{Reading}
 use Rattle.read.specs.Read.{lentOf, scriptOr, tablesOr}

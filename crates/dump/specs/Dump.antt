@@ -8,7 +8,8 @@ use Rattle.script.specs.Layout.{Reading}
 use Rattle.script.specs.declared.records.Expectation.{Expectation}
 use Rattle.script.specs.declared.records.Entry.{Entry}
 use Rattle.script.specs.declared.records.Script.{Script}
-use Rattle.tables.specs.Written.{itemOf, writtenAt}
+use Rattle.written.specs.Written.{writtenAt}
+use Rattle.tables.specs.Items.{itemOf}
 use Rattle.slots.specs.Blank.{blankEntry, blankExpectation}
 use Rattle.read.specs.Read.{lentOf, scriptOr, tablesOr}
 use Rattle.numbers.specs.Numbers.{inBytes, entryNumbers, itemNumbers, expectationNumbers, headNumbers}

@@ -4,7 +4,7 @@ ghost use Prim.Native.Nat.{_+_, _*_, _≤_, min};
 ghost use lib.ListN.{length};
 ghost use Rattle.text.specs.Base.{overlaid};
 ghost use Rattle.read.specs.Read.{answerOf};
-ghost use Rattle.tables.specs.Written.{writtenAt};
+ghost use Rattle.written.specs.Written.{writtenAt};
 ghost use Rattle.numbers.specs.Numbers.{inBytes, headNumbers};
 ghost use Rattle.dump.specs.Dump.{dumpInto, readDump};
 use read::reading::Answer;

@@ -3,7 +3,7 @@ ghost use mathlib.Core.Path.{_≡_};
 ghost use mathlib.Core.List.{flatMap};
 ghost use Prim.Native.Nat.{_+_, _≤_};
 ghost use lib.ListN.{length};
-ghost use Rattle.tables.specs.Written.{writtenAt};
+ghost use Rattle.written.specs.Written.{writtenAt};
 ghost use Rattle.numbers.specs.Numbers.{itemNumbers};
 ghost use Rattle.dump.specs.Dump.{entryBytes, itemBytes, expectationBytes};
 use script::records::Entry;

@@ -14,8 +14,9 @@ use Rattle.script.specs.declared.records.Entry.{Entry}
 use Rattle.script.specs.declared.records.Expectation.{Expectation}
 use Rattle.script.specs.declared.roles.Role.{Role}
 use Rattle.script.specs.declared.roles.Role.the-variants.{Nothing, Says, Expects, Opens, Bad}
-use Rattle.tables.specs.Written.{itemOf, writtenAt}
-use Rattle.tables.proofs.WrittenLaws.{Filling, filling-begun, filling-length, filled, filling-room, filling-on, filling-place, filling-more, written-one}
+use Rattle.written.specs.Written.{writtenAt}
+use Rattle.tables.specs.Items.{itemOf}
+use Rattle.written.proofs.WrittenLaws.{Filling, filling-begun, filling-length, filled, filling-room, filling-on, filling-place, filling-more, written-one}
 use Rattle.below.specs.Below.{rolesAt, ahead, aheadOf, NextIn}
 use Rattle.below.specs.declared.lines.Ahead.{Ahead}
 use Rattle.below.specs.declared.lines.Next.{Next}

@@ -18,8 +18,9 @@ use Rattle.script.specs.declared.roles.Saying.{Saying}
 use Rattle.said.specs.Said.{pieceAt, SaidIn}
 use Rattle.records.specs.declared.calls.Sizes.{Sizes}
 use Rattle.said.proofs.SaidLaws.{said-none}
-use Rattle.tables.specs.Written.{itemOf, itemsFor, writtenAt}
-use Rattle.tables.proofs.WrittenLaws.{written-length, written-twice}
+use Rattle.written.specs.Written.{writtenAt}
+use Rattle.tables.specs.Items.{itemOf, itemsFor}
+use Rattle.written.proofs.WrittenLaws.{written-length, written-twice}
 use Rattle.stored.specs.Closing.{setItems, stored, sizesFor, pairsFor, entryRecord}
 use Rattle.stored.proofs.ClosingLaws.{laid-items, laid-store, laid-item-count, laid-store-count, sizes-sum, sizes-room, laid-entry}
 use Rattle.stored.proofs.WriteLaws.{items-length, items-append}

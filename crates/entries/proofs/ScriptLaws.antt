@@ -27,8 +27,9 @@ use Rattle.said.specs.Said.{pieceAt, SaidIn}
 use Rattle.records.specs.Records.{preambleRecord}
 use Rattle.said.proofs.SaidLaws.{said-none}
 use Rattle.records.proofs.RecordLaws.{preamble-is, preamble-same}
-use Rattle.tables.specs.Written.{itemOf, itemsFor, writtenAt}
-use Rattle.tables.proofs.WrittenLaws.{written-none, written-length, written-twice}
+use Rattle.written.specs.Written.{writtenAt}
+use Rattle.tables.specs.Items.{itemOf, itemsFor}
+use Rattle.written.proofs.WrittenLaws.{written-none, written-length, written-twice}
 use Rattle.stored.specs.Closing.{frontOf}
 use Rattle.stored.proofs.ClosingLaws.{laid-front}
 use Rattle.stored.proofs.WriteLaws.{items-length}

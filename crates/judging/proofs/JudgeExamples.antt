@@ -50,7 +50,7 @@ use Rattle.verdicts.specs.Held as verdicts-Held
 use Rattle.verdicts.specs.Lookup as verdicts-Lookup
 use Rattle.verdicts.specs.Verdicts as verdicts-Verdicts
 use Rattle.verdicts.specs.declared.Verdict.the-variants.{Passed, Failed}
-use Rattle.tables.specs.Written as tables-Written
+use Rattle.written.specs.Written as written-Written
 use Rattle.tallies.specs.Tally as judge-Tally
 use Rattle.tallies.specs.Answers as judge-Answers
 use Rattle.verdicts.specs.Subjects as subjects-Subjects
@@ -73,17 +73,17 @@ use Rattle.tallies.specs.declared.calls.Answer.the-variants.{Refused, Judged, C
 
 -- the plain judge
 abbrev plainly : (text : List ℕ) → (places : ℕ) → List Call → List Answer × PlainState
-unfolding text-Base.within text-Base.overlaid text-Hex.without text-Hex.withoutBlanks text-Hex.characterStarts text-Hex.hexValue text-Hex.hexByte text-Hex.hexPairs text-Hex.hexDecoded text-Lines.linesFrom text-Lines.lines text-Lines.indented text-Literal.utf8 text-Literal.spells text-Literal.beginsWith text-Literal.wordLength text-Numbers.allDigits text-Numbers.decimalFrom text-Numbers.digits text-Numbers.number text-Numbers.minus text-Numbers.signed text-Parts.startsWith text-Parts.endsWith text-Parts.sameBytes text-Parts.positionFrom text-Parts.position text-Parts.pairPositionFrom text-Parts.pairPosition text-Parts.splitFrom text-Parts.split text-Trim.whiteBytes text-Trim.backwards text-Trim.begins text-Trim.sizeOf text-Trim.stripFrom text-Trim.trimmedFront text-Trim.trimmedBack text-Trim.trimmed text-Trim.trimPlace text-Unicode.encoded text-Unquote.quoted text-Unquote.between text-Unquote.replaced text-Unquote.replacedInOrder text-Unquote.unescaped text-Unquote.unquoted text-Utf8.table text-Utf8.after text-Utf8.wellFormedFrom text-Utf8.wellFormed text-Words.wordsFrom text-Words.words wire-Operations.operation wire-Operations.first wire-Operations.named wire-Version.ofNumbers wire-Version.ofParts wire-Version.version script-Answers.firstOf script-Contents.sayingOf script-Contents.sayings script-Contents.expectationOf script-Contents.expectations script-Contents.valueOr script-Contents.lastOf script-Contents.valueOf script-Contents.pairOf script-Contents.pairs script-Contents.givenBytes script-Contents.givenData script-Contents.numberOf script-Contents.flagOf script-Contents.itemsIn script-Contents.restOf script-Contents.setOf script-Contents.versionIn script-Contents.featuresIn script-Contents.unquotedOf script-Contents.hexOf script-Contents.dataOf script-Contents.callOf script-Contents.entryOf script-Contents.isOpening script-Contents.lead script-Contents.orNone script-Contents.entryOn script-Contents.entries script-Contents.preambleOf script-Contents.contents script-Expectations.numbered script-Expectations.about script-Expectations.pattern script-Expectations.comparison script-Expectations.matcher script-Expectations.matching script-Expectations.terminal script-Expectations.field script-Expectations.result script-Expectations.expectation script-Layout.range script-Layout.listed script-Layout.storedOf script-Layout.framedAt script-Layout.laid script-Layout.tablesFrom script-Layout.maybe script-Layout.maybeItems script-Layout.laidPreamble script-Layout.laidScript script-Operations.keyRow script-Operations.sameKey script-Operations.keysOf script-Operations.keyIn script-Operations.formOf script-Pieces.placeOf script-Pieces.place script-Pieces.isEmpty script-Pieces.inner script-Pieces.cutAt script-Pieces.bytes script-Pieces.is script-Pieces.begins script-Pieces.ends script-Pieces.behind script-Pieces.trim script-Pieces.cut script-Pieces.cutOr script-Pieces.split script-Pieces.words script-Plain.under script-Plain.takenBy script-Plain.hasKey script-Plain.expectationLine script-Plain.plainAbove script-Plain.takenOn script-Plain.plainBelow script-Plain.remaining script-Plain.plainStep script-Plain.plainFrom script-Plain.stated script-Plain.statedOn script-Plain.plainLines script-Plain.opened script-Plain.expectationLines script-Plain.owners script-Plain.leading script-Plain.rangesFrom script-Reading.refusedBy script-Reading.firstRefused script-Reading.readMarked script-Reading.readBy script-Reading.parsedBy script-Reading.parsed script-Reading.measured script-Reading.room script-Reading.tooFew script-Reading.fitted script-Reading.readInto script-Roles.refusalIn script-Roles.behindSigns script-Roles.versionRole script-Roles.expectRole script-Roles.saying script-Roles.commentRole script-Roles.protocolRole script-Roles.wordRole script-Roles.preambleExpect script-Roles.preambleRole script-Roles.preambleStep script-Roles.setOn script-Roles.notClosed script-Roles.openOn script-Roles.withName script-Roles.withStamp script-Roles.openingRole script-Roles.skipped script-Roles.outsideStep script-Roles.entryStep script-Roles.argumentLine script-Roles.pairIn script-Roles.keyed script-Roles.keySaying script-Roles.rawSaying script-Roles.optionSaying script-Roles.sayingIn script-Roles.refusalOfKind script-Roles.refusalOf script-Roles.argumentStep script-Roles.blockStep script-Roles.stepAt script-Roles.stepOf script-Roles.rolesFrom script-Roles.roles script-Sets.nonEmpty script-Sets.trimmedItems script-Sets.pathItems script-Sets.bracedSet script-Sets.plainSet script-Sets.pathSet script-Sets.features script-Timestamps.digitRun script-Timestamps.fraction script-Timestamps.unsigned script-Timestamps.negative script-Timestamps.small script-Timestamps.noFinite script-Timestamps.someDigits script-Timestamps.exponent script-Timestamps.carried script-Timestamps.time script-Timestamps.withTime script-Timestamps.stampedAt script-Timestamps.stamped script-Values.withoutQuotes script-Values.inlineOf script-Values.framed values-Decimal.decimalBy values-Decimal.decimal verdicts-Lookup.joined verdicts-Lookup.bracketed verdicts-Lookup.braced verdicts-Lookup.flag verdicts-Lookup.fields verdicts-Lookup.valueIn verdicts-Lookup.wholeValue verdicts-Lookup.daemonText verdicts-Lookup.trustOf verdicts-Lookup.trustText verdicts-Lookup.featuresText verdicts-Lookup.lookedIn verdicts-Lookup.toldIn verdicts-Lookup.looked verdicts-Decisions.passedIf verdicts-Decisions.oneOf verdicts-Decisions.plain verdicts-Decisions.contains verdicts-Decisions.patternDecides verdicts-Decisions.ordered verdicts-Decisions.decides verdicts-Verdicts.valued verdicts-Verdicts.namedBy verdicts-Verdicts.verdict verdicts-Verdicts.code verdicts-Verdicts.decode verdicts-Held.matchingOf verdicts-Held.expectedOf verdicts-Held.numberGiven verdicts-Held.textGiven verdicts-Held.terminalBytes verdicts-Held.itemText verdicts-Held.textsIn verdicts-Held.textsGiven verdicts-Held.pathInfoOf verdicts-Held.resultOf verdicts-Held.responseOf verdicts-Held.infoOf verdicts-Held.inside verdicts-Held.placeIn verdicts-Held.maybeIn verdicts-Held.matcherIn verdicts-Held.expectIn verdicts-Held.itemsIn verdicts-Held.listIn verdicts-Held.maybeListIn verdicts-Held.resultIn verdicts-Held.responseIn verdicts-Held.infoIn tables-Written.writtenAt judge-Tally.addedAll judge-Tally.outcomeOf judge-Tally.overLimit subjects-Subjects.heldBy subjects-Subjects.partsIn judge-Calls.said judge-Calls.wrongNumber judge-Calls.partOutside judge-Calls.tooLong judge-Answers.refusedIf judge-Answers.firstRefusal judge-Calls.judgedOr judge-Answers.closedOr judge-Calls.run judge-PlainJudge.owned judge-PlainJudge.belonging judge-PlainJudge.saidOn judge-PlainJudge.entryCount judge-PlainJudge.ownedLines judge-PlainJudge.filled judge-PlainJudge.plainStart judge-PlainJudge.plainRefusal judge-PlainJudge.plainJudged judge-PlainJudge.plainClosing judge-PlainJudge.plainCall judge-PlainJudge.plainRun judge-Judge.allIn judge-Judge.rangeFor judge-Judge.recordsIn judge-Judge.saidBy judge-Judge.pastEntries judge-Judge.rangeOutside judge-Judge.outOfReach judge-Judge.fewSlots judge-Judge.rangeRefusals judge-Judge.judgeRefusal judge-Judge.refusalOn judge-Judge.judgedBy judge-Judge.judged judge-Judge.judgedOn judge-Answers.closeRefusal judge-Answers.closeAnswer judge-Judge.judgeStep judge-Claim.slotOver judge-Claim.slotsOver judge-Claim.stateOver judge-Claim.acceptedBy judge-Claim.accepted judge-Claim.verdictBy judge-Claim.lineVerdict judge-Claim.lineVerdicts judge-Claim.verdictsIn judge-Claim.counted judge-Claim.numberOf judge-Claim.saidOf
+unfolding text-Base.within text-Base.overlaid text-Hex.without text-Hex.withoutBlanks text-Hex.characterStarts text-Hex.hexValue text-Hex.hexByte text-Hex.hexPairs text-Hex.hexDecoded text-Lines.linesFrom text-Lines.lines text-Lines.indented text-Literal.utf8 text-Literal.spells text-Literal.beginsWith text-Literal.wordLength text-Numbers.allDigits text-Numbers.decimalFrom text-Numbers.digits text-Numbers.number text-Numbers.minus text-Numbers.signed text-Parts.startsWith text-Parts.endsWith text-Parts.sameBytes text-Parts.positionFrom text-Parts.position text-Parts.pairPositionFrom text-Parts.pairPosition text-Parts.splitFrom text-Parts.split text-Trim.whiteBytes text-Trim.backwards text-Trim.begins text-Trim.sizeOf text-Trim.stripFrom text-Trim.trimmedFront text-Trim.trimmedBack text-Trim.trimmed text-Trim.trimPlace text-Unicode.encoded text-Unquote.quoted text-Unquote.between text-Unquote.replaced text-Unquote.replacedInOrder text-Unquote.unescaped text-Unquote.unquoted text-Utf8.table text-Utf8.after text-Utf8.wellFormedFrom text-Utf8.wellFormed text-Words.wordsFrom text-Words.words wire-Operations.operation wire-Operations.first wire-Operations.named wire-Version.ofNumbers wire-Version.ofParts wire-Version.version script-Answers.firstOf script-Contents.sayingOf script-Contents.sayings script-Contents.expectationOf script-Contents.expectations script-Contents.valueOr script-Contents.lastOf script-Contents.valueOf script-Contents.pairOf script-Contents.pairs script-Contents.givenBytes script-Contents.givenData script-Contents.numberOf script-Contents.flagOf script-Contents.itemsIn script-Contents.restOf script-Contents.setOf script-Contents.versionIn script-Contents.featuresIn script-Contents.unquotedOf script-Contents.hexOf script-Contents.dataOf script-Contents.callOf script-Contents.entryOf script-Contents.isOpening script-Contents.lead script-Contents.orNone script-Contents.entryOn script-Contents.entries script-Contents.preambleOf script-Contents.contents script-Expectations.numbered script-Expectations.about script-Expectations.pattern script-Expectations.comparison script-Expectations.matcher script-Expectations.matching script-Expectations.terminal script-Expectations.field script-Expectations.result script-Expectations.expectation script-Layout.range script-Layout.listed script-Layout.storedOf script-Layout.framedAt script-Layout.laid script-Layout.tablesFrom script-Layout.maybe script-Layout.maybeItems script-Layout.laidPreamble script-Layout.laidScript script-Operations.keyRow script-Operations.sameKey script-Operations.keysOf script-Operations.keyIn script-Operations.formOf script-Pieces.placeOf script-Pieces.place script-Pieces.isEmpty script-Pieces.inner script-Pieces.cutAt script-Pieces.bytes script-Pieces.is script-Pieces.begins script-Pieces.ends script-Pieces.behind script-Pieces.trim script-Pieces.cut script-Pieces.cutOr script-Pieces.split script-Pieces.words script-Plain.under script-Plain.takenBy script-Plain.hasKey script-Plain.expectationLine script-Plain.plainAbove script-Plain.takenOn script-Plain.plainBelow script-Plain.remaining script-Plain.plainStep script-Plain.plainFrom script-Plain.stated script-Plain.statedOn script-Plain.plainLines script-Plain.opened script-Plain.expectationLines script-Plain.owners script-Plain.leading script-Plain.rangesFrom script-Reading.refusedBy script-Reading.firstRefused script-Reading.readMarked script-Reading.readBy script-Reading.parsedBy script-Reading.parsed script-Reading.measured script-Reading.room script-Reading.tooFew script-Reading.fitted script-Reading.readInto script-Roles.refusalIn script-Roles.behindSigns script-Roles.versionRole script-Roles.expectRole script-Roles.saying script-Roles.commentRole script-Roles.protocolRole script-Roles.wordRole script-Roles.preambleExpect script-Roles.preambleRole script-Roles.preambleStep script-Roles.setOn script-Roles.notClosed script-Roles.openOn script-Roles.withName script-Roles.withStamp script-Roles.openingRole script-Roles.skipped script-Roles.outsideStep script-Roles.entryStep script-Roles.argumentLine script-Roles.pairIn script-Roles.keyed script-Roles.keySaying script-Roles.rawSaying script-Roles.optionSaying script-Roles.sayingIn script-Roles.refusalOfKind script-Roles.refusalOf script-Roles.argumentStep script-Roles.blockStep script-Roles.stepAt script-Roles.stepOf script-Roles.rolesFrom script-Roles.roles script-Sets.nonEmpty script-Sets.trimmedItems script-Sets.pathItems script-Sets.bracedSet script-Sets.plainSet script-Sets.pathSet script-Sets.features script-Timestamps.digitRun script-Timestamps.fraction script-Timestamps.unsigned script-Timestamps.negative script-Timestamps.small script-Timestamps.noFinite script-Timestamps.someDigits script-Timestamps.exponent script-Timestamps.carried script-Timestamps.time script-Timestamps.withTime script-Timestamps.stampedAt script-Timestamps.stamped script-Values.withoutQuotes script-Values.inlineOf script-Values.framed values-Decimal.decimalBy values-Decimal.decimal verdicts-Lookup.joined verdicts-Lookup.bracketed verdicts-Lookup.braced verdicts-Lookup.flag verdicts-Lookup.fields verdicts-Lookup.valueIn verdicts-Lookup.wholeValue verdicts-Lookup.daemonText verdicts-Lookup.trustOf verdicts-Lookup.trustText verdicts-Lookup.featuresText verdicts-Lookup.lookedIn verdicts-Lookup.toldIn verdicts-Lookup.looked verdicts-Decisions.passedIf verdicts-Decisions.oneOf verdicts-Decisions.plain verdicts-Decisions.contains verdicts-Decisions.patternDecides verdicts-Decisions.ordered verdicts-Decisions.decides verdicts-Verdicts.valued verdicts-Verdicts.namedBy verdicts-Verdicts.verdict verdicts-Verdicts.code verdicts-Verdicts.decode verdicts-Held.matchingOf verdicts-Held.expectedOf verdicts-Held.numberGiven verdicts-Held.textGiven verdicts-Held.terminalBytes verdicts-Held.itemText verdicts-Held.textsIn verdicts-Held.textsGiven verdicts-Held.pathInfoOf verdicts-Held.resultOf verdicts-Held.responseOf verdicts-Held.infoOf verdicts-Held.inside verdicts-Held.placeIn verdicts-Held.maybeIn verdicts-Held.matcherIn verdicts-Held.expectIn verdicts-Held.itemsIn verdicts-Held.listIn verdicts-Held.maybeListIn verdicts-Held.resultIn verdicts-Held.responseIn verdicts-Held.infoIn written-Written.writtenAt judge-Tally.addedAll judge-Tally.outcomeOf judge-Tally.overLimit subjects-Subjects.heldBy subjects-Subjects.partsIn judge-Calls.said judge-Calls.wrongNumber judge-Calls.partOutside judge-Calls.tooLong judge-Answers.refusedIf judge-Answers.firstRefusal judge-Calls.judgedOr judge-Answers.closedOr judge-Calls.run judge-PlainJudge.owned judge-PlainJudge.belonging judge-PlainJudge.saidOn judge-PlainJudge.entryCount judge-PlainJudge.ownedLines judge-PlainJudge.filled judge-PlainJudge.plainStart judge-PlainJudge.plainRefusal judge-PlainJudge.plainJudged judge-PlainJudge.plainClosing judge-PlainJudge.plainCall judge-PlainJudge.plainRun judge-Judge.allIn judge-Judge.rangeFor judge-Judge.recordsIn judge-Judge.saidBy judge-Judge.pastEntries judge-Judge.rangeOutside judge-Judge.outOfReach judge-Judge.fewSlots judge-Judge.rangeRefusals judge-Judge.judgeRefusal judge-Judge.refusalOn judge-Judge.judgedBy judge-Judge.judged judge-Judge.judgedOn judge-Answers.closeRefusal judge-Answers.closeAnswer judge-Judge.judgeStep judge-Claim.slotOver judge-Claim.slotsOver judge-Claim.stateOver judge-Claim.acceptedBy judge-Claim.accepted judge-Claim.verdictBy judge-Claim.lineVerdict judge-Claim.lineVerdicts judge-Claim.verdictsIn judge-Claim.counted judge-Claim.numberOf judge-Claim.saidOf
 plainly text places calls = plainRun text places calls
 
 -- ours, on tables that are just long enough; nothing where the text is refused
 abbrev ours : (text verdicts : List ℕ) → List Call → Parsed Reading → List Answer × JudgeState
-unfolding text-Base.within text-Base.overlaid text-Hex.without text-Hex.withoutBlanks text-Hex.characterStarts text-Hex.hexValue text-Hex.hexByte text-Hex.hexPairs text-Hex.hexDecoded text-Lines.linesFrom text-Lines.lines text-Lines.indented text-Literal.utf8 text-Literal.spells text-Literal.beginsWith text-Literal.wordLength text-Numbers.allDigits text-Numbers.decimalFrom text-Numbers.digits text-Numbers.number text-Numbers.minus text-Numbers.signed text-Parts.startsWith text-Parts.endsWith text-Parts.sameBytes text-Parts.positionFrom text-Parts.position text-Parts.pairPositionFrom text-Parts.pairPosition text-Parts.splitFrom text-Parts.split text-Trim.whiteBytes text-Trim.backwards text-Trim.begins text-Trim.sizeOf text-Trim.stripFrom text-Trim.trimmedFront text-Trim.trimmedBack text-Trim.trimmed text-Trim.trimPlace text-Unicode.encoded text-Unquote.quoted text-Unquote.between text-Unquote.replaced text-Unquote.replacedInOrder text-Unquote.unescaped text-Unquote.unquoted text-Utf8.table text-Utf8.after text-Utf8.wellFormedFrom text-Utf8.wellFormed text-Words.wordsFrom text-Words.words wire-Operations.operation wire-Operations.first wire-Operations.named wire-Version.ofNumbers wire-Version.ofParts wire-Version.version script-Answers.firstOf script-Contents.sayingOf script-Contents.sayings script-Contents.expectationOf script-Contents.expectations script-Contents.valueOr script-Contents.lastOf script-Contents.valueOf script-Contents.pairOf script-Contents.pairs script-Contents.givenBytes script-Contents.givenData script-Contents.numberOf script-Contents.flagOf script-Contents.itemsIn script-Contents.restOf script-Contents.setOf script-Contents.versionIn script-Contents.featuresIn script-Contents.unquotedOf script-Contents.hexOf script-Contents.dataOf script-Contents.callOf script-Contents.entryOf script-Contents.isOpening script-Contents.lead script-Contents.orNone script-Contents.entryOn script-Contents.entries script-Contents.preambleOf script-Contents.contents script-Expectations.numbered script-Expectations.about script-Expectations.pattern script-Expectations.comparison script-Expectations.matcher script-Expectations.matching script-Expectations.terminal script-Expectations.field script-Expectations.result script-Expectations.expectation script-Layout.range script-Layout.listed script-Layout.storedOf script-Layout.framedAt script-Layout.laid script-Layout.tablesFrom script-Layout.maybe script-Layout.maybeItems script-Layout.laidPreamble script-Layout.laidScript script-Operations.keyRow script-Operations.sameKey script-Operations.keysOf script-Operations.keyIn script-Operations.formOf script-Pieces.placeOf script-Pieces.place script-Pieces.isEmpty script-Pieces.inner script-Pieces.cutAt script-Pieces.bytes script-Pieces.is script-Pieces.begins script-Pieces.ends script-Pieces.behind script-Pieces.trim script-Pieces.cut script-Pieces.cutOr script-Pieces.split script-Pieces.words script-Plain.under script-Plain.takenBy script-Plain.hasKey script-Plain.expectationLine script-Plain.plainAbove script-Plain.takenOn script-Plain.plainBelow script-Plain.remaining script-Plain.plainStep script-Plain.plainFrom script-Plain.stated script-Plain.statedOn script-Plain.plainLines script-Plain.opened script-Plain.expectationLines script-Plain.owners script-Plain.leading script-Plain.rangesFrom script-Reading.refusedBy script-Reading.firstRefused script-Reading.readMarked script-Reading.readBy script-Reading.parsedBy script-Reading.parsed script-Reading.measured script-Reading.room script-Reading.tooFew script-Reading.fitted script-Reading.readInto script-Roles.refusalIn script-Roles.behindSigns script-Roles.versionRole script-Roles.expectRole script-Roles.saying script-Roles.commentRole script-Roles.protocolRole script-Roles.wordRole script-Roles.preambleExpect script-Roles.preambleRole script-Roles.preambleStep script-Roles.setOn script-Roles.notClosed script-Roles.openOn script-Roles.withName script-Roles.withStamp script-Roles.openingRole script-Roles.skipped script-Roles.outsideStep script-Roles.entryStep script-Roles.argumentLine script-Roles.pairIn script-Roles.keyed script-Roles.keySaying script-Roles.rawSaying script-Roles.optionSaying script-Roles.sayingIn script-Roles.refusalOfKind script-Roles.refusalOf script-Roles.argumentStep script-Roles.blockStep script-Roles.stepAt script-Roles.stepOf script-Roles.rolesFrom script-Roles.roles script-Sets.nonEmpty script-Sets.trimmedItems script-Sets.pathItems script-Sets.bracedSet script-Sets.plainSet script-Sets.pathSet script-Sets.features script-Timestamps.digitRun script-Timestamps.fraction script-Timestamps.unsigned script-Timestamps.negative script-Timestamps.small script-Timestamps.noFinite script-Timestamps.someDigits script-Timestamps.exponent script-Timestamps.carried script-Timestamps.time script-Timestamps.withTime script-Timestamps.stampedAt script-Timestamps.stamped script-Values.withoutQuotes script-Values.inlineOf script-Values.framed values-Decimal.decimalBy values-Decimal.decimal verdicts-Lookup.joined verdicts-Lookup.bracketed verdicts-Lookup.braced verdicts-Lookup.flag verdicts-Lookup.fields verdicts-Lookup.valueIn verdicts-Lookup.wholeValue verdicts-Lookup.daemonText verdicts-Lookup.trustOf verdicts-Lookup.trustText verdicts-Lookup.featuresText verdicts-Lookup.lookedIn verdicts-Lookup.toldIn verdicts-Lookup.looked verdicts-Decisions.passedIf verdicts-Decisions.oneOf verdicts-Decisions.plain verdicts-Decisions.contains verdicts-Decisions.patternDecides verdicts-Decisions.ordered verdicts-Decisions.decides verdicts-Verdicts.valued verdicts-Verdicts.namedBy verdicts-Verdicts.verdict verdicts-Verdicts.code verdicts-Verdicts.decode verdicts-Held.matchingOf verdicts-Held.expectedOf verdicts-Held.numberGiven verdicts-Held.textGiven verdicts-Held.terminalBytes verdicts-Held.itemText verdicts-Held.textsIn verdicts-Held.textsGiven verdicts-Held.pathInfoOf verdicts-Held.resultOf verdicts-Held.responseOf verdicts-Held.infoOf verdicts-Held.inside verdicts-Held.placeIn verdicts-Held.maybeIn verdicts-Held.matcherIn verdicts-Held.expectIn verdicts-Held.itemsIn verdicts-Held.listIn verdicts-Held.maybeListIn verdicts-Held.resultIn verdicts-Held.responseIn verdicts-Held.infoIn tables-Written.writtenAt judge-Tally.addedAll judge-Tally.outcomeOf judge-Tally.overLimit subjects-Subjects.heldBy subjects-Subjects.partsIn judge-Calls.said judge-Calls.wrongNumber judge-Calls.partOutside judge-Calls.tooLong judge-Answers.refusedIf judge-Answers.firstRefusal judge-Calls.judgedOr judge-Answers.closedOr judge-Calls.run judge-PlainJudge.owned judge-PlainJudge.belonging judge-PlainJudge.saidOn judge-PlainJudge.entryCount judge-PlainJudge.ownedLines judge-PlainJudge.filled judge-PlainJudge.plainStart judge-PlainJudge.plainRefusal judge-PlainJudge.plainJudged judge-PlainJudge.plainClosing judge-PlainJudge.plainCall judge-PlainJudge.plainRun judge-Judge.allIn judge-Judge.rangeFor judge-Judge.recordsIn judge-Judge.saidBy judge-Judge.pastEntries judge-Judge.rangeOutside judge-Judge.outOfReach judge-Judge.fewSlots judge-Judge.rangeRefusals judge-Judge.judgeRefusal judge-Judge.refusalOn judge-Judge.judgedBy judge-Judge.judged judge-Judge.judgedOn judge-Answers.closeRefusal judge-Answers.closeAnswer judge-Judge.judgeStep judge-Claim.slotOver judge-Claim.slotsOver judge-Claim.stateOver judge-Claim.acceptedBy judge-Claim.accepted judge-Claim.verdictBy judge-Claim.lineVerdict judge-Claim.lineVerdicts judge-Claim.verdictsIn judge-Claim.counted judge-Claim.numberOf judge-Claim.saidOf
+unfolding text-Base.within text-Base.overlaid text-Hex.without text-Hex.withoutBlanks text-Hex.characterStarts text-Hex.hexValue text-Hex.hexByte text-Hex.hexPairs text-Hex.hexDecoded text-Lines.linesFrom text-Lines.lines text-Lines.indented text-Literal.utf8 text-Literal.spells text-Literal.beginsWith text-Literal.wordLength text-Numbers.allDigits text-Numbers.decimalFrom text-Numbers.digits text-Numbers.number text-Numbers.minus text-Numbers.signed text-Parts.startsWith text-Parts.endsWith text-Parts.sameBytes text-Parts.positionFrom text-Parts.position text-Parts.pairPositionFrom text-Parts.pairPosition text-Parts.splitFrom text-Parts.split text-Trim.whiteBytes text-Trim.backwards text-Trim.begins text-Trim.sizeOf text-Trim.stripFrom text-Trim.trimmedFront text-Trim.trimmedBack text-Trim.trimmed text-Trim.trimPlace text-Unicode.encoded text-Unquote.quoted text-Unquote.between text-Unquote.replaced text-Unquote.replacedInOrder text-Unquote.unescaped text-Unquote.unquoted text-Utf8.table text-Utf8.after text-Utf8.wellFormedFrom text-Utf8.wellFormed text-Words.wordsFrom text-Words.words wire-Operations.operation wire-Operations.first wire-Operations.named wire-Version.ofNumbers wire-Version.ofParts wire-Version.version script-Answers.firstOf script-Contents.sayingOf script-Contents.sayings script-Contents.expectationOf script-Contents.expectations script-Contents.valueOr script-Contents.lastOf script-Contents.valueOf script-Contents.pairOf script-Contents.pairs script-Contents.givenBytes script-Contents.givenData script-Contents.numberOf script-Contents.flagOf script-Contents.itemsIn script-Contents.restOf script-Contents.setOf script-Contents.versionIn script-Contents.featuresIn script-Contents.unquotedOf script-Contents.hexOf script-Contents.dataOf script-Contents.callOf script-Contents.entryOf script-Contents.isOpening script-Contents.lead script-Contents.orNone script-Contents.entryOn script-Contents.entries script-Contents.preambleOf script-Contents.contents script-Expectations.numbered script-Expectations.about script-Expectations.pattern script-Expectations.comparison script-Expectations.matcher script-Expectations.matching script-Expectations.terminal script-Expectations.field script-Expectations.result script-Expectations.expectation script-Layout.range script-Layout.listed script-Layout.storedOf script-Layout.framedAt script-Layout.laid script-Layout.tablesFrom script-Layout.maybe script-Layout.maybeItems script-Layout.laidPreamble script-Layout.laidScript script-Operations.keyRow script-Operations.sameKey script-Operations.keysOf script-Operations.keyIn script-Operations.formOf script-Pieces.placeOf script-Pieces.place script-Pieces.isEmpty script-Pieces.inner script-Pieces.cutAt script-Pieces.bytes script-Pieces.is script-Pieces.begins script-Pieces.ends script-Pieces.behind script-Pieces.trim script-Pieces.cut script-Pieces.cutOr script-Pieces.split script-Pieces.words script-Plain.under script-Plain.takenBy script-Plain.hasKey script-Plain.expectationLine script-Plain.plainAbove script-Plain.takenOn script-Plain.plainBelow script-Plain.remaining script-Plain.plainStep script-Plain.plainFrom script-Plain.stated script-Plain.statedOn script-Plain.plainLines script-Plain.opened script-Plain.expectationLines script-Plain.owners script-Plain.leading script-Plain.rangesFrom script-Reading.refusedBy script-Reading.firstRefused script-Reading.readMarked script-Reading.readBy script-Reading.parsedBy script-Reading.parsed script-Reading.measured script-Reading.room script-Reading.tooFew script-Reading.fitted script-Reading.readInto script-Roles.refusalIn script-Roles.behindSigns script-Roles.versionRole script-Roles.expectRole script-Roles.saying script-Roles.commentRole script-Roles.protocolRole script-Roles.wordRole script-Roles.preambleExpect script-Roles.preambleRole script-Roles.preambleStep script-Roles.setOn script-Roles.notClosed script-Roles.openOn script-Roles.withName script-Roles.withStamp script-Roles.openingRole script-Roles.skipped script-Roles.outsideStep script-Roles.entryStep script-Roles.argumentLine script-Roles.pairIn script-Roles.keyed script-Roles.keySaying script-Roles.rawSaying script-Roles.optionSaying script-Roles.sayingIn script-Roles.refusalOfKind script-Roles.refusalOf script-Roles.argumentStep script-Roles.blockStep script-Roles.stepAt script-Roles.stepOf script-Roles.rolesFrom script-Roles.roles script-Sets.nonEmpty script-Sets.trimmedItems script-Sets.pathItems script-Sets.bracedSet script-Sets.plainSet script-Sets.pathSet script-Sets.features script-Timestamps.digitRun script-Timestamps.fraction script-Timestamps.unsigned script-Timestamps.negative script-Timestamps.small script-Timestamps.noFinite script-Timestamps.someDigits script-Timestamps.exponent script-Timestamps.carried script-Timestamps.time script-Timestamps.withTime script-Timestamps.stampedAt script-Timestamps.stamped script-Values.withoutQuotes script-Values.inlineOf script-Values.framed values-Decimal.decimalBy values-Decimal.decimal verdicts-Lookup.joined verdicts-Lookup.bracketed verdicts-Lookup.braced verdicts-Lookup.flag verdicts-Lookup.fields verdicts-Lookup.valueIn verdicts-Lookup.wholeValue verdicts-Lookup.daemonText verdicts-Lookup.trustOf verdicts-Lookup.trustText verdicts-Lookup.featuresText verdicts-Lookup.lookedIn verdicts-Lookup.toldIn verdicts-Lookup.looked verdicts-Decisions.passedIf verdicts-Decisions.oneOf verdicts-Decisions.plain verdicts-Decisions.contains verdicts-Decisions.patternDecides verdicts-Decisions.ordered verdicts-Decisions.decides verdicts-Verdicts.valued verdicts-Verdicts.namedBy verdicts-Verdicts.verdict verdicts-Verdicts.code verdicts-Verdicts.decode verdicts-Held.matchingOf verdicts-Held.expectedOf verdicts-Held.numberGiven verdicts-Held.textGiven verdicts-Held.terminalBytes verdicts-Held.itemText verdicts-Held.textsIn verdicts-Held.textsGiven verdicts-Held.pathInfoOf verdicts-Held.resultOf verdicts-Held.responseOf verdicts-Held.infoOf verdicts-Held.inside verdicts-Held.placeIn verdicts-Held.maybeIn verdicts-Held.matcherIn verdicts-Held.expectIn verdicts-Held.itemsIn verdicts-Held.listIn verdicts-Held.maybeListIn verdicts-Held.resultIn verdicts-Held.responseIn verdicts-Held.infoIn written-Written.writtenAt judge-Tally.addedAll judge-Tally.outcomeOf judge-Tally.overLimit subjects-Subjects.heldBy subjects-Subjects.partsIn judge-Calls.said judge-Calls.wrongNumber judge-Calls.partOutside judge-Calls.tooLong judge-Answers.refusedIf judge-Answers.firstRefusal judge-Calls.judgedOr judge-Answers.closedOr judge-Calls.run judge-PlainJudge.owned judge-PlainJudge.belonging judge-PlainJudge.saidOn judge-PlainJudge.entryCount judge-PlainJudge.ownedLines judge-PlainJudge.filled judge-PlainJudge.plainStart judge-PlainJudge.plainRefusal judge-PlainJudge.plainJudged judge-PlainJudge.plainClosing judge-PlainJudge.plainCall judge-PlainJudge.plainRun judge-Judge.allIn judge-Judge.rangeFor judge-Judge.recordsIn judge-Judge.saidBy judge-Judge.pastEntries judge-Judge.rangeOutside judge-Judge.outOfReach judge-Judge.fewSlots judge-Judge.rangeRefusals judge-Judge.judgeRefusal judge-Judge.refusalOn judge-Judge.judgedBy judge-Judge.judged judge-Judge.judgedOn judge-Answers.closeRefusal judge-Answers.closeAnswer judge-Judge.judgeStep judge-Claim.slotOver judge-Claim.slotsOver judge-Claim.stateOver judge-Claim.acceptedBy judge-Claim.accepted judge-Claim.verdictBy judge-Claim.lineVerdict judge-Claim.lineVerdicts judge-Claim.verdictsIn judge-Claim.counted judge-Claim.numberOf judge-Claim.saidOf
 ours text verdicts calls (read r) = ourRun (record { text = text; script = r .script; entries = r .tables .entries; expectations = r .tables .expectations }) verdicts calls
 ours text verdicts calls (refusedAt q) = ([], judge-Judge.judgeStart verdicts)
 
 abbrev ourly : (text verdicts : List ℕ) → List Call → List Answer × JudgeState
-unfolding text-Base.within text-Base.overlaid text-Hex.without text-Hex.withoutBlanks text-Hex.characterStarts text-Hex.hexValue text-Hex.hexByte text-Hex.hexPairs text-Hex.hexDecoded text-Lines.linesFrom text-Lines.lines text-Lines.indented text-Literal.utf8 text-Literal.spells text-Literal.beginsWith text-Literal.wordLength text-Numbers.allDigits text-Numbers.decimalFrom text-Numbers.digits text-Numbers.number text-Numbers.minus text-Numbers.signed text-Parts.startsWith text-Parts.endsWith text-Parts.sameBytes text-Parts.positionFrom text-Parts.position text-Parts.pairPositionFrom text-Parts.pairPosition text-Parts.splitFrom text-Parts.split text-Trim.whiteBytes text-Trim.backwards text-Trim.begins text-Trim.sizeOf text-Trim.stripFrom text-Trim.trimmedFront text-Trim.trimmedBack text-Trim.trimmed text-Trim.trimPlace text-Unicode.encoded text-Unquote.quoted text-Unquote.between text-Unquote.replaced text-Unquote.replacedInOrder text-Unquote.unescaped text-Unquote.unquoted text-Utf8.table text-Utf8.after text-Utf8.wellFormedFrom text-Utf8.wellFormed text-Words.wordsFrom text-Words.words wire-Operations.operation wire-Operations.first wire-Operations.named wire-Version.ofNumbers wire-Version.ofParts wire-Version.version script-Answers.firstOf script-Contents.sayingOf script-Contents.sayings script-Contents.expectationOf script-Contents.expectations script-Contents.valueOr script-Contents.lastOf script-Contents.valueOf script-Contents.pairOf script-Contents.pairs script-Contents.givenBytes script-Contents.givenData script-Contents.numberOf script-Contents.flagOf script-Contents.itemsIn script-Contents.restOf script-Contents.setOf script-Contents.versionIn script-Contents.featuresIn script-Contents.unquotedOf script-Contents.hexOf script-Contents.dataOf script-Contents.callOf script-Contents.entryOf script-Contents.isOpening script-Contents.lead script-Contents.orNone script-Contents.entryOn script-Contents.entries script-Contents.preambleOf script-Contents.contents script-Expectations.numbered script-Expectations.about script-Expectations.pattern script-Expectations.comparison script-Expectations.matcher script-Expectations.matching script-Expectations.terminal script-Expectations.field script-Expectations.result script-Expectations.expectation script-Layout.range script-Layout.listed script-Layout.storedOf script-Layout.framedAt script-Layout.laid script-Layout.tablesFrom script-Layout.maybe script-Layout.maybeItems script-Layout.laidPreamble script-Layout.laidScript script-Operations.keyRow script-Operations.sameKey script-Operations.keysOf script-Operations.keyIn script-Operations.formOf script-Pieces.placeOf script-Pieces.place script-Pieces.isEmpty script-Pieces.inner script-Pieces.cutAt script-Pieces.bytes script-Pieces.is script-Pieces.begins script-Pieces.ends script-Pieces.behind script-Pieces.trim script-Pieces.cut script-Pieces.cutOr script-Pieces.split script-Pieces.words script-Plain.under script-Plain.takenBy script-Plain.hasKey script-Plain.expectationLine script-Plain.plainAbove script-Plain.takenOn script-Plain.plainBelow script-Plain.remaining script-Plain.plainStep script-Plain.plainFrom script-Plain.stated script-Plain.statedOn script-Plain.plainLines script-Plain.opened script-Plain.expectationLines script-Plain.owners script-Plain.leading script-Plain.rangesFrom script-Reading.refusedBy script-Reading.firstRefused script-Reading.readMarked script-Reading.readBy script-Reading.parsedBy script-Reading.parsed script-Reading.measured script-Reading.room script-Reading.tooFew script-Reading.fitted script-Reading.readInto script-Roles.refusalIn script-Roles.behindSigns script-Roles.versionRole script-Roles.expectRole script-Roles.saying script-Roles.commentRole script-Roles.protocolRole script-Roles.wordRole script-Roles.preambleExpect script-Roles.preambleRole script-Roles.preambleStep script-Roles.setOn script-Roles.notClosed script-Roles.openOn script-Roles.withName script-Roles.withStamp script-Roles.openingRole script-Roles.skipped script-Roles.outsideStep script-Roles.entryStep script-Roles.argumentLine script-Roles.pairIn script-Roles.keyed script-Roles.keySaying script-Roles.rawSaying script-Roles.optionSaying script-Roles.sayingIn script-Roles.refusalOfKind script-Roles.refusalOf script-Roles.argumentStep script-Roles.blockStep script-Roles.stepAt script-Roles.stepOf script-Roles.rolesFrom script-Roles.roles script-Sets.nonEmpty script-Sets.trimmedItems script-Sets.pathItems script-Sets.bracedSet script-Sets.plainSet script-Sets.pathSet script-Sets.features script-Timestamps.digitRun script-Timestamps.fraction script-Timestamps.unsigned script-Timestamps.negative script-Timestamps.small script-Timestamps.noFinite script-Timestamps.someDigits script-Timestamps.exponent script-Timestamps.carried script-Timestamps.time script-Timestamps.withTime script-Timestamps.stampedAt script-Timestamps.stamped script-Values.withoutQuotes script-Values.inlineOf script-Values.framed values-Decimal.decimalBy values-Decimal.decimal verdicts-Lookup.joined verdicts-Lookup.bracketed verdicts-Lookup.braced verdicts-Lookup.flag verdicts-Lookup.fields verdicts-Lookup.valueIn verdicts-Lookup.wholeValue verdicts-Lookup.daemonText verdicts-Lookup.trustOf verdicts-Lookup.trustText verdicts-Lookup.featuresText verdicts-Lookup.lookedIn verdicts-Lookup.toldIn verdicts-Lookup.looked verdicts-Decisions.passedIf verdicts-Decisions.oneOf verdicts-Decisions.plain verdicts-Decisions.contains verdicts-Decisions.patternDecides verdicts-Decisions.ordered verdicts-Decisions.decides verdicts-Verdicts.valued verdicts-Verdicts.namedBy verdicts-Verdicts.verdict verdicts-Verdicts.code verdicts-Verdicts.decode verdicts-Held.matchingOf verdicts-Held.expectedOf verdicts-Held.numberGiven verdicts-Held.textGiven verdicts-Held.terminalBytes verdicts-Held.itemText verdicts-Held.textsIn verdicts-Held.textsGiven verdicts-Held.pathInfoOf verdicts-Held.resultOf verdicts-Held.responseOf verdicts-Held.infoOf verdicts-Held.inside verdicts-Held.placeIn verdicts-Held.maybeIn verdicts-Held.matcherIn verdicts-Held.expectIn verdicts-Held.itemsIn verdicts-Held.listIn verdicts-Held.maybeListIn verdicts-Held.resultIn verdicts-Held.responseIn verdicts-Held.infoIn tables-Written.writtenAt judge-Tally.addedAll judge-Tally.outcomeOf judge-Tally.overLimit subjects-Subjects.heldBy subjects-Subjects.partsIn judge-Calls.said judge-Calls.wrongNumber judge-Calls.partOutside judge-Calls.tooLong judge-Answers.refusedIf judge-Answers.firstRefusal judge-Calls.judgedOr judge-Answers.closedOr judge-Calls.run judge-PlainJudge.owned judge-PlainJudge.belonging judge-PlainJudge.saidOn judge-PlainJudge.entryCount judge-PlainJudge.ownedLines judge-PlainJudge.filled judge-PlainJudge.plainStart judge-PlainJudge.plainRefusal judge-PlainJudge.plainJudged judge-PlainJudge.plainClosing judge-PlainJudge.plainCall judge-PlainJudge.plainRun judge-Judge.allIn judge-Judge.rangeFor judge-Judge.recordsIn judge-Judge.saidBy judge-Judge.pastEntries judge-Judge.rangeOutside judge-Judge.outOfReach judge-Judge.fewSlots judge-Judge.rangeRefusals judge-Judge.judgeRefusal judge-Judge.refusalOn judge-Judge.judgedBy judge-Judge.judged judge-Judge.judgedOn judge-Answers.closeRefusal judge-Answers.closeAnswer judge-Judge.judgeStep judge-Claim.slotOver judge-Claim.slotsOver judge-Claim.stateOver judge-Claim.acceptedBy judge-Claim.accepted judge-Claim.verdictBy judge-Claim.lineVerdict judge-Claim.lineVerdicts judge-Claim.verdictsIn judge-Claim.counted judge-Claim.numberOf judge-Claim.saidOf
+unfolding text-Base.within text-Base.overlaid text-Hex.without text-Hex.withoutBlanks text-Hex.characterStarts text-Hex.hexValue text-Hex.hexByte text-Hex.hexPairs text-Hex.hexDecoded text-Lines.linesFrom text-Lines.lines text-Lines.indented text-Literal.utf8 text-Literal.spells text-Literal.beginsWith text-Literal.wordLength text-Numbers.allDigits text-Numbers.decimalFrom text-Numbers.digits text-Numbers.number text-Numbers.minus text-Numbers.signed text-Parts.startsWith text-Parts.endsWith text-Parts.sameBytes text-Parts.positionFrom text-Parts.position text-Parts.pairPositionFrom text-Parts.pairPosition text-Parts.splitFrom text-Parts.split text-Trim.whiteBytes text-Trim.backwards text-Trim.begins text-Trim.sizeOf text-Trim.stripFrom text-Trim.trimmedFront text-Trim.trimmedBack text-Trim.trimmed text-Trim.trimPlace text-Unicode.encoded text-Unquote.quoted text-Unquote.between text-Unquote.replaced text-Unquote.replacedInOrder text-Unquote.unescaped text-Unquote.unquoted text-Utf8.table text-Utf8.after text-Utf8.wellFormedFrom text-Utf8.wellFormed text-Words.wordsFrom text-Words.words wire-Operations.operation wire-Operations.first wire-Operations.named wire-Version.ofNumbers wire-Version.ofParts wire-Version.version script-Answers.firstOf script-Contents.sayingOf script-Contents.sayings script-Contents.expectationOf script-Contents.expectations script-Contents.valueOr script-Contents.lastOf script-Contents.valueOf script-Contents.pairOf script-Contents.pairs script-Contents.givenBytes script-Contents.givenData script-Contents.numberOf script-Contents.flagOf script-Contents.itemsIn script-Contents.restOf script-Contents.setOf script-Contents.versionIn script-Contents.featuresIn script-Contents.unquotedOf script-Contents.hexOf script-Contents.dataOf script-Contents.callOf script-Contents.entryOf script-Contents.isOpening script-Contents.lead script-Contents.orNone script-Contents.entryOn script-Contents.entries script-Contents.preambleOf script-Contents.contents script-Expectations.numbered script-Expectations.about script-Expectations.pattern script-Expectations.comparison script-Expectations.matcher script-Expectations.matching script-Expectations.terminal script-Expectations.field script-Expectations.result script-Expectations.expectation script-Layout.range script-Layout.listed script-Layout.storedOf script-Layout.framedAt script-Layout.laid script-Layout.tablesFrom script-Layout.maybe script-Layout.maybeItems script-Layout.laidPreamble script-Layout.laidScript script-Operations.keyRow script-Operations.sameKey script-Operations.keysOf script-Operations.keyIn script-Operations.formOf script-Pieces.placeOf script-Pieces.place script-Pieces.isEmpty script-Pieces.inner script-Pieces.cutAt script-Pieces.bytes script-Pieces.is script-Pieces.begins script-Pieces.ends script-Pieces.behind script-Pieces.trim script-Pieces.cut script-Pieces.cutOr script-Pieces.split script-Pieces.words script-Plain.under script-Plain.takenBy script-Plain.hasKey script-Plain.expectationLine script-Plain.plainAbove script-Plain.takenOn script-Plain.plainBelow script-Plain.remaining script-Plain.plainStep script-Plain.plainFrom script-Plain.stated script-Plain.statedOn script-Plain.plainLines script-Plain.opened script-Plain.expectationLines script-Plain.owners script-Plain.leading script-Plain.rangesFrom script-Reading.refusedBy script-Reading.firstRefused script-Reading.readMarked script-Reading.readBy script-Reading.parsedBy script-Reading.parsed script-Reading.measured script-Reading.room script-Reading.tooFew script-Reading.fitted script-Reading.readInto script-Roles.refusalIn script-Roles.behindSigns script-Roles.versionRole script-Roles.expectRole script-Roles.saying script-Roles.commentRole script-Roles.protocolRole script-Roles.wordRole script-Roles.preambleExpect script-Roles.preambleRole script-Roles.preambleStep script-Roles.setOn script-Roles.notClosed script-Roles.openOn script-Roles.withName script-Roles.withStamp script-Roles.openingRole script-Roles.skipped script-Roles.outsideStep script-Roles.entryStep script-Roles.argumentLine script-Roles.pairIn script-Roles.keyed script-Roles.keySaying script-Roles.rawSaying script-Roles.optionSaying script-Roles.sayingIn script-Roles.refusalOfKind script-Roles.refusalOf script-Roles.argumentStep script-Roles.blockStep script-Roles.stepAt script-Roles.stepOf script-Roles.rolesFrom script-Roles.roles script-Sets.nonEmpty script-Sets.trimmedItems script-Sets.pathItems script-Sets.bracedSet script-Sets.plainSet script-Sets.pathSet script-Sets.features script-Timestamps.digitRun script-Timestamps.fraction script-Timestamps.unsigned script-Timestamps.negative script-Timestamps.small script-Timestamps.noFinite script-Timestamps.someDigits script-Timestamps.exponent script-Timestamps.carried script-Timestamps.time script-Timestamps.withTime script-Timestamps.stampedAt script-Timestamps.stamped script-Values.withoutQuotes script-Values.inlineOf script-Values.framed values-Decimal.decimalBy values-Decimal.decimal verdicts-Lookup.joined verdicts-Lookup.bracketed verdicts-Lookup.braced verdicts-Lookup.flag verdicts-Lookup.fields verdicts-Lookup.valueIn verdicts-Lookup.wholeValue verdicts-Lookup.daemonText verdicts-Lookup.trustOf verdicts-Lookup.trustText verdicts-Lookup.featuresText verdicts-Lookup.lookedIn verdicts-Lookup.toldIn verdicts-Lookup.looked verdicts-Decisions.passedIf verdicts-Decisions.oneOf verdicts-Decisions.plain verdicts-Decisions.contains verdicts-Decisions.patternDecides verdicts-Decisions.ordered verdicts-Decisions.decides verdicts-Verdicts.valued verdicts-Verdicts.namedBy verdicts-Verdicts.verdict verdicts-Verdicts.code verdicts-Verdicts.decode verdicts-Held.matchingOf verdicts-Held.expectedOf verdicts-Held.numberGiven verdicts-Held.textGiven verdicts-Held.terminalBytes verdicts-Held.itemText verdicts-Held.textsIn verdicts-Held.textsGiven verdicts-Held.pathInfoOf verdicts-Held.resultOf verdicts-Held.responseOf verdicts-Held.infoOf verdicts-Held.inside verdicts-Held.placeIn verdicts-Held.maybeIn verdicts-Held.matcherIn verdicts-Held.expectIn verdicts-Held.itemsIn verdicts-Held.listIn verdicts-Held.maybeListIn verdicts-Held.resultIn verdicts-Held.responseIn verdicts-Held.infoIn written-Written.writtenAt judge-Tally.addedAll judge-Tally.outcomeOf judge-Tally.overLimit subjects-Subjects.heldBy subjects-Subjects.partsIn judge-Calls.said judge-Calls.wrongNumber judge-Calls.partOutside judge-Calls.tooLong judge-Answers.refusedIf judge-Answers.firstRefusal judge-Calls.judgedOr judge-Answers.closedOr judge-Calls.run judge-PlainJudge.owned judge-PlainJudge.belonging judge-PlainJudge.saidOn judge-PlainJudge.entryCount judge-PlainJudge.ownedLines judge-PlainJudge.filled judge-PlainJudge.plainStart judge-PlainJudge.plainRefusal judge-PlainJudge.plainJudged judge-PlainJudge.plainClosing judge-PlainJudge.plainCall judge-PlainJudge.plainRun judge-Judge.allIn judge-Judge.rangeFor judge-Judge.recordsIn judge-Judge.saidBy judge-Judge.pastEntries judge-Judge.rangeOutside judge-Judge.outOfReach judge-Judge.fewSlots judge-Judge.rangeRefusals judge-Judge.judgeRefusal judge-Judge.refusalOn judge-Judge.judgedBy judge-Judge.judged judge-Judge.judgedOn judge-Answers.closeRefusal judge-Answers.closeAnswer judge-Judge.judgeStep judge-Claim.slotOver judge-Claim.slotsOver judge-Claim.stateOver judge-Claim.acceptedBy judge-Claim.accepted judge-Claim.verdictBy judge-Claim.lineVerdict judge-Claim.lineVerdicts judge-Claim.verdictsIn judge-Claim.counted judge-Claim.numberOf judge-Claim.saidOf
 ourly text verdicts calls = ours text verdicts calls (parsed text)
 
 -- ---- calls
@@ -251,7 +251,7 @@ greeted number features scratch = judge (record {
 
 -- a judging after so many passed, with so many slots
 abbrev answered : (passed : ℕ) → (verdicts : List ℕ) → Items → Place → Call → Answer
-unfolding text-Base.within text-Base.overlaid text-Literal.utf8 text-Literal.spells text-Literal.beginsWith text-Literal.wordLength text-Parts.startsWith text-Parts.endsWith text-Parts.sameBytes text-Parts.positionFrom text-Parts.position text-Parts.pairPositionFrom text-Parts.pairPosition text-Parts.splitFrom text-Parts.split text-Unicode.encoded script-Reading.refusedBy script-Reading.firstRefused script-Reading.readMarked script-Reading.readBy script-Reading.parsedBy script-Reading.parsed script-Reading.measured script-Reading.room script-Reading.tooFew script-Reading.fitted script-Reading.readInto values-Decimal.decimalBy values-Decimal.decimal verdicts-Lookup.joined verdicts-Lookup.bracketed verdicts-Lookup.braced verdicts-Lookup.flag verdicts-Lookup.fields verdicts-Lookup.valueIn verdicts-Lookup.wholeValue verdicts-Lookup.daemonText verdicts-Lookup.trustOf verdicts-Lookup.trustText verdicts-Lookup.featuresText verdicts-Lookup.lookedIn verdicts-Lookup.toldIn verdicts-Lookup.looked verdicts-Decisions.passedIf verdicts-Decisions.oneOf verdicts-Decisions.plain verdicts-Decisions.contains verdicts-Decisions.patternDecides verdicts-Decisions.ordered verdicts-Decisions.decides verdicts-Verdicts.valued verdicts-Verdicts.namedBy verdicts-Verdicts.verdict verdicts-Verdicts.code verdicts-Verdicts.decode verdicts-Held.matchingOf verdicts-Held.expectedOf verdicts-Held.numberGiven verdicts-Held.textGiven verdicts-Held.terminalBytes verdicts-Held.itemText verdicts-Held.textsIn verdicts-Held.textsGiven verdicts-Held.pathInfoOf verdicts-Held.resultOf verdicts-Held.responseOf verdicts-Held.infoOf verdicts-Held.inside verdicts-Held.placeIn verdicts-Held.maybeIn verdicts-Held.matcherIn verdicts-Held.expectIn verdicts-Held.itemsIn verdicts-Held.listIn verdicts-Held.maybeListIn verdicts-Held.resultIn verdicts-Held.responseIn verdicts-Held.infoIn tables-Written.writtenAt judge-Tally.addedAll judge-Tally.outcomeOf judge-Tally.overLimit subjects-Subjects.heldBy subjects-Subjects.partsIn judge-Calls.said judge-Calls.wrongNumber judge-Calls.partOutside judge-Calls.tooLong judge-Answers.refusedIf judge-Answers.firstRefusal judge-Calls.judgedOr judge-Answers.closedOr judge-Calls.run judge-Judge.allIn judge-Judge.rangeFor judge-Judge.recordsIn judge-Judge.saidBy judge-Judge.pastEntries judge-Judge.rangeOutside judge-Judge.outOfReach judge-Judge.fewSlots judge-Judge.rangeRefusals judge-Judge.judgeRefusal judge-Judge.refusalOn judge-Judge.judgedBy judge-Judge.judged judge-Judge.judgedOn judge-Answers.closeRefusal judge-Answers.closeAnswer judge-Judge.judgeStep
+unfolding text-Base.within text-Base.overlaid text-Literal.utf8 text-Literal.spells text-Literal.beginsWith text-Literal.wordLength text-Parts.startsWith text-Parts.endsWith text-Parts.sameBytes text-Parts.positionFrom text-Parts.position text-Parts.pairPositionFrom text-Parts.pairPosition text-Parts.splitFrom text-Parts.split text-Unicode.encoded script-Reading.refusedBy script-Reading.firstRefused script-Reading.readMarked script-Reading.readBy script-Reading.parsedBy script-Reading.parsed script-Reading.measured script-Reading.room script-Reading.tooFew script-Reading.fitted script-Reading.readInto values-Decimal.decimalBy values-Decimal.decimal verdicts-Lookup.joined verdicts-Lookup.bracketed verdicts-Lookup.braced verdicts-Lookup.flag verdicts-Lookup.fields verdicts-Lookup.valueIn verdicts-Lookup.wholeValue verdicts-Lookup.daemonText verdicts-Lookup.trustOf verdicts-Lookup.trustText verdicts-Lookup.featuresText verdicts-Lookup.lookedIn verdicts-Lookup.toldIn verdicts-Lookup.looked verdicts-Decisions.passedIf verdicts-Decisions.oneOf verdicts-Decisions.plain verdicts-Decisions.contains verdicts-Decisions.patternDecides verdicts-Decisions.ordered verdicts-Decisions.decides verdicts-Verdicts.valued verdicts-Verdicts.namedBy verdicts-Verdicts.verdict verdicts-Verdicts.code verdicts-Verdicts.decode verdicts-Held.matchingOf verdicts-Held.expectedOf verdicts-Held.numberGiven verdicts-Held.textGiven verdicts-Held.terminalBytes verdicts-Held.itemText verdicts-Held.textsIn verdicts-Held.textsGiven verdicts-Held.pathInfoOf verdicts-Held.resultOf verdicts-Held.responseOf verdicts-Held.infoOf verdicts-Held.inside verdicts-Held.placeIn verdicts-Held.maybeIn verdicts-Held.matcherIn verdicts-Held.expectIn verdicts-Held.itemsIn verdicts-Held.listIn verdicts-Held.maybeListIn verdicts-Held.resultIn verdicts-Held.responseIn verdicts-Held.infoIn written-Written.writtenAt judge-Tally.addedAll judge-Tally.outcomeOf judge-Tally.overLimit subjects-Subjects.heldBy subjects-Subjects.partsIn judge-Calls.said judge-Calls.wrongNumber judge-Calls.partOutside judge-Calls.tooLong judge-Answers.refusedIf judge-Answers.firstRefusal judge-Calls.judgedOr judge-Answers.closedOr judge-Calls.run judge-Judge.allIn judge-Judge.rangeFor judge-Judge.recordsIn judge-Judge.saidBy judge-Judge.pastEntries judge-Judge.rangeOutside judge-Judge.outOfReach judge-Judge.fewSlots judge-Judge.rangeRefusals judge-Judge.judgeRefusal judge-Judge.refusalOn judge-Judge.judgedBy judge-Judge.judged judge-Judge.judgedOn judge-Answers.closeRefusal judge-Answers.closeAnswer judge-Judge.judgeStep
 answered passed verdicts r p c = judgeStep (forged r p) (record { next = 0; counts = record { passed = passed; failed = 0; undecided = 0 }; verdicts = verdicts }) c .0
 
 abbrev items : ℕ → ℕ → Items

@@ -34,8 +34,8 @@ use Rattle.script.specs.declared.records.Entry.{Entry}
 use Rattle.script.specs.declared.records.Expectation.{Expectation}
 use Rattle.verdicts.specs.Expected.{Expected, terminal}
 use Rattle.verdicts.specs.Held.{expectedOf, inside, placeIn, matcherIn, expectIn}
-use Rattle.tables.specs.Written.{writtenAt}
-use Rattle.tables.proofs.WrittenLaws.{written-length}
+use Rattle.written.specs.Written.{writtenAt}
+use Rattle.written.proofs.WrittenLaws.{written-length}
 use Rattle.slots.specs.Blank.{blankEntry}
 use Rattle.verdicts.specs.declared.handed.Handed.{Handed}
 use Rattle.verdicts.specs.declared.handed.Handed.the-variants.{Info, Response}

@@ -21,7 +21,7 @@ use Rattle.verdicts.specs.Told.{Subject}
 use Rattle.verdicts.specs.Verdicts.{verdict, code}
 use Rattle.verdicts.specs.Held.{expectedOf, expectIn, inside}
 use Rattle.verdicts.specs.declared.Verdict.{Verdict}
-use Rattle.tables.specs.Written.{writtenAt}
+use Rattle.written.specs.Written.{writtenAt}
 use Rattle.verdicts.specs.declared.handed.Handed.{Handed}
 use Rattle.tallies.specs.Tally.{outcomeOf, overLimit}
 use Rattle.tallies.specs.Answers.{closedOr}

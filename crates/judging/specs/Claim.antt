@@ -20,7 +20,7 @@ use Rattle.verdicts.specs.Told.{Subject}
 use Rattle.verdicts.specs.Verdicts.{verdict, code, decode}
 use Rattle.verdicts.specs.declared.Verdict.{Verdict}
 use Rattle.verdicts.specs.declared.Verdict.the-variants as Verdict
-use Rattle.tables.specs.Written.{writtenAt}
+use Rattle.written.specs.Written.{writtenAt}
 use Rattle.tallies.specs.declared.tally.Counts.{Counts}
 use Rattle.tallies.specs.declared.tally.Outcome.the-variants as Outcome
 use Rattle.tallies.specs.declared.calls.Answer.{Answer}

@@ -17,7 +17,7 @@ use Rattle.verdicts.specs.Lookup.{looked}
 use Rattle.verdicts.specs.Verdicts.{verdict, code}
 use Rattle.verdicts.specs.Held.{ranged, inside, expectIn}
 use Rattle.verdicts.specs.declared.Verdict.{Verdict}
-use Rattle.tables.specs.Written.{writtenAt}
+use Rattle.written.specs.Written.{writtenAt}
 use Rattle.slots.specs.Blank.{blankEntry}
 use Rattle.tallies.specs.declared.tally.Counts.{Counts}
 use Rattle.verdicts.specs.declared.handed.Handed.{Handed}

@@ -8,7 +8,7 @@ use Rattle.script.specs.Reading.{Parsed, refusedAt, read}
 use Rattle.script.specs.declared.records.Entry.{Entry}
 use Rattle.script.specs.declared.records.Refusal.{Refusal}
 use Rattle.script.specs.declared.records.Script.{Script}
-use Rattle.tables.specs.Written.{writtenAt}
+use Rattle.written.specs.Written.{writtenAt}
 use Rattle.read.specs.Read.{answerOf, scriptOr, tablesOr}
 use Rattle.read.specs.declared.reading.Answer.{Answer}
 use Rattle.read.specs.declared.reading.Answer.the-variants as answers

@@ -13,7 +13,7 @@ use Rattle.script.specs.Reading.{Parsed, refusedAt, read, readInto}
 use Rattle.script.specs.declared.records.Entry.{Entry}
 use Rattle.script.specs.declared.records.Refusal.{Refusal}
 use Rattle.script.specs.declared.records.Script.{Script}
-use Rattle.tables.specs.Written.{writtenAt}
+use Rattle.written.specs.Written.{writtenAt}
 use Rattle.printed.specs.Listing.{lent, headerLine, entryLines, refusalLine, listing, listingOf}
 use Rattle.printed.specs.Room.{Front}
 use Rattle.writing.proofs.PutLaws.{Put}

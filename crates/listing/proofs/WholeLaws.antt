@@ -9,8 +9,8 @@ use lib.Seq.{take-suc}
 use Rattle.script.specs.declared.records.Entry.{Entry}
 use Rattle.script.specs.declared.records.Script.{Script}
 use Rattle.slots.specs.Blank.{blankEntry}
-use Rattle.tables.specs.Written.{writtenAt}
-use Rattle.tables.proofs.WrittenLaws.{written-none}
+use Rattle.written.specs.Written.{writtenAt}
+use Rattle.written.proofs.WrittenLaws.{written-none}
 use Rattle.printed.specs.Listing.{headerLine, entryLine, entryLines}
 use Rattle.writing.proofs.PutLaws.{Put, put-length, put-then}
 

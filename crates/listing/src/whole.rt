@@ -4,7 +4,7 @@ ghost use mathlib.Core.List.{_++_};
 ghost use Prim.Native.Nat.{_+_, _*_, _≤_};
 ghost use lib.ListN.{length, take};
 ghost use Rattle.text.specs.Base.{overlaid};
-ghost use Rattle.tables.specs.Written.{writtenAt};
+ghost use Rattle.written.specs.Written.{writtenAt};
 ghost use Rattle.printed.specs.Listing.{headerLine, entryLines, listingOf};
 ghost use Rattle.printed.specs.Room.{headerRoom, lineRoom, Front};
 use blanks::blank_entry;

@@ -2,7 +2,7 @@
 ghost use mathlib.Core.Path.{_≡_};
 ghost use Prim.Native.Nat.{_+_, _≤_};
 ghost use lib.ListN.{length, drop};
-ghost use Rattle.tables.specs.Written.{writtenAt};
+ghost use Rattle.written.specs.Written.{writtenAt};
 ghost use Rattle.verdicts.specs.Lookup.{joined, bracketed, braced};
 ghost use Rattle.lists.specs.Lists.{itemTexts, behind};
 use texts::part_of;

@@ -6,8 +6,8 @@ use native.Mathlib.Numerals.{add-one}
 use native.Mathlib.Omega.{arith}
 use lib.ListN.{length, getD, drop, set, drop-of-length-le}
 use lib.Seq.{drop-cons}
-use Rattle.tables.specs.Written.{writtenAt}
-use Rattle.tables.proofs.WrittenLaws.{Filling, filling-begun, filling-length, filling-room, filling-on, filling-place, filling-more, filled, written-one}
+use Rattle.written.specs.Written.{writtenAt}
+use Rattle.written.proofs.WrittenLaws.{Filling, filling-begun, filling-length, filling-room, filling-on, filling-place, filling-more, filled, written-one}
 
 module _ {A : Type 0} (f : A → List ℕ) (at : ℕ) (xs : List A) (first : List ℕ) where
   -- From `at` on, the bytes of the first i elements are written, up to p.

@@ -2,7 +2,7 @@
 ghost use mathlib.Core.Path.{_≡_};
 ghost use Prim.Native.Nat.{_+_, _≤_};
 ghost use lib.ListN.{length};
-ghost use Rattle.tables.specs.Written.{writtenAt};
+ghost use Rattle.written.specs.Written.{writtenAt};
 ghost use Rattle.printed.specs.Listing.{versionWords, headerLine, entryLine, refusalLine};
 ghost use Rattle.printed.specs.Room.{versionRoom, headerRoom, lineRoom, refusalRoom};
 use call_ops::op_of;

@@ -12,8 +12,9 @@ use Rattle.script.specs.declared.records.Entry.{Entry}
 use Rattle.script.specs.declared.records.Expectation.{Expectation}
 use Rattle.script.specs.declared.records.Refusal.{Refusal}
 use Rattle.script.specs.declared.records.Script.{Script}
-use Rattle.tables.specs.Written.{itemOf, writtenAt}
-use Rattle.tables.proofs.WrittenLaws.{written-none}
+use Rattle.written.specs.Written.{writtenAt}
+use Rattle.tables.specs.Items.{itemOf}
+use Rattle.written.proofs.WrittenLaws.{written-none}
 use Rattle.read.specs.Read.{lentOf, answerOf, scriptOr, tablesOr}
 use Rattle.read.specs.declared.reading.Answer.{Answer}
 use Rattle.read.specs.declared.reading.Answer.the-variants as Answer

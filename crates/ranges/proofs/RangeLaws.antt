@@ -19,8 +19,8 @@ use Rattle.verdicts.specs.Verdicts.{code}
 use Rattle.verdicts.specs.Held.{expectedOf, ranged}
 use Rattle.verdicts.specs.declared.Verdict.{Verdict}
 use Rattle.verdicts.specs.Lookup.{presentBytes}
-use Rattle.tables.specs.Written.{writtenAt}
-use Rattle.tables.proofs.WrittenLaws.{written-none, written-one, written-twice}
+use Rattle.written.specs.Written.{writtenAt}
+use Rattle.written.proofs.WrittenLaws.{written-none, written-one, written-twice}
 use Rattle.slots.specs.Blank.{blankExpectation}
 use Rattle.tallies.specs.declared.tally.Counts.{Counts}
 use Rattle.tallies.specs.Tally.{added, addedAll}

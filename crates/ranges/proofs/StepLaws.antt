@@ -21,8 +21,8 @@ use Rattle.verdicts.specs.Lookup.{looked}
 use Rattle.verdicts.specs.Verdicts.{verdict, code}
 use Rattle.verdicts.specs.Held.{ranged, inside}
 use Rattle.verdicts.specs.declared.Verdict.{Verdict}
-use Rattle.tables.specs.Written.{writtenAt}
-use Rattle.tables.proofs.WrittenLaws.{written-none}
+use Rattle.written.specs.Written.{writtenAt}
+use Rattle.written.proofs.WrittenLaws.{written-none}
 use Rattle.verdicts.specs.Subjects.{heldBy, partsIn}
 use Rattle.verdicts.specs.declared.handed.Handed.{Handed}
 use Rattle.verdicts.specs.declared.handed.Handed.the-variants.{Info, Response}

@@ -4,7 +4,7 @@ ghost use mathlib.Core.Bool.{false, not};
 ghost use mathlib.Core.List.{map};
 ghost use Prim.Native.Nat.{_+_, _≤_};
 ghost use lib.ListN.{length};
-ghost use Rattle.tables.specs.Written.{writtenAt};
+ghost use Rattle.written.specs.Written.{writtenAt};
 ghost use Rattle.verdicts.specs.Held.{ranged};
 ghost use Rattle.verdicts.specs.Lookup.{looked};
 ghost use Rattle.verdicts.specs.Verdicts.{verdict, code};

@@ -22,7 +22,8 @@ use Rattle.script.specs.declared.records.Entry.{Entry}
 use Rattle.script.specs.declared.records.Expectation.{Expectation}
 use Rattle.script.specs.declared.records.Refusal.{Refusal}
 use Rattle.script.specs.declared.records.Script.{Script}
-use Rattle.tables.specs.Written.{itemOf, writtenAt}
+use Rattle.written.specs.Written.{writtenAt}
+use Rattle.tables.specs.Items.{itemOf}
 use Rattle.parse.specs.MeasureRead.{measuredOf}
 use Rattle.parse.specs.declared.measure.Measured.{Measured}
 use Rattle.parse.specs.declared.measure.Measured.the-variants as Measured

@@ -2,7 +2,8 @@
 ghost use mathlib.Core.Path.{_≡_};
 ghost use mathlib.Core.List.{map};
 ghost use Rattle.script.specs.Reading.{readInto};
-ghost use Rattle.tables.specs.Written.{itemOf, writtenAt};
+ghost use Rattle.written.specs.Written.{writtenAt};
+ghost use Rattle.tables.specs.Items.{itemOf};
 ghost use Rattle.read.specs.Read.{answerOf, scriptOr, tablesOr, lentOf};
 use entries::scripts::read_script;
 use fits::Fit;

@@ -3,7 +3,7 @@
 ghost use mathlib.Core.List.{map};
 ghost use mathlib.Core.Path.{_≡_};
 ghost use lib.ListN.{length};
-ghost use Rattle.tables.specs.Written.{writtenAt};
+ghost use Rattle.written.specs.Written.{writtenAt};
 ghost use Rattle.judging.specs.PlainJudge.{plainRun};
 ghost use Rattle.calls.specs.CallRows.{callsOf, answerCode};
 ghost use Rattle.judging.specs.Runs.{plainScratch};

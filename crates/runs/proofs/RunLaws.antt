@@ -5,8 +5,8 @@ use mathlib.Core.Bool.{false}
 use mathlib.Core.List.{List, [], _∷_, map}
 use native.Mathlib.Omega.{arith}
 use lib.ListN.{length, drop, getD, set, length-set, length-map, length-drop, drop-of-length-le}
-use Rattle.tables.specs.Written.{writtenAt}
-use Rattle.tables.proofs.WrittenLaws.{written-none, written-one, written-twice}
+use Rattle.written.specs.Written.{writtenAt}
+use Rattle.written.proofs.WrittenLaws.{written-none, written-one, written-twice}
 use Rattle.rows.specs.Rows.{at}
 use Rattle.judge.specs.declared.tally.Tally.{Tally}
 use Rattle.tallies.specs.declared.calls.Answer.{Answer}

@@ -4,7 +4,7 @@ ghost use mathlib.Core.List.{map};
 ghost use mathlib.Core.Path.{_≡_};
 ghost use Prim.Native.Nat.{_≤_};
 ghost use lib.ListN.{length};
-ghost use Rattle.tables.specs.Written.{writtenAt};
+ghost use Rattle.written.specs.Written.{writtenAt};
 ghost use Rattle.rows.specs.Rows.{at};
 ghost use Rattle.judging.specs.Calls.{run};
 ghost use Rattle.judging.specs.Judge.{judgeStart, judgeStep};

@@ -14,7 +14,8 @@ use Rattle.script.specs.declared.roles.Saying.{Saying}
 use Rattle.script.specs.declared.roles.Saying.the-variants.{Known, Pair}
 use Rattle.said.specs.Said.{pieceAt}
 use Rattle.said.proofs.SaidLaws.{said-value}
-use Rattle.tables.specs.Written.{itemOf, itemsFor, writtenAt}
+use Rattle.written.specs.Written.{writtenAt}
+use Rattle.tables.specs.Items.{itemOf, itemsFor}
 use Rattle.says.specs.Says.{pairItems, Forward}
 
 pub keep-value : (starts ends : List ℕ) (k : Key) (v : Span) (n : ℕ) → n ≡ keyRow k .number → 33 ≤ length starts → 33 ≤ length ends → v .start ≤ v .end

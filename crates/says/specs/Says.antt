@@ -5,7 +5,7 @@ use mathlib.Core.List.{List, []}
 use Rattle.script.specs.Contents.{pairOf}
 use Rattle.script.specs.declared.roles.Saying.{Saying}
 use Rattle.script.specs.declared.roles.Saying.the-variants.{Known, Pair, NoColon, Unknown, NoPair, NoRaw}
-use Rattle.tables.specs.Written.{itemsFor}
+use Rattle.tables.specs.Items.{itemsFor}
 
 -- the items of the pair that is said, where the operation takes an override list
 unfoldable pub pairItems : (options : Bool) → Saying → List (List ℕ)

@@ -6,7 +6,7 @@ ghost use Rattle.script.specs.Contents.{valueOr};
 ghost use Rattle.script.specs.declared.roles.Key.{Key};
 ghost use Rattle.script.specs.declared.roles.Saying.the-variants as Said;
 ghost use Rattle.said.specs.Said.{pieceAt};
-ghost use Rattle.tables.specs.Written.{writtenAt};
+ghost use Rattle.written.specs.Written.{writtenAt};
 ghost use Rattle.says.specs.Says.{Forward, pairItems};
 use script::roles::Key;
 use script::roles::Saying;

@@ -28,8 +28,9 @@ use Rattle.openings.specs.OpeningRead.{halves, setPlace}
 use Rattle.openings.specs.declared.Halves.{Halves}
 use Rattle.openings.specs.declared.SetPlace.{SetPlace}
 use Rattle.openings.specs.declared.SetPlace.the-variants.{NoSet, AllOf, BehindBlank}
-use Rattle.tables.specs.Written.{itemOf, itemsFor, itemsOf, featuresOf, writtenAt}
-use Rattle.tables.proofs.WrittenLaws.{written-none, written-length, written-twice}
+use Rattle.written.specs.Written.{writtenAt}
+use Rattle.tables.specs.Items.{itemOf, itemsFor, itemsOf, featuresOf}
+use Rattle.written.proofs.WrittenLaws.{written-none, written-length, written-twice}
 use Rattle.said.specs.Said.{pieceAt, pieceOf}
 use Rattle.records.specs.Records.{sizes, recordOf}
 use Rattle.records.specs.declared.calls.Sizes.{Sizes}

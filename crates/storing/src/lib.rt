@@ -7,7 +7,7 @@ ghost use Rattle.script.specs.Contents.{unquotedOf, hexOf, dataOf};
 ghost use Rattle.script.specs.Inside.{In};
 ghost use Rattle.script.specs.Layout.{storedOf};
 ghost use Rattle.script.specs.Values.{plainRules};
-ghost use Rattle.tables.specs.Written.{writtenAt};
+ghost use Rattle.written.specs.Written.{writtenAt};
 use text::parts::Span;
 
 // Writes a value that is unquoted, and says how many bytes that are.

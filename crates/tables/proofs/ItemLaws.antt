@@ -30,9 +30,10 @@ use Rattle.script.specs.Inside.{In}
 use Rattle.script.specs.declared.records.Place.{Place}
 use Rattle.script.proofs.Inside.{length-bytes}
 use Rattle.pieces.proofs.BehindLaws.{behind-none, behind-some, behind-in, cut-none, cut-some}
-use Rattle.tables.specs.Written.{itemOf, itemsFor, writtenAt, itemsOf, featuresOf}
+use Rattle.written.specs.Written.{writtenAt}
+use Rattle.tables.specs.Items.{itemOf, itemsFor, itemsOf, featuresOf}
 use Rattle.tables.specs.SetRead.{taken, itemsOr, bracedItems, itemsBy}
-use Rattle.tables.proofs.WrittenLaws.{written-one, one-count, one-room, Filling, filling-place, filling-more}
+use Rattle.written.proofs.WrittenLaws.{written-one, one-count, one-room, Filling, filling-place, filling-more}
 
 -- q is the answer of `matchers::place_of`
 pub item-written : (at : ℕ) (p : Span) (q : Place) (t : List (List ℕ)) → q ≡ place p → at < length t → set t at (q .start ∷ q .len ∷ []) ≡ writtenAt at (itemOf (place p) ∷ []) t

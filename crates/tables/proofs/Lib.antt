@@ -1,2 +1,1 @@
 pub mod ItemLaws
-pub mod WrittenLaws

@@ -1,2 +1,2 @@
+pub mod Items
 pub mod SetRead
-pub mod Written

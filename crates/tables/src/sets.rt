@@ -8,7 +8,8 @@ ghost use Rattle.text.specs.Base.{_or_};
 ghost use Rattle.script.specs.Inside.{In};
 ghost use Rattle.script.specs.Pieces.{isEmpty, place, words};
 ghost use Rattle.script.specs.Sets.{trimmedItems};
-ghost use Rattle.tables.specs.Written.{itemOf, itemsFor, writtenAt};
+ghost use Rattle.written.specs.Written.{writtenAt};
+ghost use Rattle.tables.specs.Items.{itemOf, itemsFor};
 ghost use Rattle.tables.specs.SetRead.{taken};
 use text::parts::Span;
 

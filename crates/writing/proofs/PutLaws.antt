@@ -8,8 +8,8 @@ use lib.ListN.{length, take, drop, set, length-append, length-set}
 use lib.Seq.{take-append-seam}
 use borrow.Author.Tests.{le-leb}
 use Rattle.text.specs.Base.{overlaid}
-use Rattle.tables.specs.Written.{writtenAt}
-use Rattle.tables.proofs.WrittenLaws.{written-none, written-one, written-twice, written-length}
+use Rattle.written.specs.Written.{writtenAt}
+use Rattle.written.proofs.WrittenLaws.{written-none, written-one, written-twice, written-length}
 use Rattle.values.specs.Decimal.{decimal}
 use Rattle.writing.proofs.DecimalLaws.{decimal-small, decimal-more, digits-one, digits-longer, decimal-length}
 

@@ -3,7 +3,7 @@
 use Prim.Native.Nat.{_-_, _≤_}
 use mathlib.Core.Path.{_≡_}
 use lib.ListN.{length, take}
-use Rattle.tables.specs.Written.{writtenAt}
+use Rattle.written.specs.Written.{writtenAt}
 use Rattle.blocks.proofs.BlockLaws.{word-begun, part-over, part-last}
 use borrow.Author.Needs.{needs}
 use Rattle.blocks.proofs.put_blocks.Statement.{statement}

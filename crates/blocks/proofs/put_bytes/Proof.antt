@@ -4,7 +4,7 @@ use Prim.Native.Nat.{_-_, _≤_}
 use mathlib.Core.Path.{_≡_}
 use lib.ListN.{length, take}
 use borrow.Author.Needs.{needs}
-use Rattle.tables.specs.Written.{writtenAt}
+use Rattle.written.specs.Written.{writtenAt}
 use Rattle.blocks.proofs.BlockLaws.{word-laws}
 use Rattle.blocks.proofs.put_bytes.Statement.{statement}
 use Rattle.blocks.proofs.put_bytes.Tie as tie

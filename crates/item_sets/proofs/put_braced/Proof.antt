@@ -1,7 +1,7 @@
 -- `item_sets::put_braced` meets its contract. Assumes nothing.
 use Rattle.pieces.proofs.BehindLaws.{sums}
 use Rattle.pieces.proofs.CutLaws.{before-in}
-use Rattle.tables.proofs.WrittenLaws.{same-laws, none-laws}
+use Rattle.written.proofs.WrittenLaws.{same-laws, none-laws}
 use Rattle.tables.proofs.ItemLaws.{set-laws}
 use borrow.Author.Needs.{needs}
 use Rattle.item_sets.proofs.put_braced.Statement.{statement}

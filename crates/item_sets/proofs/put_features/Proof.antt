@@ -1,5 +1,5 @@
 -- `item_sets::put_features` meets its contract. Assumes nothing.
-use Rattle.tables.proofs.WrittenLaws.{same-laws}
+use Rattle.written.proofs.WrittenLaws.{same-laws}
 use Rattle.tables.proofs.ItemLaws.{feature-laws}
 use borrow.Author.Needs.{needs}
 use Rattle.item_sets.proofs.put_features.Statement.{statement}

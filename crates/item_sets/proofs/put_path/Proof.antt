@@ -1,5 +1,5 @@
 -- `item_sets::put_path` meets its contract. Assumes nothing.
-use Rattle.tables.proofs.WrittenLaws.{same-laws, none-laws}
+use Rattle.written.proofs.WrittenLaws.{same-laws, none-laws}
 use Rattle.tables.proofs.ItemLaws.{set-laws}
 use borrow.Author.Needs.{needs}
 use Rattle.item_sets.proofs.put_path.Statement.{statement}

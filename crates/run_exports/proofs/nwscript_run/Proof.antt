@@ -2,7 +2,7 @@
 use mathlib.Core.Path.{ap, _∙_}
 use mathlib.Core.List.{List, map}
 use lib.ListN.{length}
-use Rattle.tables.specs.Written.{writtenAt}
+use Rattle.written.specs.Written.{writtenAt}
 use Rattle.judging.specs.Calls.{Call}
 use Rattle.judging.specs.PlainJudge.{plainRun}
 use Rattle.calls.specs.CallRows.{callsOf, answerCode}

@@ -13,8 +13,8 @@ use Rattle.script.specs.Contents.{valueOr, pairOf}
 use Rattle.script.specs.declared.roles.Key.{Key}
 use Rattle.script.specs.declared.roles.Saying.{Saying}
 use Rattle.script.specs.declared.roles.Saying.the-variants.{Known, Pair, NoColon, Unknown, NoPair, NoRaw}
-use Rattle.tables.specs.Written.{itemsFor}
-use Rattle.tables.proofs.WrittenLaws.{none-laws, none-count, none-written}
+use Rattle.tables.specs.Items.{itemsFor}
+use Rattle.written.proofs.WrittenLaws.{none-laws, none-count, none-written}
 use Rattle.says.specs.Says.{pairItems}
 use Rattle.says.proofs.SayLaws.{say-laws}
 use borrow.Author.Needs.{needs}

@@ -1,5 +1,5 @@
 -- `storing::put_data` meets its contract. Assumes nothing.
-use Rattle.tables.proofs.WrittenLaws.{same-laws, none-laws}
+use Rattle.written.proofs.WrittenLaws.{same-laws, none-laws}
 use Rattle.storing.proofs.ValueLaws.{value-laws}
 use borrow.Author.Needs.{needs}
 use Rattle.storing.proofs.put_data.Statement.{statement}

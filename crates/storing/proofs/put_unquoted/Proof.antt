@@ -1,6 +1,6 @@
 -- `storing::put_unquoted` meets its contract. Assumes nothing.
 use Rattle.script.specs.Pieces.{bytes}
-use Rattle.tables.proofs.WrittenLaws.{same-laws, part-written}
+use Rattle.written.proofs.WrittenLaws.{same-laws, part-written}
 use Rattle.storing.proofs.ValueLaws.{value-laws}
 use borrow.Author.Needs.{needs}
 use Rattle.storing.proofs.put_unquoted.Statement.{statement}

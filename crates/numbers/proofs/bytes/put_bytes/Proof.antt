@@ -2,7 +2,7 @@
 use Prim.Native.Nat.{_-_, _≤_}
 use mathlib.Core.Path.{refl}
 use lib.ListN.{length, drop}
-use Rattle.tables.proofs.WrittenLaws.{Filling, filling-begun, filling-length}
+use Rattle.written.proofs.WrittenLaws.{Filling, filling-begun, filling-length}
 use Rattle.numbers.proofs.PuttingLaws.{byte-room, byte-on, bytes-end, bytes-written}
 use borrow.Author.Needs.{needs}
 use Rattle.numbers.proofs.bytes.put_bytes.Statement.{statement}

@@ -1,5 +1,5 @@
 -- `stored::values::put_data_of` meets its contract. Assumes nothing.
-use Rattle.tables.proofs.WrittenLaws.{same-laws, none-laws}
+use Rattle.written.proofs.WrittenLaws.{same-laws, none-laws}
 use Rattle.said.proofs.SaidLaws.{said-in}
 use Rattle.stored.proofs.WriteLaws.{said-laws}
 use borrow.Author.Needs.{needs}

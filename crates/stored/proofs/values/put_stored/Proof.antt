@@ -1,5 +1,5 @@
 -- `stored::values::put_stored` meets its contract. Assumes nothing.
-use Rattle.tables.proofs.WrittenLaws.{same-laws, none-laws}
+use Rattle.written.proofs.WrittenLaws.{same-laws, none-laws}
 use Rattle.stored.proofs.WriteLaws.{takes-laws}
 use borrow.Author.Needs.{needs}
 use Rattle.stored.proofs.values.put_stored.Statement.{statement}

@@ -1,5 +1,5 @@
 -- `stored::values::put_values` meets its contract. Assumes nothing.
-use Rattle.tables.proofs.WrittenLaws.{same-laws}
+use Rattle.written.proofs.WrittenLaws.{same-laws}
 use Rattle.stored.proofs.WriteLaws.{op-laws}
 use borrow.Author.Needs.{needs}
 use Rattle.stored.proofs.values.put_values.Statement.{statement}

@@ -1,5 +1,5 @@
 -- `tables::sets::put_pair` meets its contract. Assumes nothing.
-use Rattle.tables.proofs.WrittenLaws.{two-written}
+use Rattle.written.proofs.WrittenLaws.{two-written}
 use borrow.Author.Needs.{needs}
 use Rattle.tables.proofs.sets.put_pair.Statement.{statement}
 use Rattle.tables.proofs.sets.put_pair.Tie as tie

@@ -7,9 +7,9 @@ use Rattle.text.specs.Parts.{span}
 use Rattle.script.specs.Pieces.{bytes}
 use Rattle.script.specs.Sets.{trimmedItems}
 use Rattle.script.specs.Inside.{In}
-use Rattle.tables.specs.Written.{itemsFor}
+use Rattle.tables.specs.Items.{itemsFor}
 use Rattle.tables.specs.SetRead.{taken}
-use Rattle.tables.proofs.WrittenLaws.{Filling, filling-begun, filling-length, filled}
+use Rattle.written.proofs.WrittenLaws.{Filling, filling-begun, filling-length, filled}
 use Rattle.tables.proofs.ItemLaws.{partsLeft, parts-over, part-laws}
 use borrow.Author.Needs.{needs}
 use Rattle.tables.proofs.sets.put_parts.Statement.{statement}

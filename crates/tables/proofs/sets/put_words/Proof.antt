@@ -3,8 +3,8 @@ use Prim.Native.Nat.{_-_, _≤_}
 use Rattle.text.specs.Parts.{span}
 use Rattle.script.specs.Pieces.{bytes, words}
 use Rattle.script.specs.Inside.{In}
-use Rattle.tables.specs.Written.{itemsFor}
-use Rattle.tables.proofs.WrittenLaws.{Filling, filling-begun, filling-length, filled}
+use Rattle.tables.specs.Items.{itemsFor}
+use Rattle.written.proofs.WrittenLaws.{Filling, filling-begun, filling-length, filled}
 use Rattle.tables.proofs.ItemLaws.{wordsLeft, words-over, word-none, word-laws}
 use borrow.Author.Needs.{needs}
 use Rattle.tables.proofs.sets.put_words.Statement.{statement}

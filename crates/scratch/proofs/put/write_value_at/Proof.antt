@@ -1,19 +1,19 @@
--- `scratch::written::write_value_at` meets its contract. Assumes nothing.
+-- `scratch::put::write_value_at` meets its contract. Assumes nothing.
 use Prim.Native.Nat.{ℕ}
 use mathlib.Core.Path.{sym, ap, _∙_}
 use mathlib.Core.List.{List}
 use native.Mathlib.Omega.{arith}
 use Rattle.text.specs.Literal.{utf8}
 use Rattle.text.specs.Unicode.{encoded}
-use Rattle.tables.proofs.WrittenLaws.{same-room}
+use Rattle.written.proofs.WrittenLaws.{same-room}
 use Rattle.verdicts.specs.Held.{textsIn}
 use Rattle.verdicts.specs.Lookup.{bracketed, braced}
 use Rattle.writing.proofs.PutLaws.{wrote-same, wrote-none}
 use Rattle.lists.specs.Lists.{itemTexts}
 use Rattle.sought.specs.Values.{valueBytes, valueText}
 use borrow.Author.Needs.{needs}
-use Rattle.scratch.proofs.written.write_value_at.Statement.{statement}
-use Rattle.scratch.proofs.written.write_value_at.Tie as tie
+use Rattle.scratch.proofs.put.write_value_at.Statement.{statement}
+use Rattle.scratch.proofs.put.write_value_at.Tie as tie
 
 enum-told : tie.Need-enum-told
 enum-told c = search needs

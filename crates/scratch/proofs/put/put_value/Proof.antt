@@ -1,10 +1,10 @@
--- `scratch::written::put_value` meets its contract. Assumes nothing.
+-- `scratch::put::put_value` meets its contract. Assumes nothing.
 use mathlib.Core.Path.{sym, ap, _∙_}
 use lib.ListN.{length}
 use Rattle.writing.proofs.PutLaws.{front-taken}
 use borrow.Author.Needs.{needs}
-use Rattle.scratch.proofs.written.put_value.Statement.{statement}
-use Rattle.scratch.proofs.written.put_value.Tie as tie
+use Rattle.scratch.proofs.put.put_value.Statement.{statement}
+use Rattle.scratch.proofs.put.put_value.Tie as tie
 
 write-value-requires : tie.Need-write-value-requires
 write-value-requires c κs = search needs

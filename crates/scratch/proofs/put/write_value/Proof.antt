@@ -1,8 +1,8 @@
--- `scratch::written::write_value` meets its contract. Assumes nothing.
+-- `scratch::put::write_value` meets its contract. Assumes nothing.
 use Rattle.writing.proofs.PutLaws.{wrote-front}
 use borrow.Author.Needs.{needs}
-use Rattle.scratch.proofs.written.write_value.Statement.{statement}
-use Rattle.scratch.proofs.written.write_value.Tie as tie
+use Rattle.scratch.proofs.put.write_value.Statement.{statement}
+use Rattle.scratch.proofs.put.write_value.Tie as tie
 
 write-value-at-requires : tie.Need-write-value-at-requires
 write-value-at-requires c κs = search needs

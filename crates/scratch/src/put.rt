@@ -3,7 +3,7 @@ ghost use mathlib.Core.Path.{_≡_};
 ghost use Prim.Native.Nat.{_+_, _≤_};
 ghost use lib.ListN.{length};
 ghost use Rattle.text.specs.Base.{overlaid};
-ghost use Rattle.tables.specs.Written.{writtenAt};
+ghost use Rattle.written.specs.Written.{writtenAt};
 ghost use Rattle.sought.specs.Values.{valueText};
 use decimals::decimal::put_decimal;
 use lists::items::items_at;

@@ -1,8 +1,7 @@
 -- What reading writes of one value into the lent tables. An item is a place, two numbers of the table: where it starts and how many bytes it has.
 -- Assumes nothing.
-use Prim.Native.Nat.{ℕ, _+_}
-use mathlib.Core.List.{List, [], _∷_, _++_, map}
-use lib.ListN.{length, take, drop}
+use Prim.Native.Nat.{ℕ}
+use mathlib.Core.List.{List, [], _∷_, map}
 use Rattle.text.specs.declared.parts.Span.{Span}
 use Rattle.script.specs.Contents.{itemsIn}
 use Rattle.script.specs.Pieces.{place}
@@ -15,10 +14,6 @@ itemOf p = p .start ∷ p .len ∷ []
 -- the items of some pieces
 unfoldable pub itemsFor : List Span → List (List ℕ)
 itemsFor ps = map itemOf (map place ps)
-
--- a table once xs stand in it from `at` on; all else is as it was
-unfoldable pub writtenAt : {A : Type 0} → (at : ℕ) → (xs table : List A) → List A
-writtenAt at xs table = take at table ++ xs ++ drop (at + length xs) table
 
 module _ (text : List ℕ) where
   -- the items of a path set, and of a feature set

@@ -9,7 +9,7 @@ use lib.Seq.{sets, sets-eq, length-sets, length-take-le, take-add, take-all, tak
 use borrow.Author.Tests.{le-leb}
 use borrow.Rule.Slice.PartMut.{midOf, putMid}
 use Rattle.text.specs.Base.{overlaid}
-use Rattle.tables.specs.Written.{writtenAt}
+use Rattle.written.specs.Written.{writtenAt}
 
 module _ {A : Type 0} where
   -- stored one by one
