@@ -66,31 +66,6 @@ fn front_size(a: u8, b: u8, c: u8) -> usize
     front_three(a, b, c)
 }
 
-// The rows of three bytes.
-fn back_three(a: u8, b: u8, c: u8) -> usize
-    ensures { λ r. ⌜ r ≡ sizeOf (drop 4 (backwards whiteBytes)) (a ∷ b ∷ c ∷ []) ⌝ }
-{
-    if fits_three(0x80, 0x80, 0x9A, 0xE1, 0xE1, a, b, c) {
-        return 3;
-    }
-    if fits_three(0x80, 0x8A, 0x80, 0xE2, 0xE2, a, b, c) {
-        return 3;
-    }
-    if fits_three(0xA8, 0xA9, 0x80, 0xE2, 0xE2, a, b, c) {
-        return 3;
-    }
-    if fits_three(0xAF, 0xAF, 0x80, 0xE2, 0xE2, a, b, c) {
-        return 3;
-    }
-    if fits_three(0x9F, 0x9F, 0x81, 0xE2, 0xE2, a, b, c) {
-        return 3;
-    }
-    if fits_three(0x80, 0x80, 0x80, 0xE3, 0xE3, a, b, c) {
-        return 3;
-    }
-    0
-}
-
 // The size of the White_Space character beyond ASCII that ends with c, b, a; 0 if there is none.
 fn back_size(a: u8, b: u8, c: u8) -> usize
     ensures { λ r. ⌜ r ≡ sizeOf (drop 2 (backwards whiteBytes)) (a ∷ b ∷ c ∷ []) ⌝ }
@@ -101,7 +76,7 @@ fn back_size(a: u8, b: u8, c: u8) -> usize
     if fits_two(0xA0, 0xC2, 0xC2, a, b) {
         return 2;
     }
-    back_three(a, b, c)
+    front_three(c, b, a)
 }
 
 // 1 if a is an ASCII White_Space character, 0 if not.

@@ -15,25 +15,25 @@ add-t7 : tie.Need-add-t7
 add-t7 c = search needs
 
 sub-t8 : tie.Need-sub-t8
-sub-t8 c = search (needs, same-laws, feature-laws)
+sub-t8 c = search (same-laws, feature-laws)
 
 put-parts-requires : tie.Need-put-parts-requires
-put-parts-requires c κs = search (needs, same-laws, feature-laws)
+put-parts-requires c κs = search (same-laws, feature-laws)
 
 same-length : tie.Need-same-length
 same-length c = search needs
 
 returns : tie.Need-returns
-returns c = search (needs, same-laws, feature-laws)
+returns c = search (same-laws, feature-laws)
 
 put-words-requires : tie.Need-put-words-requires
-put-words-requires c κs = search (needs, same-laws, feature-laws)
+put-words-requires c κs = search (same-laws, feature-laws)
 
 same-length-2 : tie.Need-same-length-2
 same-length-2 c = search needs
 
 returns-2 : tie.Need-returns-2
-returns-2 c = search (needs, same-laws, feature-laws)
+returns-2 c = search (same-laws, feature-laws)
 
 pub put-features-spec : {M : Type 1} → statement M
 put-features-spec =

@@ -1,8 +1,10 @@
--- `trimming::back_size` meets its contract: at each `return` the tests that led there say which row fits. Assumes nothing.
+-- `trimming::back_size` meets its contract: at each `return` the tests that led there say which row fits; the rows of three bytes are those of the front,
+-- turned round. Assumes nothing.
 use borrow.Author.Needs.{needs}
 use Rattle.text.proofs.Scan.{flag}
 use Rattle.text.proofs.TrimLaws.{row-steps}
 use Rattle.text.specs.Trim.{whiteBytes, backwards}
+use Rattle.trimming.proofs.BackLaws.{three-back}
 use Rattle.trimming.proofs.back_size.Statement.{statement}
 use Rattle.trimming.proofs.back_size.Tie as tie
 
@@ -20,12 +22,12 @@ returns-2 : tie.Need-returns-2
 unfolding whiteBytes backwards
 returns-2 c = search (row-steps, flag) depth 12
 
-back-three-requires : tie.Need-back-three-requires
-back-three-requires c κs = search needs
+front-three-requires : tie.Need-front-three-requires
+front-three-requires c κs = search needs
 
 returns-3 : tie.Need-returns-3
 unfolding whiteBytes backwards
-returns-3 c = search (row-steps, flag) depth 12
+returns-3 c = search (row-steps, flag, three-back) depth 12
 
 pub back-size-spec : {M : Type 1} → statement M
 back-size-spec =
@@ -35,5 +37,5 @@ back-size-spec =
     returns
     fits-two-requires-2
     returns-2
-    back-three-requires
+    front-three-requires
     returns-3)

@@ -8,22 +8,22 @@ unquoted-len-requires : tie.Need-unquoted-len-requires
 unquoted-len-requires c κs = search needs
 
 returns : tie.Need-returns
-returns c = search (needs, fronts)
+returns c = search fronts
 
 slice-relend-prefix-unquote-fill : tie.Need-slice-relend-prefix-unquote-fill
 slice-relend-prefix-unquote-fill c = search needs
 
 slice-aggregate-unquote-fill : tie.Need-slice-aggregate-unquote-fill
-slice-aggregate-unquote-fill c = search (needs, fronts)
+slice-aggregate-unquote-fill c = search fronts
 
 unquote-fill-requires : tie.Need-unquote-fill-requires
-unquote-fill-requires c κs = search (needs, fronts)
+unquote-fill-requires c κs = search fronts
 
 same-length : tie.Need-same-length
 same-length c = search needs
 
 returns-2 : tie.Need-returns-2
-returns-2 c = search (needs, fronts)
+returns-2 c = search fronts
 
 pub unquote-spec : {M : Type 1} → statement M
 unquote-spec =
