@@ -18,7 +18,7 @@ use Rattle.script.specs.declared.records.Stamp.{Stamp}
 use Rattle.script.specs.declared.records.OpCall.{OpCall}
 use Rattle.slots.specs.Blank.{blankEntry, blankExpectation}
 use Rattle.call_fields.specs.CallFields.{flag, placeNumbers, itemsNumbers, padded, dataNumbers}
-use Rattle.numbers.specs.Numbers.{lowBytes, bytesOf, unsigned, stampNumbers, callNumbers, entryHead, entryNumbers, matcherNumbers, expectNumbers, expectationNumbers, maybeNumbers, maybeItemsNumbers, countsNumbers, scriptNumbers, headNumbers}
+use Rattle.numbers.specs.Numbers.{lowBytes, bytesOf, unsigned, stampNumbers, callRow, callNumbers, entryHead, entryNumbers, matcherNumbers, expectNumbers, expectationNumbers, maybeNumbers, maybeItemsNumbers, countsNumbers, scriptNumbers, headNumbers}
 
 abbrev at : ℕ → ℕ → Place
 at start len = record { start = start; len = len }
@@ -43,7 +43,7 @@ pub entries :
     ≡ 7 ∷ 1 ∷ 1 ∷ 125 ∷ 1 ∷ 3 ∷ 1 ∷ 4 ∷ 31 ∷ 2 ∷ 5 ∷ 1 ∷ padded 11 [])
     × (callNumbers (OpCall.AddToStore (at 10 3) (at 20 4) (range 1 2) false (FramedData.FileRef (at 30 5))) ≡ 13 ∷ 0 ∷ 10 ∷ 3 ∷ 20 ∷ 4 ∷ 1 ∷ 2 ∷ 0 ∷ 1 ∷ 30 ∷ 5 ∷ 0 ∷ 0 ∷ 0 ∷ 0 ∷ [])
     × (callNumbers (OpCall.CollectGarbage 2 (range 6 1) 1 99) ≡ 8 ∷ 0 ∷ 2 ∷ 6 ∷ 1 ∷ 1 ∷ 99 ∷ padded 9 [])
-unfolding entryNumbers entryHead callNumbers stampNumbers dataNumbers placeNumbers itemsNumbers flag unsigned padded operation
+unfolding entryNumbers entryHead callRow callNumbers stampNumbers dataNumbers placeNumbers itemsNumbers flag unsigned padded operation
 entries = (refl, refl, refl, refl)
 
 -- expectations: a blank one; more than -5 lines; a field with its name

@@ -34,13 +34,13 @@ use Rattle.wire.specs.declared.ops.Op.{Op}
 use Rattle.wire.specs.Operations.{operation}
 use Rattle.call_fields.specs.CallFields.{padded, flag, placeNumbers, itemsNumbers, dataNumbers}
 use Rattle.call_fields.proofs.FieldLaws.{spread, spread-is, padded-length}
-use Rattle.numbers.specs.Numbers.{unsigned, stampNumbers, callNumbers, entryHead, entryNumbers, matcherNumbers, expectNumbers, expectationNumbers, maybeNumbers, maybeItemsNumbers, countsNumbers, scriptNumbers, headNumbers}
+use Rattle.numbers.specs.Numbers.{unsigned, stampNumbers, callRow, callNumbers, entryHead, entryNumbers, matcherNumbers, expectNumbers, expectationNumbers, maybeNumbers, maybeItemsNumbers, countsNumbers, scriptNumbers, headNumbers}
 
 -- ---- the kinds of an operation
 
 -- by its tag
 row-tag : (c : OpCall) → getD (callNumbers c) 0 0 ≡ tagOf the-type c + 1
-unfolding callNumbers padded
+unfolding callRow callNumbers padded
 row-tag (SinglePath op path) = refl
 row-tag (SingleString op value) = refl
 row-tag (PathSet op paths) = refl
@@ -86,41 +86,41 @@ call-by c d e r h = h ∙ ap callNumbers (sym e)
 -- where a field is a flag
 module _ (c : OpCall) (r : List ℕ) (a b : Bool) (k l : ℕ) (p : k ≡ flag a) (q : l ≡ flag b) where
   pub verify-row : c ≡ VerifyStore a b → r ≡ padded 16 (9 ∷ 0 ∷ k ∷ l ∷ 0 ∷ 0 ∷ 0 ∷ 0 ∷ []) → r ≡ callNumbers c
-  unfolding callNumbers padded
+  unfolding callRow callNumbers padded
   verify-row e h = h ∙ rw (e, p, q)
 
   pub multiple-row : (d : FramedData) → c ≡ AddMultipleToStore a b d → r ≡ padded 16 (14 ∷ 0 ∷ k ∷ l ∷ dataNumbers d) → r ≡ callNumbers c
-  unfolding callNumbers
+  unfolding callRow callNumbers
   multiple-row d e h = h ∙ rw (e, p, q)
 
 -- where the record has the operation, k is its code
 module _ (c : OpCall) (r : List ℕ) (op : Op) (k : ℕ) (q : k ≡ operation op .code) where
   pub path-row : (path : Place) → c ≡ SinglePath op path → r ≡ padded 16 (1 ∷ k ∷ placeNumbers path) → r ≡ callNumbers c
-  unfolding callNumbers
+  unfolding callRow callNumbers
   path-row path e h = h ∙ rw (e, q)
 
   pub string-row : (value : Place) → c ≡ SingleString op value → r ≡ padded 16 (2 ∷ k ∷ placeNumbers value) → r ≡ callNumbers c
-  unfolding callNumbers
+  unfolding callRow callNumbers
   string-row value e h = h ∙ rw (e, q)
 
   pub set-row : (paths : Items) → c ≡ PathSet op paths → r ≡ padded 16 (3 ∷ k ∷ itemsNumbers paths) → r ≡ callNumbers c
-  unfolding callNumbers
+  unfolding callRow callNumbers
   set-row paths e h = h ∙ rw (e, q)
 
   pub flag-row : (paths : Items) (b : Bool) (l : ℕ) → l ≡ flag b → c ≡ PathSetFlag op paths b → r ≡ padded 16 ((4 ∷ k ∷ itemsNumbers paths) ++ (l ∷ 0 ∷ [])) → r ≡ callNumbers c
-  unfolding callNumbers padded itemsNumbers
+  unfolding callRow callNumbers padded itemsNumbers
   flag-row paths b l p e h = h ∙ rw (e, p, q)
 
   pub mode-row : (paths : Items) (mode : Place) → c ≡ PathSetMode op paths mode → r ≡ padded 16 ((5 ∷ k ∷ itemsNumbers paths) ++ placeNumbers mode) → r ≡ callNumbers c
-  unfolding callNumbers
+  unfolding callRow callNumbers
   mode-row paths mode e h = h ∙ rw (e, q)
 
   pub bare-row : c ≡ NoArgs op → r ≡ padded 16 (6 ∷ k ∷ 0 ∷ 0 ∷ 0 ∷ 0 ∷ 0 ∷ 0 ∷ []) → r ≡ callNumbers c
-  unfolding callNumbers padded
+  unfolding callRow callNumbers padded
   bare-row e h = h ∙ rw (e, q)
 
   pub raw-row : (d : Place) → c ≡ RawBytes op d → r ≡ padded 16 (20 ∷ k ∷ placeNumbers d) → r ≡ callNumbers c
-  unfolding callNumbers
+  unfolding callRow callNumbers
   raw-row d e h = h ∙ rw (e, q)
 
 -- ---- a timestamp, an entry
@@ -139,26 +139,7 @@ stamp-at s t k l e p q = rw (e, p, q)
 
 call-sixteen : (c : OpCall) → length (callNumbers c) ≡ 16
 unfolding callNumbers
-call-sixteen (SinglePath op path) = padded-length 16 _
-call-sixteen (SingleString op value) = padded-length 16 _
-call-sixteen (PathSet op paths) = padded-length 16 _
-call-sixteen (PathSetFlag op paths substitute) = padded-length 16 _
-call-sixteen (PathSetMode op paths mode) = padded-length 16 _
-call-sixteen (NoArgs op) = padded-length 16 _
-call-sixteen (SetOptions o) = padded-length 16 _
-call-sixteen (CollectGarbage action paths ignore freed) = padded-length 16 _
-call-sixteen (VerifyStore check repair) = padded-length 16 _
-call-sixteen (AddPermRoot path root) = padded-length 16 _
-call-sixteen (AddSignatures path sigs) = padded-length 16 _
-call-sixteen (AddTextToStore suffix text refs) = padded-length 16 _
-call-sixteen (AddToStore name cam refs repair d) = padded-length 16 _
-call-sixteen (AddMultipleToStore repair unchecked d) = padded-length 16 _
-call-sixteen (AddBuildLog path d) = padded-length 16 _
-call-sixteen (RegisterDrvOutput value) = padded-length 16 _
-call-sixteen (QueryRealisation value) = padded-length 16 _
-call-sixteen (QuerySubstitutablePathInfo path) = padded-length 16 _
-call-sixteen (QuerySubstitutablePathInfos paths) = padded-length 16 _
-call-sixteen (RawBytes op d) = padded-length 16 _
+call-sixteen c = padded-length 16 (callRow c)
 
 pub head-is : (e : Entry) (s : List ℕ) → s ≡ stampNumbers (e .«timestamp_ms») → (e .line ∷ spread 0 4 s) ++ itemsNumbers (e .expects) ≡ entryHead e
 unfolding entryHead

@@ -48,27 +48,31 @@ stampNumbers Stamp.Absent = 0 ∷ 0 ∷ 0 ∷ 0 ∷ []
 stampNumbers (Stamp.At t) = 1 ∷ flag (t .negative) ∷ t .digits ∷ unsigned (t .decimals) ∷ []
 
 -- the kind of the operation in the order of the declaration, its code where the record has one, else 0, and the other fields
+unfoldable pub callRow : OpCall → List ℕ
+callRow (SinglePath op path) = 1 ∷ operation op .code ∷ placeNumbers path
+callRow (SingleString op value) = 2 ∷ operation op .code ∷ placeNumbers value
+callRow (PathSet op paths) = 3 ∷ operation op .code ∷ itemsNumbers paths
+callRow (PathSetFlag op paths substitute) = (4 ∷ operation op .code ∷ itemsNumbers paths) ++ (flag substitute ∷ [])
+callRow (PathSetMode op paths mode) = (5 ∷ operation op .code ∷ itemsNumbers paths) ++ placeNumbers mode
+callRow (NoArgs op) = 6 ∷ operation op .code ∷ []
+callRow (SetOptions o) = 7 ∷ 0 ∷ optionsNumbers o
+callRow (CollectGarbage action paths ignore freed) = (8 ∷ 0 ∷ action ∷ itemsNumbers paths) ++ (ignore ∷ freed ∷ [])
+callRow (VerifyStore check repair) = 9 ∷ 0 ∷ flag check ∷ flag repair ∷ []
+callRow (AddPermRoot path root) = (10 ∷ 0 ∷ placeNumbers path) ++ placeNumbers root
+callRow (AddSignatures path sigs) = (11 ∷ 0 ∷ placeNumbers path) ++ itemsNumbers sigs
+callRow (AddTextToStore suffix text refs) = (12 ∷ 0 ∷ placeNumbers suffix) ++ placeNumbers text ++ itemsNumbers refs
+callRow (AddToStore name cam refs repair d) = (13 ∷ 0 ∷ placeNumbers name) ++ placeNumbers cam ++ itemsNumbers refs ++ (flag repair ∷ dataNumbers d)
+callRow (AddMultipleToStore repair unchecked d) = 14 ∷ 0 ∷ flag repair ∷ flag unchecked ∷ dataNumbers d
+callRow (AddBuildLog path d) = (15 ∷ 0 ∷ placeNumbers path) ++ dataNumbers d
+callRow (RegisterDrvOutput value) = 16 ∷ 0 ∷ placeNumbers value
+callRow (QueryRealisation value) = 17 ∷ 0 ∷ placeNumbers value
+callRow (QuerySubstitutablePathInfo path) = 18 ∷ 0 ∷ placeNumbers path
+callRow (QuerySubstitutablePathInfos paths) = 19 ∷ 0 ∷ itemsNumbers paths
+callRow (RawBytes op d) = 20 ∷ operation op .code ∷ placeNumbers d
+
+-- 16 numbers, with zeros behind the row
 unfoldable pub callNumbers : OpCall → List ℕ
-callNumbers (SinglePath op path) = padded 16 (1 ∷ operation op .code ∷ placeNumbers path)
-callNumbers (SingleString op value) = padded 16 (2 ∷ operation op .code ∷ placeNumbers value)
-callNumbers (PathSet op paths) = padded 16 (3 ∷ operation op .code ∷ itemsNumbers paths)
-callNumbers (PathSetFlag op paths substitute) = padded 16 ((4 ∷ operation op .code ∷ itemsNumbers paths) ++ (flag substitute ∷ []))
-callNumbers (PathSetMode op paths mode) = padded 16 ((5 ∷ operation op .code ∷ itemsNumbers paths) ++ placeNumbers mode)
-callNumbers (NoArgs op) = padded 16 (6 ∷ operation op .code ∷ [])
-callNumbers (SetOptions o) = padded 16 (7 ∷ 0 ∷ optionsNumbers o)
-callNumbers (CollectGarbage action paths ignore freed) = padded 16 ((8 ∷ 0 ∷ action ∷ itemsNumbers paths) ++ (ignore ∷ freed ∷ []))
-callNumbers (VerifyStore check repair) = padded 16 (9 ∷ 0 ∷ flag check ∷ flag repair ∷ [])
-callNumbers (AddPermRoot path root) = padded 16 ((10 ∷ 0 ∷ placeNumbers path) ++ placeNumbers root)
-callNumbers (AddSignatures path sigs) = padded 16 ((11 ∷ 0 ∷ placeNumbers path) ++ itemsNumbers sigs)
-callNumbers (AddTextToStore suffix text refs) = padded 16 ((12 ∷ 0 ∷ placeNumbers suffix) ++ placeNumbers text ++ itemsNumbers refs)
-callNumbers (AddToStore name cam refs repair d) = padded 16 ((13 ∷ 0 ∷ placeNumbers name) ++ placeNumbers cam ++ itemsNumbers refs ++ (flag repair ∷ dataNumbers d))
-callNumbers (AddMultipleToStore repair unchecked d) = padded 16 (14 ∷ 0 ∷ flag repair ∷ flag unchecked ∷ dataNumbers d)
-callNumbers (AddBuildLog path d) = padded 16 ((15 ∷ 0 ∷ placeNumbers path) ++ dataNumbers d)
-callNumbers (RegisterDrvOutput value) = padded 16 (16 ∷ 0 ∷ placeNumbers value)
-callNumbers (QueryRealisation value) = padded 16 (17 ∷ 0 ∷ placeNumbers value)
-callNumbers (QuerySubstitutablePathInfo path) = padded 16 (18 ∷ 0 ∷ placeNumbers path)
-callNumbers (QuerySubstitutablePathInfos paths) = padded 16 (19 ∷ 0 ∷ itemsNumbers paths)
-callNumbers (RawBytes op d) = padded 16 (20 ∷ operation op .code ∷ placeNumbers d)
+callNumbers c = padded 16 (callRow c)
 
 -- what stands in front of the call
 unfoldable pub entryHead : Entry → List ℕ

@@ -1,6 +1,6 @@
 -- `numbers::entries::call_numbers` meets its contract. Assumes nothing.
 use Rattle.call_fields.specs.CallFields.{padded, placeNumbers, itemsNumbers, optionsNumbers}
-use Rattle.numbers.specs.Numbers.{callNumbers}
+use Rattle.numbers.specs.Numbers.{callRow, callNumbers}
 use Rattle.numbers.proofs.NumberLaws.{call-by, path-row, string-row, set-row, flag-row, mode-row, bare-row, verify-row, is-late}
 use borrow.Author.Needs.{needs}
 use Rattle.numbers.proofs.entries.call_numbers.Statement.{statement}
@@ -91,43 +91,43 @@ later-numbers-requires : tie.Need-later-numbers-requires
 later-numbers-requires c κs = search (needs, is-late)
 
 returns : tie.Need-returns
-unfolding padded placeNumbers itemsNumbers optionsNumbers callNumbers
+unfolding padded placeNumbers itemsNumbers optionsNumbers callRow callNumbers
 returns c = search (needs, path-row)
 
 returns-2 : tie.Need-returns-2
-unfolding padded placeNumbers itemsNumbers optionsNumbers callNumbers
+unfolding padded placeNumbers itemsNumbers optionsNumbers callRow callNumbers
 returns-2 c = search (needs, string-row)
 
 returns-3 : tie.Need-returns-3
-unfolding padded placeNumbers itemsNumbers optionsNumbers callNumbers
+unfolding padded placeNumbers itemsNumbers optionsNumbers callRow callNumbers
 returns-3 c = search (needs, set-row)
 
 returns-4 : tie.Need-returns-4
-unfolding padded placeNumbers itemsNumbers optionsNumbers callNumbers
+unfolding padded placeNumbers itemsNumbers optionsNumbers callRow callNumbers
 returns-4 c = search (needs, flag-row)
 
 returns-5 : tie.Need-returns-5
-unfolding padded placeNumbers itemsNumbers optionsNumbers callNumbers
+unfolding padded placeNumbers itemsNumbers optionsNumbers callRow callNumbers
 returns-5 c = search (needs, mode-row)
 
 returns-6 : tie.Need-returns-6
-unfolding padded placeNumbers itemsNumbers optionsNumbers callNumbers
+unfolding padded placeNumbers itemsNumbers optionsNumbers callRow callNumbers
 returns-6 c = search (needs, bare-row)
 
 returns-7 : tie.Need-returns-7
-unfolding padded placeNumbers itemsNumbers optionsNumbers callNumbers
+unfolding padded placeNumbers itemsNumbers optionsNumbers callRow callNumbers
 returns-7 c = search (needs, call-by)
 
 returns-8 : tie.Need-returns-8
-unfolding padded placeNumbers itemsNumbers optionsNumbers callNumbers
+unfolding padded placeNumbers itemsNumbers optionsNumbers callRow callNumbers
 returns-8 c = search (needs, call-by)
 
 returns-9 : tie.Need-returns-9
-unfolding padded placeNumbers itemsNumbers optionsNumbers callNumbers
+unfolding padded placeNumbers itemsNumbers optionsNumbers callRow callNumbers
 returns-9 c = search (needs, verify-row)
 
 returns-10 : tie.Need-returns-10
-unfolding padded placeNumbers itemsNumbers optionsNumbers callNumbers
+unfolding padded placeNumbers itemsNumbers optionsNumbers callRow callNumbers
 returns-10 c = search (needs, call-by)
 
 pub call-numbers-spec : {M : Type 1} → statement M

@@ -1,6 +1,6 @@
 -- `numbers::entries::later_numbers` meets its contract. Assumes nothing.
 use Rattle.call_fields.specs.CallFields.{padded, placeNumbers, itemsNumbers}
-use Rattle.numbers.specs.Numbers.{callNumbers}
+use Rattle.numbers.specs.Numbers.{callRow, callNumbers}
 use Rattle.numbers.proofs.NumberLaws.{call-by, multiple-row, raw-row, not-early}
 use borrow.Author.Needs.{needs}
 use Rattle.numbers.proofs.entries.later_numbers.Statement.{statement}
@@ -85,51 +85,51 @@ few-requires : tie.Need-few-requires
 few-requires c κs = search needs
 
 returns : tie.Need-returns
-unfolding padded placeNumbers itemsNumbers callNumbers
+unfolding padded placeNumbers itemsNumbers callRow callNumbers
 returns c = search (needs, call-by)
 
 returns-2 : tie.Need-returns-2
-unfolding padded placeNumbers itemsNumbers callNumbers
+unfolding padded placeNumbers itemsNumbers callRow callNumbers
 returns-2 c = search (needs, call-by)
 
 returns-3 : tie.Need-returns-3
-unfolding padded placeNumbers itemsNumbers callNumbers
+unfolding padded placeNumbers itemsNumbers callRow callNumbers
 returns-3 c = search (needs, call-by)
 
 returns-4 : tie.Need-returns-4
-unfolding padded placeNumbers itemsNumbers callNumbers
+unfolding padded placeNumbers itemsNumbers callRow callNumbers
 returns-4 c = search (needs, call-by)
 
 returns-5 : tie.Need-returns-5
-unfolding padded placeNumbers itemsNumbers callNumbers
+unfolding padded placeNumbers itemsNumbers callRow callNumbers
 returns-5 c = search (needs, multiple-row)
 
 returns-6 : tie.Need-returns-6
-unfolding padded placeNumbers itemsNumbers callNumbers
+unfolding padded placeNumbers itemsNumbers callRow callNumbers
 returns-6 c = search (needs, call-by)
 
 returns-7 : tie.Need-returns-7
-unfolding padded placeNumbers itemsNumbers callNumbers
+unfolding padded placeNumbers itemsNumbers callRow callNumbers
 returns-7 c = search (needs, call-by)
 
 returns-8 : tie.Need-returns-8
-unfolding padded placeNumbers itemsNumbers callNumbers
+unfolding padded placeNumbers itemsNumbers callRow callNumbers
 returns-8 c = search (needs, call-by)
 
 returns-9 : tie.Need-returns-9
-unfolding padded placeNumbers itemsNumbers callNumbers
+unfolding padded placeNumbers itemsNumbers callRow callNumbers
 returns-9 c = search (needs, call-by)
 
 returns-10 : tie.Need-returns-10
-unfolding padded placeNumbers itemsNumbers callNumbers
+unfolding padded placeNumbers itemsNumbers callRow callNumbers
 returns-10 c = search (needs, call-by)
 
 returns-11 : tie.Need-returns-11
-unfolding padded placeNumbers itemsNumbers callNumbers
+unfolding padded placeNumbers itemsNumbers callRow callNumbers
 returns-11 c = search (needs, raw-row)
 
 returns-12 : tie.Need-returns-12
-unfolding padded placeNumbers itemsNumbers callNumbers
+unfolding padded placeNumbers itemsNumbers callRow callNumbers
 returns-12 c = search (needs, not-early)
 
 pub later-numbers-spec : {M : Type 1} → statement M
