@@ -1,4 +1,4 @@
--- A word, written byte by byte or many bytes at a time. Assumes nothing.
+-- A word, written many bytes at a time. Assumes nothing.
 use Prim.Native.Nat.{ℕ, _+_, _-_, _≤_, _<_}
 use mathlib.Core.Path.{_≡_, sym, ap, _∙_}
 use mathlib.Core.List.{List, [], _∷_, _++_}
@@ -8,27 +8,7 @@ use lib.ListN.{length, take, drop, getD, set, length-append, length-drop}
 use lib.Seq.{length-take-le, take-suc, take-suc-set, take-all, take-add, take-append-le, take-at, drop-append-add, drop-drop, getD-drop}
 use Rattle.text.specs.Base.{part}
 use Rattle.written.specs.Written.{writtenAt}
-use Rattle.written.proofs.WrittenLaws.{written-none, written-more, written-twice, written-length}
-
--- ---- a word, byte by byte
-
-module _ (at i : ℕ) (w t u : List ℕ) (room : at + length w ≤ length t) (e : u ≡ writtenAt at (take i w) t) where
-  pub word-more : i < length w → set u (at + i) (getD w i 0) ≡ writtenAt at (take (i + 1) w) t
-  word-more h =
-      let l = length-take-le i w (omega arith) in
-      let s : take (i + 1) w ≡ take i w ++ (getD w i 0 ∷ []) = ap (λ (k : ℕ). take k w) (add-one i) ∙ take-suc w i 0 h in
-      ap (λ (v : List ℕ). set v (at + i) (getD w i 0)) e
-      ∙ ap (λ (k : ℕ). set (writtenAt at (take i w) t) (at + k) (getD w i 0)) (sym l)
-      ∙ sym (written-more at (take i w) (getD w i 0) t (omega arith))
-      ∙ ap (λ (xs : List ℕ). writtenAt at xs t) (sym s)
-
-  pub word-all : length w ≤ i → u ≡ writtenAt at w t
-  word-all k = e ∙ ap (λ (xs : List ℕ). writtenAt at xs t) (take-all i w k)
-
-pub word-begun : (at : ℕ) (w t : List ℕ) → at + length w ≤ length t → t ≡ writtenAt at (take 0 w) t
-word-begun at w t h = sym (written-none at t)
-
-pub ruleset word-laws = (word-begun, word-more, word-all)
+use Rattle.written.proofs.WrittenLaws.{written-twice, written-length}
 
 -- ---- a part of a word, byte by byte
 

@@ -5,20 +5,7 @@ ghost use Prim.Native.Nat.{_+_, _≤_};
 ghost use lib.ListN.{length};
 ghost use Rattle.text.specs.Base.{part};
 ghost use Rattle.written.specs.Written.{writtenAt};
-
-// Writes a word byte by byte.
-pub fn put_bytes(word: &[u8], out: &mut [u8], at: usize) -> usize
-    requires { ⌜ at + length (now word) ≤ length (now out) ⌝ }
-    ensures { λ r. ⌜ r ≡ at + length (now (word .entry)) ⌝ }
-    ensures { λ _. ⌜ now (out .exit) ≡ writtenAt at (now (word .entry)) (now (out .entry)) ⌝ }
-{
-    let mut i: usize = 0;
-    while i < word.len() {
-        out[at + i] = word[i];
-        i += 1;
-    }
-    at + i
-}
+use written::put_bytes;
 
 // The eight bytes from i on.
 fn eight_at(s: &[u8], i: usize) -> [u8; 8]

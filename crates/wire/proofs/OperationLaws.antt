@@ -72,7 +72,7 @@ every test [] = true
 every test (o ∷ os) = test o & every test os
 
 -- the first that passes a test passes it, and passes what all pass
-passes : (test also : Op → Bool) (os : List Op) (o : Op) → first test os ≡ some o → every also os ≡ true → (test o ≡ true) × (also o ≡ true)
+pub passes : (test also : Op → Bool) (os : List Op) (o : Op) → first test os ≡ some o → every also os ≡ true → (test o ≡ true) × (also o ≡ true)
 unfolding first
 passes test also [] o e t = let z : _≡_ {A = ℕ} 0 1 = cc in absurd (omega arith)
 passes test also (p ∷ os) o e t =
@@ -103,8 +103,13 @@ unfolding coded
 code-coded n o e = eqb-true n (operation o .code) (passes _ (λ p. true) operations o e refl .0)
 
 -- two operations do not share a code
-same-code : (o p : Op) → operation o .code ≡ operation p .code → o ≡ p
+pub same-code : (o p : Op) → operation o .code ≡ operation p .code → o ≡ p
 same-code o p e = let a = coded-code o in let b = coded-code p in cc
+
+-- where only o can be found, and is not, nothing is
+pub none-found : (x : Option Op) (o : Op) → ((p : Op) → x ≡ some p → p ≡ o) → (x ≡ some o → ⊥) → none ≡ x
+none-found none o only h = refl
+none-found (some p) o only h = absurd (h (ap some (only p refl)))
 
 -- ---- by name
 

@@ -269,20 +269,49 @@ fn code_hint(s: &[u8]) -> u8
     hints[sum % 71]
 }
 
-// Writes bytes at the front of out, if there is room for all of them, and says how many they are.
-fn put(bytes: &[u8], out: &mut [u8]) -> usize
-    ensures { λ r. ⌜ r ≡ length (now (bytes .entry)) ⌝ }
-    ensures { λ _. ⌜ now (out .exit) ≡ overlaid (now (bytes .entry)) (now (out .entry)) ⌝ }
+// The only operation that can have the code.
+fn coded_op(code: u64) -> Op
+    ensures { λ r. ⌜ ((op : Op) → code ≡ operation op .code → op ≡ r) ⌝ }
 {
-    if out.len() < bytes.len() {
-        return bytes.len();
+    match code {
+        1 => Op::IsValidPath,
+        6 => Op::QueryReferrers,
+        7 => Op::AddToStore,
+        8 => Op::AddTextToStore,
+        9 => Op::BuildPaths,
+        10 => Op::EnsurePath,
+        11 => Op::AddTempRoot,
+        12 => Op::AddIndirectRoot,
+        13 => Op::SyncWithGC,
+        14 => Op::FindRoots,
+        18 => Op::QueryDeriver,
+        19 => Op::SetOptions,
+        20 => Op::CollectGarbage,
+        21 => Op::QuerySubstitutablePathInfo,
+        22 => Op::QueryDerivationOutputs,
+        23 => Op::QueryAllValidPaths,
+        26 => Op::QueryPathInfo,
+        28 => Op::QueryDerivationOutputNames,
+        29 => Op::QueryPathFromHashPart,
+        30 => Op::QuerySubstitutablePathInfos,
+        31 => Op::QueryValidPaths,
+        32 => Op::QuerySubstitutablePaths,
+        33 => Op::QueryValidDerivers,
+        34 => Op::OptimiseStore,
+        35 => Op::VerifyStore,
+        36 => Op::BuildDerivation,
+        37 => Op::AddSignatures,
+        38 => Op::NarFromPath,
+        39 => Op::AddToStoreNar,
+        40 => Op::QueryMissing,
+        41 => Op::QueryDerivationOutputMap,
+        42 => Op::RegisterDrvOutput,
+        43 => Op::QueryRealisation,
+        44 => Op::AddMultipleToStore,
+        45 => Op::AddBuildLog,
+        46 => Op::BuildPathsWithResults,
+        _ => Op::AddPermRoot,
     }
-    let mut i: usize = 0;
-    while i < bytes.len() {
-        out[i] = bytes[i];
-        i += 1;
-    }
-    i
 }
 
 impl Op {
@@ -334,46 +363,11 @@ impl Op {
     pub fn from_code(code: u64) -> OpFound
         ensures { λ r. ⌜ opOf r ≡ coded code ⌝ }
     {
-        match code {
-            1 => OpFound::Is(Op::IsValidPath),
-            6 => OpFound::Is(Op::QueryReferrers),
-            7 => OpFound::Is(Op::AddToStore),
-            8 => OpFound::Is(Op::AddTextToStore),
-            9 => OpFound::Is(Op::BuildPaths),
-            10 => OpFound::Is(Op::EnsurePath),
-            11 => OpFound::Is(Op::AddTempRoot),
-            12 => OpFound::Is(Op::AddIndirectRoot),
-            13 => OpFound::Is(Op::SyncWithGC),
-            14 => OpFound::Is(Op::FindRoots),
-            18 => OpFound::Is(Op::QueryDeriver),
-            19 => OpFound::Is(Op::SetOptions),
-            20 => OpFound::Is(Op::CollectGarbage),
-            21 => OpFound::Is(Op::QuerySubstitutablePathInfo),
-            22 => OpFound::Is(Op::QueryDerivationOutputs),
-            23 => OpFound::Is(Op::QueryAllValidPaths),
-            26 => OpFound::Is(Op::QueryPathInfo),
-            28 => OpFound::Is(Op::QueryDerivationOutputNames),
-            29 => OpFound::Is(Op::QueryPathFromHashPart),
-            30 => OpFound::Is(Op::QuerySubstitutablePathInfos),
-            31 => OpFound::Is(Op::QueryValidPaths),
-            32 => OpFound::Is(Op::QuerySubstitutablePaths),
-            33 => OpFound::Is(Op::QueryValidDerivers),
-            34 => OpFound::Is(Op::OptimiseStore),
-            35 => OpFound::Is(Op::VerifyStore),
-            36 => OpFound::Is(Op::BuildDerivation),
-            37 => OpFound::Is(Op::AddSignatures),
-            38 => OpFound::Is(Op::NarFromPath),
-            39 => OpFound::Is(Op::AddToStoreNar),
-            40 => OpFound::Is(Op::QueryMissing),
-            41 => OpFound::Is(Op::QueryDerivationOutputMap),
-            42 => OpFound::Is(Op::RegisterDrvOutput),
-            43 => OpFound::Is(Op::QueryRealisation),
-            44 => OpFound::Is(Op::AddMultipleToStore),
-            45 => OpFound::Is(Op::AddBuildLog),
-            46 => OpFound::Is(Op::BuildPathsWithResults),
-            47 => OpFound::Is(Op::AddPermRoot),
-            _ => OpFound::Nothing,
+        let op = coded_op(code);
+        if Op::code(op) != code {
+            return OpFound::Nothing;
         }
+        OpFound::Is(op)
     }
 
     // Writes the name at the front of out, if there is room for all of it, and says how long it is.
@@ -385,7 +379,7 @@ impl Op {
         let start = span.start;
         let end = span.end;
         let names = names();
-        put(&names[start..end], out)
+        written::put_front(&names[start..end], out)
     }
 
     // Whether s is the name.
@@ -403,15 +397,11 @@ impl Op {
     pub fn from_name(s: &[u8]) -> OpFound
         ensures { λ r. ⌜ opOf r ≡ named (now (s .entry)) ⌝ }
     {
-        match Op::from_code(code_hint(s) as u64) {
-            OpFound::Is(op) => {
-                if Op::is_named(op, s) {
-                    OpFound::Is(op)
-                } else {
-                    OpFound::Nothing
-                }
-            }
-            OpFound::Nothing => OpFound::Nothing,
+        let op = coded_op(code_hint(s) as u64);
+        if Op::is_named(op, s) {
+            OpFound::Is(op)
+        } else {
+            OpFound::Nothing
         }
     }
 }

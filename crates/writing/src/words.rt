@@ -4,9 +4,9 @@ ghost use Prim.Native.Nat.{_+_, _≤_};
 ghost use lib.ListN.{length};
 ghost use Rattle.written.specs.Written.{writtenAt};
 use blocks::put_blocks;
-use blocks::put_bytes;
 use blocks::put_eights;
 use blocks::put_wides;
+use written::put_bytes;
 
 // Writes a word, many bytes at a time where it has as many. One of 32 to 64 bytes, as a store path has, takes no loop.
 pub fn put_word(word: &[u8], out: &mut [u8], at: usize) -> usize

@@ -1,12 +1,14 @@
--- Laws of what is written into a table: nothing, one more, two runs in a row, and a loop that writes one after another. Assumes nothing.
+-- Laws of what is written into a table: nothing, one more, two runs in a row, a word byte by byte, bytes at the front, and a loop that writes one after
+-- another. Assumes nothing.
 use Prim.Native.Nat.{ℕ, suc, _+_, _-_, _≤_, _<_}
 use mathlib.Core.Path.{_≡_, sym, ap, _∙_}
 use mathlib.Core.List.{List, [], _∷_, _++_, append-assoc, append-nil}
 use native.Mathlib.Nat.{add-zero, zero-add}
+use native.Mathlib.Numerals.{add-one}
 use native.Mathlib.Omega.{arith}
-use lib.ListN.{length, take, drop, set, length-append, length-drop, take-append-drop, drop-of-length-le}
-use lib.Seq.{sets, sets-eq, length-sets, length-take-le, take-add, take-all, take-append-seam, drop-append-seam, drop-drop}
-use borrow.Author.Tests.{le-leb}
+use lib.ListN.{length, take, drop, getD, set, length-append, length-drop, take-append-drop, drop-of-length-le}
+use lib.Seq.{sets, sets-eq, length-sets, length-take-le, take-suc, take-add, take-all, take-append-seam, drop-append-seam, drop-drop}
+use borrow.Author.Tests.{le-leb, lt-leb}
 use borrow.Rule.Slice.PartMut.{midOf, putMid}
 use Rattle.text.specs.Base.{overlaid}
 use Rattle.written.specs.Written.{writtenAt}
@@ -102,6 +104,39 @@ part-written xs ys at t u e h k =
       drop-drop (length xs) at t,
     )
     (sym (append-assoc (take at t) xs (drop (at + length xs) t)))
+
+-- ---- a word, byte by byte
+
+module _ (at i : ℕ) (w t u : List ℕ) (room : at + length w ≤ length t) (e : u ≡ writtenAt at (take i w) t) where
+  pub word-more : i < length w → set u (at + i) (getD w i 0) ≡ writtenAt at (take (i + 1) w) t
+  word-more h =
+      let l = length-take-le i w (omega arith) in
+      let s : take (i + 1) w ≡ take i w ++ (getD w i 0 ∷ []) = ap (λ (k : ℕ). take k w) (add-one i) ∙ take-suc w i 0 h in
+      ap (λ (v : List ℕ). set v (at + i) (getD w i 0)) e
+      ∙ ap (λ (k : ℕ). set (writtenAt at (take i w) t) (at + k) (getD w i 0)) (sym l)
+      ∙ sym (written-more at (take i w) (getD w i 0) t (omega arith))
+      ∙ ap (λ (xs : List ℕ). writtenAt at xs t) (sym s)
+
+  pub word-all : length w ≤ i → u ≡ writtenAt at w t
+  word-all k = e ∙ ap (λ (xs : List ℕ). writtenAt at xs t) (take-all i w k)
+
+pub word-begun : (at : ℕ) (w t : List ℕ) → at + length w ≤ length t → t ≡ writtenAt at (take 0 w) t
+word-begun at w t h = sym (written-none at t)
+
+pub ruleset word-laws = (word-begun, word-more, word-all)
+
+-- ---- bytes at the front
+
+module _ (bytes lent : List ℕ) where
+  pub front-short : length lent < length bytes → lent ≡ overlaid bytes lent
+  unfolding overlaid
+  front-short h = rw (lt-leb (length bytes) (length lent) h)
+
+  pub front-written : (left : List ℕ) → length bytes ≤ length lent → left ≡ writtenAt 0 bytes lent → left ≡ overlaid bytes lent
+  unfolding overlaid writtenAt
+  front-written left h e = rw (le-leb (length bytes) (length lent) h) (rw (zero-add (length bytes)) at e)
+
+pub ruleset front-laws = (front-short, front-written)
 
 -- ---- a loop that writes one after another
 

@@ -4,7 +4,8 @@ use Prim.Native.Nat.{_-_, _≤_}
 use mathlib.Core.Path.{_≡_}
 use lib.ListN.{length, take}
 use Rattle.written.specs.Written.{writtenAt}
-use Rattle.blocks.proofs.BlockLaws.{word-begun, part-over, part-last}
+use Rattle.written.proofs.WrittenLaws.{word-begun}
+use Rattle.blocks.proofs.BlockLaws.{part-over, part-last}
 use borrow.Author.Needs.{needs}
 use Rattle.blocks.proofs.put_blocks.Statement.{statement}
 use Rattle.blocks.proofs.put_blocks.Tie as tie

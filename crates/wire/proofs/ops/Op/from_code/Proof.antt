@@ -1,72 +1,34 @@
--- `wire::ops::Op::from_code` meets its contract: a code that is matched is its operation's, and one that is none of the 37 is no operation's.
--- Assumes nothing.
+-- `wire::ops::Op::from_code` meets its contract: the only operation that can have the code has it, or none has. Assumes nothing.
 use Prim.Native.Nat.{ℕ}
-use mathlib.Core.Path.{_≡_, refl, sym, ap, _∙_}
-use mathlib.Core.List.{List, [], _∷_}
+use mathlib.Core.Path.{_≡_, sym, ap, _∙_}
 use mathlib.Core.Option.{none, some}
-use lib.Dec.{eqb}
-use borrow.Author.Tests.{ne-eqb}
-use Rattle.wire.specs.Operations.{operation, operations, first, coded, opOf}
+use borrow.Author.Needs.{needs}
+use Rattle.wire.specs.Operations.{operation, coded, opOf}
 use Rattle.wire.specs.declared.ops.Op.{Op}
-use Rattle.wire.proofs.OperationLaws.{coded-code}
+use Rattle.wire.proofs.OperationLaws.{coded-code, code-coded, none-found}
 use Rattle.wire.proofs.ops.Op.from_code.Statement.{statement}
 use Rattle.wire.proofs.ops.Op.from_code.Tie as tie
 
-is : (o : Op) (n : ℕ) → n ≡ operation o .code → some o ≡ coded n
-is o n e = sym (ap coded e ∙ coded-code o)
+module _ (op : Op) (n code : ℕ) (e : code ≡ operation op .code) where
+  is : code ≡ n → some op ≡ coded n
+  is t = sym (ap coded (sym t ∙ e) ∙ coded-code op)
 
--- n is the code of none of the list: what a match leaves to its last arm, behind what was known before
-abbrev NoneOf : Type 0 → ℕ → List Op → Type 0
-NoneOf known n [] = known
-NoneOf known n (o ∷ os) = NoneOf (known × (n ≡ operation o .code → ⊥)) n os
+  other : ((p : Op) → n ≡ operation p .code → p ≡ op) → (code ≡ n → ⊥) → none ≡ coded n
+  other only f = none-found (coded n) op (λ p c. only p (code-coded n p c)) (λ c. f (e ∙ sym (code-coded n op c)))
 
-no : (os : List Op) (known : Type 0) (n : ℕ) → NoneOf known n os → known × (none ≡ first (λ o. eqb n (operation o .code)) os)
-unfolding first
-no [] known n h = (h, refl)
-no (o ∷ os) known n h =
-    let later = no os (known × (n ≡ operation o .code → ⊥)) n h in
-    (later .0 .0, rw (ne-eqb n (operation o .code) (later .0 .1)) (later .1))
+coded-op-requires : tie.Need-coded-op-requires
+coded-op-requires c κs = search needs
+
+code-requires : tie.Need-code-requires
+code-requires c κs = search needs
+
+returns : tie.Need-returns
+unfolding opOf
+returns c = other _ _ _ (c .before .code .ensures) (c .before .before .coded-op .ensures) (c .if1 .taken)
+
+returns-2 : tie.Need-returns-2
+unfolding opOf
+returns-2 c = is _ _ _ (c .before .code .ensures) (c .if1 .left)
 
 pub from-code-spec : {M : Type 1} → statement M
-unfolding operation coded opOf
-from-code-spec =
-    tie.close
-    (tie.spec
-    (λ c. is Op.IsValidPath _ (c .match .keys1))
-    (λ c. is Op.QueryReferrers _ (c .match .keys2))
-    (λ c. is Op.AddToStore _ (c .match .keys3))
-    (λ c. is Op.AddTextToStore _ (c .match .keys4))
-    (λ c. is Op.BuildPaths _ (c .match .keys5))
-    (λ c. is Op.EnsurePath _ (c .match .keys6))
-    (λ c. is Op.AddTempRoot _ (c .match .keys7))
-    (λ c. is Op.AddIndirectRoot _ (c .match .keys8))
-    (λ c. is Op.SyncWithGC _ (c .match .keys9))
-    (λ c. is Op.FindRoots _ (c .match .keys10))
-    (λ c. is Op.QueryDeriver _ (c .match .keys11))
-    (λ c. is Op.SetOptions _ (c .match .keys12))
-    (λ c. is Op.CollectGarbage _ (c .match .keys13))
-    (λ c. is Op.QuerySubstitutablePathInfo _ (c .match .keys14))
-    (λ c. is Op.QueryDerivationOutputs _ (c .match .keys15))
-    (λ c. is Op.QueryAllValidPaths _ (c .match .keys16))
-    (λ c. is Op.QueryPathInfo _ (c .match .keys17))
-    (λ c. is Op.QueryDerivationOutputNames _ (c .match .keys18))
-    (λ c. is Op.QueryPathFromHashPart _ (c .match .keys19))
-    (λ c. is Op.QuerySubstitutablePathInfos _ (c .match .keys20))
-    (λ c. is Op.QueryValidPaths _ (c .match .keys21))
-    (λ c. is Op.QuerySubstitutablePaths _ (c .match .keys22))
-    (λ c. is Op.QueryValidDerivers _ (c .match .keys23))
-    (λ c. is Op.OptimiseStore _ (c .match .keys24))
-    (λ c. is Op.VerifyStore _ (c .match .keys25))
-    (λ c. is Op.BuildDerivation _ (c .match .keys26))
-    (λ c. is Op.AddSignatures _ (c .match .keys27))
-    (λ c. is Op.NarFromPath _ (c .match .keys28))
-    (λ c. is Op.AddToStoreNar _ (c .match .keys29))
-    (λ c. is Op.QueryMissing _ (c .match .keys30))
-    (λ c. is Op.QueryDerivationOutputMap _ (c .match .keys31))
-    (λ c. is Op.RegisterDrvOutput _ (c .match .keys32))
-    (λ c. is Op.QueryRealisation _ (c .match .keys33))
-    (λ c. is Op.AddMultipleToStore _ (c .match .keys34))
-    (λ c. is Op.AddBuildLog _ (c .match .keys35))
-    (λ c. is Op.BuildPathsWithResults _ (c .match .keys36))
-    (λ c. is Op.AddPermRoot _ (c .match .keys37))
-    (λ c. no operations _ _ (c .match .rest) .1))
+from-code-spec = tie.close (tie.spec coded-op-requires code-requires returns returns-2)

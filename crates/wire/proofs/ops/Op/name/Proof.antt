@@ -25,17 +25,17 @@ name-span-requires c κs = search needs
 names-requires : tie.Need-names-requires
 names-requires c κs = search needs
 
-sub-put : tie.Need-sub-put
-sub-put c = search needs
+sub-put-front : tie.Need-sub-put-front
+sub-put-front c = search needs
 
-part-put-start : tie.Need-part-put-start
-part-put-start c = search needs
+part-put-front-start : tie.Need-part-put-front-start
+part-put-front-start c = search needs
 
-part-put-end : tie.Need-part-put-end
-part-put-end c = search needs
+part-put-front-end : tie.Need-part-put-front-end
+part-put-front-end c = search needs
 
-put-requires : tie.Need-put-requires
-put-requires c κs = search needs
+put-front-requires : tie.Need-put-front-requires
+put-front-requires c κs = search needs
 
 same-length : tie.Need-same-length
 same-length c = search needs
@@ -49,9 +49,9 @@ name-spec =
     (tie.spec
     name-span-requires
     names-requires
-    sub-put
-    part-put-start
-    part-put-end
-    put-requires
+    sub-put-front
+    part-put-front-start
+    part-put-front-end
+    put-front-requires
     same-length
     returns)

@@ -1,13 +1,13 @@
--- `blocks::put_bytes` meets its contract. The loop's invariant: the bytes passed are written. The measure is what is left of the word.
+-- `written::put_bytes` meets its contract. The loop's invariant: the bytes passed are written. The measure is what is left of the word.
 -- Assumes nothing.
 use Prim.Native.Nat.{_-_, _≤_}
 use mathlib.Core.Path.{_≡_}
 use lib.ListN.{length, take}
 use borrow.Author.Needs.{needs}
 use Rattle.written.specs.Written.{writtenAt}
-use Rattle.blocks.proofs.BlockLaws.{word-laws}
-use Rattle.blocks.proofs.put_bytes.Statement.{statement}
-use Rattle.blocks.proofs.put_bytes.Tie as tie
+use Rattle.written.proofs.WrittenLaws.{word-laws}
+use Rattle.written.proofs.put_bytes.Statement.{statement}
+use Rattle.written.proofs.put_bytes.Tie as tie
 
 abbrev Inv-loop : tie.InvT-loop
 Inv-loop word out₀ at i₀ out i = (i ≤ length word) × (length out ≡ length out₀) × (out ≡ writtenAt at (take i word) out₀)
