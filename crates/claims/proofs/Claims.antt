@@ -8,8 +8,8 @@ use lib.ListN.{length}
 use Rattle.text.specs.Utf8.{wellFormed}
 use Rattle.text.specs.Unicode.{allScalars, encodedAll, scalars}
 use Rattle.text.specs.Trim.{scalarsTrimmed, trimmed}
-use Rattle.text.proofs.Unicode.{encodings-are-well-formed, encodings-are-decoded, well-formed-are-encodings}
-use Rattle.text.proofs.TrimTheorem.{trimmed-text}
+use Rattle.characters.proofs.Unicode.{encodings-are-well-formed, encodings-are-decoded, well-formed-are-encodings}
+use Rattle.characters.proofs.TrimTheorem.{trimmed-text}
 use Rattle.script.specs.Reading.{readInto}
 use Rattle.script.specs.declared.records.Entry.{Entry}
 use Rattle.script.specs.declared.records.Expectation.{Expectation}

@@ -1,16 +1,11 @@
 pub mod Front
 pub mod LineLaws
-pub mod LineTheorem
 pub mod LiteralLaws
 pub mod PartLaws
-pub mod Scalars
 pub mod Scan
 pub mod SkipLaws
 pub mod Table
 pub mod TextExamples
-pub mod TrimChars
 pub mod TrimLaws
-pub mod TrimTheorem
-pub mod Unicode
 pub mod Utf8Laws
 pub mod WordLaws

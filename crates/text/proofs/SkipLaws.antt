@@ -50,39 +50,30 @@ without-on b s at i j r p q t k l h e = go (leb i k) refl
 or-none : (a b : ℕ) → bitOr a b ≡ 0 → (a ≡ 0) × (b ≡ 0)
 or-none a b z = omega (arith, or-add-and a b, and-le-r a b, and-le-l a b)
 
-abbrev or4 : (a b c d : ℕ) → ℕ
-or4 a b c d = bitOr (bitOr (bitOr a b) c) d
-
-four-none : (a b c d : ℕ) → or4 a b c d ≡ 0 → (a ≡ 0) × (b ≡ 0) × (c ≡ 0) × (d ≡ 0)
-four-none a b c d z =
-    let p = or-none (bitOr (bitOr a b) c) d z in
-    let q = or-none (bitOr a b) c (p .0) in
-    let r = or-none a b (q .0) in
-    (r .0, r .1, q .1, p .1)
-
-module _ (b : ℕ) (s : List ℕ) (at r0 r1 r2 r3 r4 r5 r6 r7 : ℕ) where
-  pub eight-none : eqb (bitOr (or4 r0 r1 r2 r3) (or4 r4 r5 r6 r7)) 0 ≡ true
+module _ (b : ℕ) (s : List ℕ) (at : ℕ) where
+  pub four-none : (r0 r1 r2 r3 : ℕ) → bitOr (bitOr (bitOr r0 r1) r2) r3 ≡ 0
       → r0 ≡ oneIf b (getD s at 0)
       → r1 ≡ oneIf b (getD s (at + 1) 0)
       → r2 ≡ oneIf b (getD s (at + 2) 0)
       → r3 ≡ oneIf b (getD s (at + 3) 0)
-      → r4 ≡ oneIf b (getD s (at + 4) 0)
-      → r5 ≡ oneIf b (getD s (at + 5) 0)
-      → r6 ≡ oneIf b (getD s (at + 6) 0)
-      → r7 ≡ oneIf b (getD s (at + 7) 0)
+      → Without b s at (at + 4)
+  four-none r0 r1 r2 r3 z e0 e1 e2 e3 =
+      let p = or-none (bitOr (bitOr r0 r1) r2) r3 z in
+      let q = or-none (bitOr r0 r1) r2 (p .0) in
+      let r = or-none r0 r1 (q .0) in
+      let p0 = without-more b s at at (at + 1) refl (without-none b s at) (omega (arith, r .0)) in
+      let p1 = without-more b s at (at + 1) (at + 2) (omega arith) p0 (omega (arith, r .1)) in
+      let p2 = without-more b s at (at + 2) (at + 3) (omega arith) p1 (omega (arith, q .1)) in
+      without-more b s at (at + 3) (at + 4) (omega arith) p2 (omega (arith, p .1))
+
+  pub eight-none : (first last : ℕ) → eqb (bitOr first last) 0 ≡ true
+      → (first ≡ 0 → Without b s at (at + 4))
+      → (last ≡ 0 → Without b s (at + 4) (at + 4 + 4))
       → Without b s at (at + 8)
-  eight-none t e0 e1 e2 e3 e4 e5 e6 e7 =
-      let z = or-none (or4 r0 r1 r2 r3) (or4 r4 r5 r6 r7) (eqb-true (bitOr (or4 r0 r1 r2 r3) (or4 r4 r5 r6 r7)) 0 t) in
-      let y = four-none r0 r1 r2 r3 (z .0) in
-      let x = four-none r4 r5 r6 r7 (z .1) in
-      let p0 = without-more b s at at (at + 1) refl (without-none b s at) (omega (arith, y .0)) in
-      let p1 = without-more b s at (at + 1) (at + 2) (omega arith) p0 (omega (arith, y .1)) in
-      let p2 = without-more b s at (at + 2) (at + 3) (omega arith) p1 (omega (arith, y .2)) in
-      let p3 = without-more b s at (at + 3) (at + 4) (omega arith) p2 (omega (arith, y .3)) in
-      let p4 = without-more b s at (at + 4) (at + 5) (omega arith) p3 (omega (arith, x .0)) in
-      let p5 = without-more b s at (at + 5) (at + 6) (omega arith) p4 (omega (arith, x .1)) in
-      let p6 = without-more b s at (at + 6) (at + 7) (omega arith) p5 (omega (arith, x .2)) in
-      without-more b s at (at + 7) (at + 8) (omega arith) p6 (omega (arith, x .3))
+  eight-none first last t p q =
+      let z = or-none first last (eqb-true (bitOr first last) 0 t) in
+      let e : at + 8 ≡ at + 4 + 4 = omega arith in
+      rw e (without-on b s at (at + 4) (at + 4 + 4) true (p (z .0)) (λ _. q (z .1)) refl)
 
 pub ruleset skip-steps = (one-is, one-isnt, without-none, without-on)
 

@@ -1,6 +1,6 @@
 -- Document 01, "Lines and words": trimming removes the White_Space characters at both ends. Said first of scalar values, then of bytes: as long as a text
 -- begins (ends) with the encoding of a White_Space character, that is taken off. The second says something of any bytes, UTF-8 or not; of the encodings of
--- scalar values both say the same (proofs/TrimTheorem.antt). Assumes nothing.
+-- scalar values both say the same (characters/proofs/TrimTheorem.antt). Assumes nothing.
 use Prim.Native.Nat.{ℕ, zero, suc, _-_}
 use mathlib.Core.Bool.{Bool, true, false}
 use mathlib.Core.List.{List, [], _∷_, reverse}

@@ -1,5 +1,5 @@
 -- Document 01, "Lines and words": UTF-8. A list of bytes is well formed if it is a row of ranges of table 3-7 of The Unicode Standard after the other.
--- That this is what the Standard defines, the encodings of scalar values, is proved in proofs/Unicode.antt. Assumes nothing.
+-- That this is what the Standard defines, the encodings of scalar values, is proved in characters/proofs/Unicode.antt. Assumes nothing.
 use Prim.Native.Nat.{ℕ}
 use mathlib.Core.Bool.{Bool, true, false}
 use mathlib.Core.List.{List, [], _∷_}

@@ -12,20 +12,20 @@ fn one_if(b: u8, x: u8) -> u8
     if x == b { 1 } else { 0 }
 }
 
-// Whether b is none of the eight bytes from `at` on. An OR, and no branches, so that they are looked at together.
+// 0 where b is none of the four bytes from `at` on. An OR, and no branches, so that they are looked at together.
+fn any_of_four(s: &[u8], b: u8, at: usize) -> u8
+    requires { ⌜ at + 4 ≤ length (now s) ⌝ }
+    ensures { λ r. ⌜ (r ≡ 0 → Without b (now (s .entry)) at (at + 4)) ⌝ }
+{
+    one_if(b, s[at]) | one_if(b, s[at + 1]) | one_if(b, s[at + 2]) | one_if(b, s[at + 3])
+}
+
+// Whether b is none of the eight bytes from `at` on: an OR again.
 fn not_in_eight(s: &[u8], b: u8, at: usize) -> bool
     requires { ⌜ at + 8 ≤ length (now s) ⌝ }
     ensures { λ r. ⌜ (r ≡ true → Without b (now (s .entry)) at (at + 8)) ⌝ }
 {
-    let first = one_if(b, s[at])
-        | one_if(b, s[at + 1])
-        | one_if(b, s[at + 2])
-        | one_if(b, s[at + 3]);
-    let last = one_if(b, s[at + 4])
-        | one_if(b, s[at + 5])
-        | one_if(b, s[at + 6])
-        | one_if(b, s[at + 7]);
-    (first | last) == 0
+    (any_of_four(s, b, at) | any_of_four(s, b, at + 4)) == 0
 }
 
 // A place up to which b does not stand from `at` on.

@@ -8,13 +8,13 @@ use native.Mathlib.Omega.{arith}
 use lib.Dec.{ltb, leb}
 use lib.ListN.{length, drop}
 use borrow.Author.Tests.{lt-ltb, le-ltb, ltb-true, ltb-false, leb-true, leb-false}
 use Rattle.text.proofs.Scan.{inside, within-true, within-low, within-high}
 use Rattle.text.proofs.Utf8Laws.{after-ascii}
-use Rattle.text.proofs.TrimChars.{off, front-1, back-1, front-2, back-2, front-3, back-3, front-4, back-4}
+use Rattle.characters.proofs.TrimChars.{off, front-1, back-1, front-2, back-2, front-3, back-3, front-4, back-4}
 use Rattle.text.specs.Base.{_or_, within}
 use Rattle.text.specs.Utf8.{_to_, table, after, wellFormedFrom}
 use Rattle.text.specs.Unicode.{scalar, encoded, scalarsFrom}
 use Rattle.text.specs.Trim.{whiteBytes, backwards, sizeOf}
 
 -- ---- scalar values
 

@@ -7,15 +7,15 @@ use mathlib.Core.List.{List, [], _∷_, _++_, append-assoc, append-nil, reverse,
 use native.Mathlib.Omega.{arith}
 use lib.ListN.{length, length-reverse}
 use lib.Seq.{drop-append-seam}
 use Rattle.text.proofs.Scan.{both, by-cases}
-use Rattle.text.proofs.Scalars.{coded}
+use Rattle.characters.proofs.Scalars.{coded}
 use Rattle.text.proofs.TrimLaws.{strip-on, strip-done}
-use Rattle.text.proofs.TrimChars.{off}
-use Rattle.text.proofs.Unicode.{encodings-are-well-formed, well-formed-are-encodings}
+use Rattle.characters.proofs.TrimChars.{off}
+use Rattle.characters.proofs.Unicode.{encodings-are-well-formed, well-formed-are-encodings}
 use Rattle.text.specs.Base.{if_then_else_}
 use Rattle.text.specs.Utf8.{Range, wellFormed}
 use Rattle.text.specs.Unicode.{scalar, allScalars, encoded, spread, encodedAll, scalars, white}
 use Rattle.text.specs.Trim.{frontTrimmed, scalarsTrimmed, whiteBytes, backwards, sizeOf, stripFrom, trimmedFront, trimmedBack, trimmed}
 
 -- ---- one end: by the rows, and how a scalar value is written when read from that end
 

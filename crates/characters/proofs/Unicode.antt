@@ -8,11 +8,11 @@ use native.Mathlib.Omega.{arith}
 use lib.Dec.{leb}
 use lib.ListN.{length}
 use borrow.Author.Tests.{leb-true, leb-false}
 use Rattle.text.proofs.Scan.{never, both, inside}
-use Rattle.text.proofs.Scalars.{scalar-low, scalar-high, Second3, Class, one, two, three, four, bad, classify, coded, is-1, is-2, is-3, is-4}
+use Rattle.characters.proofs.Scalars.{scalar-low, scalar-high, Second3, Class, one, two, three, four, bad, classify, coded, is-1, is-2, is-3, is-4}
 use Rattle.text.specs.Base.{_&_, within}
 use Rattle.text.specs.Utf8.{wellFormedFrom, wellFormed}
 use Rattle.text.specs.Unicode.{scalar, allScalars, encoded, spread, encodedAll, scalarsFrom, scalars}
 
 -- ---- from scalar values to bytes, and back
 
