@@ -1,2 +1,1 @@
-pub mod ExpectationLaws
 pub mod MatcherLaws

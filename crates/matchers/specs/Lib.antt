@@ -1,1 +1,1 @@
-pub mod ExpectAnswers
+pub mod MatcherAnswers

@@ -1,3 +1,2 @@
-// What a line expects (`parse_matcher` and `parse_expect` of script/parse.rs of the Rust).
-pub mod expectations;
+// How a line compares what it expects (`parse_matcher` of script/parse.rs of the Rust).
 pub mod matchers;

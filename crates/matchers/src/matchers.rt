@@ -7,7 +7,7 @@ ghost use Rattle.text.specs.Parts.{span};
 ghost use Rattle.script.specs.Pieces.{bytes, trim, place};
 ghost use Rattle.script.specs.Expectations.{matcher};
 ghost use Rattle.script.specs.Inside.{In};
-ghost use Rattle.matchers.specs.ExpectAnswers.{matcherOf};
+ghost use Rattle.matchers.specs.MatcherAnswers.{matcherOf};
 use script::records::Matcher;
 use script::records::Place;
 use text::parts::Span;

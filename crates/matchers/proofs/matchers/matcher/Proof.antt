@@ -1,5 +1,5 @@
 -- `matchers::matchers::matcher` meets its contract: the first byte tells the form. Assumes nothing.
-use Rattle.matchers.specs.ExpectAnswers.{matcherOf}
+use Rattle.matchers.specs.MatcherAnswers.{matcherOf}
 use Rattle.matchers.proofs.MatcherLaws.{matcher-steps}
 use borrow.Author.Needs.{needs}
 use Rattle.matchers.proofs.matchers.matcher.Statement.{statement}

@@ -1,6 +1,6 @@
 -- `matchers::matchers::slashed` meets its contract: each way out is a law of what was tested. Assumes nothing.
 use borrow.Author.Tests.{not-true, not-false}
-use Rattle.matchers.specs.ExpectAnswers.{matcherOf}
+use Rattle.matchers.specs.MatcherAnswers.{matcherOf}
 use Rattle.matchers.proofs.MatcherLaws.{matcher-steps}
 use borrow.Author.Needs.{needs}
 use Rattle.matchers.proofs.matchers.slashed.Statement.{statement}

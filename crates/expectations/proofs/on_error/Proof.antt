@@ -1,0 +1,17 @@
+-- `expectations::on_error` meets its contract: the word is `error:` or no form fits. Assumes nothing.
+use Rattle.expectations.proofs.ExpectationLaws.{an-error}
+use borrow.Author.Needs.{needs}
+use Rattle.expectations.proofs.on_error.Statement.{statement}
+use Rattle.expectations.proofs.on_error.Tie as tie
+
+slice-aggregate-about-word : tie.Need-slice-aggregate-about-word
+slice-aggregate-about-word c = search needs
+
+about-word-requires : tie.Need-about-word-requires
+about-word-requires c κs = search needs
+
+returns : tie.Need-returns
+returns c = search (needs, an-error)
+
+pub on-error-spec : {M : Type 1} → statement M
+on-error-spec = tie.close (tie.spec slice-aggregate-about-word about-word-requires returns)
