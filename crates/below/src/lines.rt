@@ -119,7 +119,7 @@ pub fn read_lines(
     let mut pairs: usize = 0;
     let mut expects: usize = 0;
     while at < text.len() {
-        let turn = kept::look(text, kept, w, at, number);
+        let turn = turns::look(text, kept, w, at, number);
         let step = turn.step;
         let role = step.role;
         let next = step.next;

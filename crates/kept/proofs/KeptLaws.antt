@@ -1,5 +1,5 @@
 -- Laws of what is kept. Assumes nothing.
-use Prim.Native.Nat.{ℕ, zero, suc, _+_, _≤_, _<_}
+use Prim.Native.Nat.{ℕ, zero, suc, _+_, _<_}
 use mathlib.Core.Path.{_≡_, refl, sym, ap, _∙_}
 use mathlib.Core.Bool.{Bool, true, false}
 use mathlib.Core.List.{List, [], _∷_}
@@ -17,8 +17,7 @@ use Rattle.script.specs.declared.roles.Where.{Where}
 use Rattle.script.specs.declared.roles.Where.the-variants.{InPreamble, Outside, InBlock, InEntry}
 use Rattle.script.specs.declared.roles.Step.{Step}
 use Rattle.kept.specs.declared.Kept.{Kept}
-use Rattle.kept.specs.declared.Turn.{Turn}
-use Rattle.kept.specs.Kept.{takesNumber, placeNumber, keptOf, blankKept, turnOf, Right, Memo}
+use Rattle.kept.specs.Kept.{takesNumber, placeNumber, keptOf, blankKept, Right, Memo}
 
 -- the places, by their numbers
 places : List Where
@@ -104,15 +103,6 @@ module _ (text : List ℕ) (kept : List Kept) (number at : ℕ) (w : Where) (nex
   pub keep-memo : Memo text kept → Memo text (set kept number (keptOf at w next step))
   unfolding Memo
   keep-memo m = set-keeps (Right text) kept number (keptOf at w next step) blankKept m new-right
-
--- ---- looking
-
-pub told : (text : List ℕ) (kept : List Kept) (number at : ℕ) (w : Where) → Memo text kept → (e : Kept) → e ≡ getD kept number blankKept → (e .from ≡ at + 1) × (e .stood ≡ placeNumber w)
-    → (t : Turn) → t ≡ turnOf e → (t .step ≡ stepOf plainRules text w (lineAt text at number)) × (t .next ≡ lineAt text at number .next)
-unfolding Memo Right
-told text kept number at w m e q f t r =
-    let z : Right text number e = rw q (m number) in
-    rw r (z at w (f .0) (f .1))
 
 -- ---- finding out
 

@@ -3,6 +3,3 @@ pub mod KeepKinds
 pub mod KeepLts
 pub mod KeepReads
 pub mod KeptElem
-pub mod LookKinds
-pub mod LookLts
-pub mod LookReads

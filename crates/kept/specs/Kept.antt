@@ -15,7 +15,6 @@ use Rattle.script.specs.declared.roles.Where.the-variants.{InPreamble, Outside,
 use Rattle.script.specs.declared.roles.Role.the-variants.{Nothing}
 use Rattle.script.specs.declared.roles.Step.{Step}
 use Rattle.kept.specs.declared.Kept.{Kept}
-use Rattle.kept.specs.declared.Turn.{Turn}
 
 -- a number for each place where a line may stand
 unfoldable pub takesNumber : Takes → ℕ
@@ -42,9 +41,6 @@ keptOf at w next step = record { from = at + 1; stood = placeNumber w; next = ne
 
 abbrev pub blankKept : Kept
 blankKept = record { from = 0; stood = 0; next = 0; step = Roles.step Nothing InPreamble }
-
-abbrev pub turnOf : Kept → Turn
-turnOf e = record { step = e .step; next = e .next }
 
 -- what is kept under a number is right: of the line that begins and stands where it says, it has what that line is and where the next one begins
 unfoldable pub Right : (text : List ℕ) → (number : ℕ) → Kept → Type 0

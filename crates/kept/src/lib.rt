@@ -3,11 +3,8 @@ ghost use mathlib.Core.Path.{_≡_};
 ghost use mathlib.Core.Bool.{true};
 ghost use mathlib.Core.List.{List};
 ghost use Prim.Native.Nat.{ℕ, _+_, _<_};
-ghost use lib.ListN.{length, set};
-ghost use Rattle.text.specs.Lines.{lineAt};
-ghost use Rattle.script.specs.Values.{plainRules};
-ghost use Rattle.script.specs.Roles.{stepOf};
-ghost use Rattle.kept.specs.Kept.{takesNumber, placeNumber, keptOf, blankKept, turnOf, Memo};
+ghost use lib.ListN.{set};
+ghost use Rattle.kept.specs.Kept.{takesNumber, placeNumber, keptOf, blankKept, Memo};
 use script::roles::Role;
 use script::roles::Step;
 use script::roles::Takes;
@@ -19,12 +16,6 @@ pub struct Kept {
     pub stood: usize,
     pub next: usize,
     pub step: Step,
-}
-
-// What a line is, and where the next one begins.
-pub struct Turn {
-    pub step: Step,
-    pub next: usize,
 }
 
 fn takes_number(takes: Takes) -> usize
@@ -104,7 +95,7 @@ pub fn keep(kept: &mut [Kept], number: usize, at: usize, w: Where, next: usize, 
 }
 
 // Whether what is kept is of a line that begins there and stands there.
-fn is_of(e: Kept, at: usize, w: Where) -> bool
+pub fn is_of(e: Kept, at: usize, w: Where) -> bool
     requires { ⌜ at + 1 < 0x1_0000_0000_0000_0000 ⌝ }
     ensures { λ r. ⌜ (r ≡ true → (e .from ≡ at + 1) × (e .stood ≡ placeNumber w)) ⌝ }
 {
@@ -112,40 +103,4 @@ fn is_of(e: Kept, at: usize, w: Where) -> bool
         return false;
     }
     e.stood == place_number(w)
-}
-
-fn turn_of(e: Kept) -> Turn
-    ensures { λ r. ⌜ r ≡ turnOf e ⌝ }
-{
-    let step = e.step;
-    Turn { step, next: e.next }
-}
-
-// What the line that begins there is, found out.
-fn find(text: &[u8], w: Where, at: usize, number: usize) -> Turn
-    requires { ⌜ at < length (now text) ⌝ }
-    ensures { λ r. ⌜ r .step ≡ stepOf plainRules (now (text .entry)) w (lineAt (now (text .entry)) at number) ⌝ }
-    ensures { λ r. ⌜ r .next ≡ lineAt (now (text .entry)) at number .next ⌝ }
-{
-    let l = lines::lines::line_at(text, at, number);
-    Turn {
-        step: roles::steps::step(text, w, l),
-        next: l.next,
-    }
-}
-
-// What the line that begins there is: as it was kept, or else found out.
-pub fn look(text: &[u8], kept: &[Kept], w: Where, at: usize, number: usize) -> Turn
-    requires { ⌜ Memo (now text) (now kept) ⌝ }
-    requires { ⌜ at < length (now text) ⌝ }
-    ensures { λ r. ⌜ r .step ≡ stepOf plainRules (now (text .entry)) w (lineAt (now (text .entry)) at number) ⌝ }
-    ensures { λ r. ⌜ r .next ≡ lineAt (now (text .entry)) at number .next ⌝ }
-{
-    if number < kept.len() {
-        let e = kept[number];
-        if is_of(e, at, w) {
-            return turn_of(e);
-        }
-    }
-    find(text, w, at, number)
 }

@@ -4,21 +4,21 @@ use Prim.Native.Nat
 use Rattle.below.proofs.lines.Below
 use Rattle.below.proofs.lines.Below.Laws
 use Rattle.kept.proofs.Made.KeptElem
-use Rattle.kept.proofs.Turn
-use Rattle.kept.proofs.Turn.Laws as Laws'
 use Rattle.script.proofs.records.Expect
-use Rattle.script.proofs.records.Expect.Laws as Laws''
+use Rattle.script.proofs.records.Expect.Laws as Laws'
 use Rattle.script.proofs.roles.Opening
-use Rattle.script.proofs.roles.Opening.Laws as Laws'3
+use Rattle.script.proofs.roles.Opening.Laws as Laws''
 use Rattle.script.proofs.roles.Role
-use Rattle.script.proofs.roles.Role.Laws as Laws'4
+use Rattle.script.proofs.roles.Role.Laws as Laws'3
 use Rattle.script.proofs.roles.Saying
-use Rattle.script.proofs.roles.Saying.Laws as Laws'5
+use Rattle.script.proofs.roles.Saying.Laws as Laws'4
 use Rattle.script.proofs.roles.Step
-use Rattle.script.proofs.roles.Step.Laws as Laws'6
+use Rattle.script.proofs.roles.Step.Laws as Laws'5
 use Rattle.script.proofs.roles.Where
-use Rattle.script.proofs.roles.Where.Laws as Laws'7
+use Rattle.script.proofs.roles.Where.Laws as Laws'6
 use Rattle.slots.proofs.Made.ExpectationElem
+use Rattle.turns.proofs.Turn
+use Rattle.turns.proofs.Turn.Laws as Laws'7
 use borrow.Author.Called
 use borrow.Author.Tests
 use borrow.Enum.Known
@@ -91,7 +91,7 @@ abbrev τ0 : Syntax.Ty
 τ0 = Syntax.tyEnum (List._∷_ 115 (List._∷_ 99 (List._∷_ 114 (List._∷_ 105 (List._∷_ 112 (List._∷_ 116 (List._∷_ 58 (List._∷_ 58 (List._∷_ 114 (List._∷_ 111 (List._∷_ 108 (List._∷_ 101 (List._∷_ 115 (List._∷_ 58 (List._∷_ 58 (List._∷_ 87 (List._∷_ 104 (List._∷_ 101 (List._∷_ 114 (List._∷_ 101 List.[])))))))))))))))))))) (Syntax.ttcons Syntax.tnil (Syntax.ttcons Syntax.tnil (Syntax.ttcons (Syntax.tcons (Syntax.tyEnum (List._∷_ 115 (List._∷_ 99 (List._∷_ 114 (List._∷_ 105 (List._∷_ 112 (List._∷_ 116 (List._∷_ 58 (List._∷_ 58 (List._∷_ 114 (List._∷_ 111 (List._∷_ 108 (List._∷_ 101 (List._∷_ 115 (List._∷_ 58 (List._∷_ 58 (List._∷_ 84 (List._∷_ 97 (List._∷_ 107 (List._∷_ 101 (List._∷_ 115 List.[])))))))))))))))))))) (Syntax.ttcons Syntax.tnil (Syntax.ttcons Syntax.tnil (Syntax.ttcons Syntax.tnil (Syntax.ttcons Syntax.tnil (Syntax.ttcons Syntax.tnil (Syntax.ttcons Syntax.tnil (Syntax.ttcons Syntax.tnil (Syntax.ttcons Syntax.tnil (Syntax.ttcons Syntax.tnil Syntax.ttnil)))))))))) (Syntax.tcons Syntax.tyBool Syntax.tnil)) (Syntax.ttcons Syntax.tnil Syntax.ttnil))))
 
 abbrev τ1 : Syntax.Ty
-τ1 = Syntax.tyStruct (List._∷_ 107 (List._∷_ 101 (List._∷_ 112 (List._∷_ 116 (List._∷_ 58 (List._∷_ 58 (List._∷_ 84 (List._∷_ 117 (List._∷_ 114 (List._∷_ 110 List.[])))))))))) (Syntax.tcons (Syntax.tyStruct (List._∷_ 115 (List._∷_ 99 (List._∷_ 114 (List._∷_ 105 (List._∷_ 112 (List._∷_ 116 (List._∷_ 58 (List._∷_ 58 (List._∷_ 114 (List._∷_ 111 (List._∷_ 108 (List._∷_ 101 (List._∷_ 115 (List._∷_ 58 (List._∷_ 58 (List._∷_ 83 (List._∷_ 116 (List._∷_ 101 (List._∷_ 112 List.[]))))))))))))))))))) (Syntax.tcons (Syntax.tyEnum (List._∷_ 115 (List._∷_ 99 (List._∷_ 114 (List._∷_ 105 (List._∷_ 112 (List._∷_ 116 (List._∷_ 58 (List._∷_ 58 (List._∷_ 114 (List._∷_ 111 (List._∷_ 108 (List._∷_ 101 (List._∷_ 115 (List._∷_ 58 (List._∷_ 58 (List._∷_ 82 (List._∷_ 111 (List._∷_ 108 (List._∷_ 101 List.[]))))))))))))))))))) (Syntax.ttcons Syntax.tnil (Syntax.ttcons (Syntax.tcons (Syntax.tyEnum (List._∷_ 115 (List._∷_ 99 (List._∷_ 114 (List._∷_ 105 (List._∷_ 112 (List._∷_ 116 (List._∷_ 58 (List._∷_ 58 (List._∷_ 114 (List._∷_ 111 (List._∷_ 108 (List._∷_ 101 (List._∷_ 115 (List._∷_ 58 (List._∷_ 58 (List._∷_ 83 (List._∷_ 97 (List._∷_ 121 (List._∷_ 105 (List._∷_ 110 (List._∷_ 103 List.[]))))))))))))))))))))) (Syntax.ttcons (Syntax.tcons (Syntax.tyEnum (List._∷_ 115 (List._∷_ 99 (List._∷_ 114 (List._∷_ 105 (List._∷_ 112 (List._∷_ 116 (List._∷_ 58 (List._∷_ 58 (List._∷_ 114 (List._∷_ 111 (List._∷_ 108 (List._∷_ 101 (List._∷_ 115 (List._∷_ 58 (List._∷_ 58 (List._∷_ 75 (List._∷_ 101 (List._∷_ 121 List.[])))))))))))))))))) (Syntax.ttcons Syntax.tnil (Syntax.ttcons Syntax.tnil (Syntax.ttcons Syntax.tnil (Syntax.ttcons Syntax.tnil (Syntax.ttcons Syntax.tnil (Syntax.ttcons Syntax.tnil (Syntax.ttcons Syntax.tnil (Syntax.ttcons Syntax.tnil (Syntax.ttcons Syntax.tnil (Syntax.ttcons Syntax.tnil (Syntax.ttcons Syntax.tnil (Syntax.ttcons Syntax.tnil (Syntax.ttcons Syntax.tnil (Syntax.ttcons Syntax.tnil (Syntax.ttcons Syntax.tnil (Syntax.ttcons Syntax.tnil (Syntax.ttcons Syntax.tnil (Syntax.ttcons Syntax.tnil (Syntax.ttcons Syntax.tnil (Syntax.ttcons Syntax.tnil (Syntax.ttcons Syntax.tnil (Syntax.ttcons Syntax.tnil (Syntax.ttcons Syntax.tnil (Syntax.ttcons Syntax.tnil (Syntax.ttcons Syntax.tnil (Syntax.ttcons Syntax.tnil (Syntax.ttcons Syntax.tnil (Syntax.ttcons Syntax.tnil (Syntax.ttcons Syntax.tnil (Syntax.ttcons Syntax.tnil (Syntax.ttcons Syntax.tnil (Syntax.ttcons Syntax.tnil Syntax.ttnil))))))))))))))))))))))))))))))))) (Syntax.tcons (Syntax.tyStruct (List._∷_ 116 (List._∷_ 101 (List._∷_ 120 (List._∷_ 116 (List._∷_ 58 (List._∷_ 58 (List._∷_ 112 (List._∷_ 97 (List._∷_ 114 (List._∷_ 116 (List._∷_ 115 (List._∷_ 58 (List._∷_ 58 (List._∷_ 83 (List._∷_ 112 (List._∷_ 97 (List._∷_ 110 List.[]))))))))))))))))) (Syntax.tcons (Syntax.tyInt Syntax.w64) (Syntax.tcons (Syntax.tyInt Syntax.w64) Syntax.tnil))) Syntax.tnil)) (Syntax.ttcons (Syntax.tcons (Syntax.tyStruct (List._∷_ 116 (List._∷_ 101 (List._∷_ 120 (List._∷_ 116 (List._∷_ 58 (List._∷_ 58 (List._∷_ 112 (List._∷_ 97 (List._∷_ 114 (List._∷_ 116 (List._∷_ 115 (List._∷_ 58 (List._∷_ 58 (List._∷_ 83 (List._∷_ 112 (List._∷_ 97 (List._∷_ 110 List.[]))))))))))))))))) (Syntax.tcons (Syntax.tyInt Syntax.w64) (Syntax.tcons (Syntax.tyInt Syntax.w64) Syntax.tnil))) (Syntax.tcons (Syntax.tyStruct (List._∷_ 116 (List._∷_ 101 (List._∷_ 120 (List._∷_ 116 (List._∷_ 58 (List._∷_ 58 (List._∷_ 112 (List._∷_ 97 (List._∷_ 114 (List._∷_ 116 (List._∷_ 115 (List._∷_ 58 (List._∷_ 58 (List._∷_ 83 (List._∷_ 112 (List._∷_ 97 (List._∷_ 110 List.[]))))))))))))))))) (Syntax.tcons (Syntax.tyInt Syntax.w64) (Syntax.tcons (Syntax.tyInt Syntax.w64) Syntax.tnil))) Syntax.tnil)) (Syntax.ttcons Syntax.tnil (Syntax.ttcons (Syntax.tcons (Syntax.tyStruct (List._∷_ 116 (List._∷_ 101 (List._∷_ 120 (List._∷_ 116 (List._∷_ 58 (List._∷_ 58 (List._∷_ 112 (List._∷_ 97 (List._∷_ 114 (List._∷_ 116 (List._∷_ 115 (List._∷_ 58 (List._∷_ 58 (List._∷_ 83 (List._∷_ 112 (List._∷_ 97 (List._∷_ 110 List.[]))))))))))))))))) (Syntax.tcons (Syntax.tyInt Syntax.w64) (Syntax.tcons (Syntax.tyInt Syntax.w64) Syntax.tnil))) (Syntax.tcons (Syntax.tyStruct (List._∷_ 116 (List._∷_ 101 (List._∷_ 120 (List._∷_ 116 (List._∷_ 58 (List._∷_ 58 (List._∷_ 112 (List._∷_ 97 (List._∷_ 114 (List._∷_ 116 (List._∷_ 115 (List._∷_ 58 (List._∷_ 58 (List._∷_ 83 (List._∷_ 112 (List._∷_ 97 (List._∷_ 110 List.[]))))))))))))))))) (Syntax.tcons (Syntax.tyInt Syntax.w64) (Syntax.tcons (Syntax.tyInt Syntax.w64) Syntax.tnil))) Syntax.tnil)) (Syntax.ttcons Syntax.tnil (Syntax.ttcons Syntax.tnil Syntax.ttnil))))))) Syntax.tnil) (Syntax.ttcons (Syntax.tcons (Syntax.tyEnum (List._∷_ 115 (List._∷_ 99 (List._∷_ 114 (List._∷_ 105 (List._∷_ 112 (List._∷_ 116 (List._∷_ 58 (List._∷_ 58 (List._∷_ 114 (List._∷_ 101 (List._∷_ 99 (List._∷_ 111 (List._∷_ 114 (List._∷_ 100 (List._∷_ 115 (List._∷_ 58 (List._∷_ 58 (List._∷_ 69 (List._∷_ 120 (List._∷_ 112 (List._∷_ 101 (List._∷_ 99 (List._∷_ 116 List.[]))))))))))))))))))))))) (Syntax.ttcons (Syntax.tcons (Syntax.tyStruct (List._∷_ 115 (List._∷_ 99 (List._∷_ 114 (List._∷_ 105 (List._∷_ 112 (List._∷_ 116 (List._∷_ 58 (List._∷_ 58 (List._∷_ 114 (List._∷_ 101 (List._∷_ 99 (List._∷_ 111 (List._∷_ 114 (List._∷_ 100 (List._∷_ 115 (List._∷_ 58 (List._∷_ 58 (List._∷_ 80 (List._∷_ 108 (List._∷_ 97 (List._∷_ 99 (List._∷_ 101 List.[])))))))))))))))))))))) (Syntax.tcons (Syntax.tyInt Syntax.w64) (Syntax.tcons (Syntax.tyInt Syntax.w64) Syntax.tnil))) Syntax.tnil) (Syntax.ttcons (Syntax.tcons (Syntax.tyEnum (List._∷_ 115 (List._∷_ 99 (List._∷_ 114 (List._∷_ 105 (List._∷_ 112 (List._∷_ 116 (List._∷_ 58 (List._∷_ 58 (List._∷_ 114 (List._∷_ 101 (List._∷_ 99 (List._∷_ 111 (List._∷_ 114 (List._∷_ 100 (List._∷_ 115 (List._∷_ 58 (List._∷_ 58 (List._∷_ 77 (List._∷_ 97 (List._∷_ 116 (List._∷_ 99 (List._∷_ 104 (List._∷_ 101 (List._∷_ 114 List.[])))))))))))))))))))))))) (Syntax.ttcons (Syntax.tcons (Syntax.tyStruct (List._∷_ 115 (List._∷_ 99 (List._∷_ 114 (List._∷_ 105 (List._∷_ 112 (List._∷_ 116 (List._∷_ 58 (List._∷_ 58 (List._∷_ 114 (List._∷_ 101 (List._∷_ 99 (List._∷_ 111 (List._∷_ 114 (List._∷_ 100 (List._∷_ 115 (List._∷_ 58 (List._∷_ 58 (List._∷_ 80 (List._∷_ 108 (List._∷_ 97 (List._∷_ 99 (List._∷_ 101 List.[])))))))))))))))))))))) (Syntax.tcons (Syntax.tyInt Syntax.w64) (Syntax.tcons (Syntax.tyInt Syntax.w64) Syntax.tnil))) Syntax.tnil) (Syntax.ttcons (Syntax.tcons (Syntax.tyStruct (List._∷_ 115 (List._∷_ 99 (List._∷_ 114 (List._∷_ 105 (List._∷_ 112 (List._∷_ 116 (List._∷_ 58 (List._∷_ 58 (List._∷_ 114 (List._∷_ 101 (List._∷_ 99 (List._∷_ 111 (List._∷_ 114 (List._∷_ 100 (List._∷_ 115 (List._∷_ 58 (List._∷_ 58 (List._∷_ 80 (List._∷_ 108 (List._∷_ 97 (List._∷_ 99 (List._∷_ 101 List.[])))))))))))))))))))))) (Syntax.tcons (Syntax.tyInt Syntax.w64) (Syntax.tcons (Syntax.tyInt Syntax.w64) Syntax.tnil))) Syntax.tnil) (Syntax.ttcons (Syntax.tcons (Syntax.tyInt Syntax.w64) Syntax.tnil) (Syntax.ttcons (Syntax.tcons (Syntax.tyInt Syntax.w64) Syntax.tnil) (Syntax.ttcons (Syntax.tcons (Syntax.tyInt Syntax.w64) Syntax.tnil) (Syntax.ttcons (Syntax.tcons (Syntax.tyInt Syntax.w64) Syntax.tnil) Syntax.ttnil))))))) Syntax.tnil) (Syntax.ttcons (Syntax.tcons (Syntax.tyStruct (List._∷_ 115 (List._∷_ 99 (List._∷_ 114 (List._∷_ 105 (List._∷_ 112 (List._∷_ 116 (List._∷_ 58 (List._∷_ 58 (List._∷_ 114 (List._∷_ 101 (List._∷_ 99 (List._∷_ 111 (List._∷_ 114 (List._∷_ 100 (List._∷_ 115 (List._∷_ 58 (List._∷_ 58 (List._∷_ 80 (List._∷_ 108 (List._∷_ 97 (List._∷_ 99 (List._∷_ 101 List.[])))))))))))))))))))))) (Syntax.tcons (Syntax.tyInt Syntax.w64) (Syntax.tcons (Syntax.tyInt Syntax.w64) Syntax.tnil))) (Syntax.tcons (Syntax.tyEnum (List._∷_ 115 (List._∷_ 99 (List._∷_ 114 (List._∷_ 105 (List._∷_ 112 (List._∷_ 116 (List._∷_ 58 (List._∷_ 58 (List._∷_ 114 (List._∷_ 101 (List._∷_ 99 (List._∷_ 111 (List._∷_ 114 (List._∷_ 100 (List._∷_ 115 (List._∷_ 58 (List._∷_ 58 (List._∷_ 77 (List._∷_ 97 (List._∷_ 116 (List._∷_ 99 (List._∷_ 104 (List._∷_ 101 (List._∷_ 114 List.[])))))))))))))))))))))))) (Syntax.ttcons (Syntax.tcons (Syntax.tyStruct (List._∷_ 115 (List._∷_ 99 (List._∷_ 114 (List._∷_ 105 (List._∷_ 112 (List._∷_ 116 (List._∷_ 58 (List._∷_ 58 (List._∷_ 114 (List._∷_ 101 (List._∷_ 99 (List._∷_ 111 (List._∷_ 114 (List._∷_ 100 (List._∷_ 115 (List._∷_ 58 (List._∷_ 58 (List._∷_ 80 (List._∷_ 108 (List._∷_ 97 (List._∷_ 99 (List._∷_ 101 List.[])))))))))))))))))))))) (Syntax.tcons (Syntax.tyInt Syntax.w64) (Syntax.tcons (Syntax.tyInt Syntax.w64) Syntax.tnil))) Syntax.tnil) (Syntax.ttcons (Syntax.tcons (Syntax.tyStruct (List._∷_ 115 (List._∷_ 99 (List._∷_ 114 (List._∷_ 105 (List._∷_ 112 (List._∷_ 116 (List._∷_ 58 (List._∷_ 58 (List._∷_ 114 (List._∷_ 101 (List._∷_ 99 (List._∷_ 111 (List._∷_ 114 (List._∷_ 100 (List._∷_ 115 (List._∷_ 58 (List._∷_ 58 (List._∷_ 80 (List._∷_ 108 (List._∷_ 97 (List._∷_ 99 (List._∷_ 101 List.[])))))))))))))))))))))) (Syntax.tcons (Syntax.tyInt Syntax.w64) (Syntax.tcons (Syntax.tyInt Syntax.w64) Syntax.tnil))) Syntax.tnil) (Syntax.ttcons (Syntax.tcons (Syntax.tyInt Syntax.w64) Syntax.tnil) (Syntax.ttcons (Syntax.tcons (Syntax.tyInt Syntax.w64) Syntax.tnil) (Syntax.ttcons (Syntax.tcons (Syntax.tyInt Syntax.w64) Syntax.tnil) (Syntax.ttcons (Syntax.tcons (Syntax.tyInt Syntax.w64) Syntax.tnil) Syntax.ttnil))))))) Syntax.tnil)) (Syntax.ttcons (Syntax.tcons (Syntax.tyEnum (List._∷_ 115 (List._∷_ 99 (List._∷_ 114 (List._∷_ 105 (List._∷_ 112 (List._∷_ 116 (List._∷_ 58 (List._∷_ 58 (List._∷_ 114 (List._∷_ 101 (List._∷_ 99 (List._∷_ 111 (List._∷_ 114 (List._∷_ 100 (List._∷_ 115 (List._∷_ 58 (List._∷_ 58 (List._∷_ 77 (List._∷_ 97 (List._∷_ 116 (List._∷_ 99 (List._∷_ 104 (List._∷_ 101 (List._∷_ 114 List.[])))))))))))))))))))))))) (Syntax.ttcons (Syntax.tcons (Syntax.tyStruct (List._∷_ 115 (List._∷_ 99 (List._∷_ 114 (List._∷_ 105 (List._∷_ 112 (List._∷_ 116 (List._∷_ 58 (List._∷_ 58 (List._∷_ 114 (List._∷_ 101 (List._∷_ 99 (List._∷_ 111 (List._∷_ 114 (List._∷_ 100 (List._∷_ 115 (List._∷_ 58 (List._∷_ 58 (List._∷_ 80 (List._∷_ 108 (List._∷_ 97 (List._∷_ 99 (List._∷_ 101 List.[])))))))))))))))))))))) (Syntax.tcons (Syntax.tyInt Syntax.w64) (Syntax.tcons (Syntax.tyInt Syntax.w64) Syntax.tnil))) Syntax.tnil) (Syntax.ttcons (Syntax.tcons (Syntax.tyStruct (List._∷_ 115 (List._∷_ 99 (List._∷_ 114 (List._∷_ 105 (List._∷_ 112 (List._∷_ 116 (List._∷_ 58 (List._∷_ 58 (List._∷_ 114 (List._∷_ 101 (List._∷_ 99 (List._∷_ 111 (List._∷_ 114 (List._∷_ 100 (List._∷_ 115 (List._∷_ 58 (List._∷_ 58 (List._∷_ 80 (List._∷_ 108 (List._∷_ 97 (List._∷_ 99 (List._∷_ 101 List.[])))))))))))))))))))))) (Syntax.tcons (Syntax.tyInt Syntax.w64) (Syntax.tcons (Syntax.tyInt Syntax.w64) Syntax.tnil))) Syntax.tnil) (Syntax.ttcons (Syntax.tcons (Syntax.tyInt Syntax.w64) Syntax.tnil) (Syntax.ttcons (Syntax.tcons (Syntax.tyInt Syntax.w64) Syntax.tnil) (Syntax.ttcons (Syntax.tcons (Syntax.tyInt Syntax.w64) Syntax.tnil) (Syntax.ttcons (Syntax.tcons (Syntax.tyInt Syntax.w64) Syntax.tnil) Syntax.ttnil))))))) Syntax.tnil) (Syntax.ttcons (Syntax.tcons (Syntax.tyEnum (List._∷_ 115 (List._∷_ 99 (List._∷_ 114 (List._∷_ 105 (List._∷_ 112 (List._∷_ 116 (List._∷_ 58 (List._∷_ 58 (List._∷_ 114 (List._∷_ 101 (List._∷_ 99 (List._∷_ 111 (List._∷_ 114 (List._∷_ 100 (List._∷_ 115 (List._∷_ 58 (List._∷_ 58 (List._∷_ 77 (List._∷_ 97 (List._∷_ 116 (List._∷_ 99 (List._∷_ 104 (List._∷_ 101 (List._∷_ 114 List.[])))))))))))))))))))))))) (Syntax.ttcons (Syntax.tcons (Syntax.tyStruct (List._∷_ 115 (List._∷_ 99 (List._∷_ 114 (List._∷_ 105 (List._∷_ 112 (List._∷_ 116 (List._∷_ 58 (List._∷_ 58 (List._∷_ 114 (List._∷_ 101 (List._∷_ 99 (List._∷_ 111 (List._∷_ 114 (List._∷_ 100 (List._∷_ 115 (List._∷_ 58 (List._∷_ 58 (List._∷_ 80 (List._∷_ 108 (List._∷_ 97 (List._∷_ 99 (List._∷_ 101 List.[])))))))))))))))))))))) (Syntax.tcons (Syntax.tyInt Syntax.w64) (Syntax.tcons (Syntax.tyInt Syntax.w64) Syntax.tnil))) Syntax.tnil) (Syntax.ttcons (Syntax.tcons (Syntax.tyStruct (List._∷_ 115 (List._∷_ 99 (List._∷_ 114 (List._∷_ 105 (List._∷_ 112 (List._∷_ 116 (List._∷_ 58 (List._∷_ 58 (List._∷_ 114 (List._∷_ 101 (List._∷_ 99 (List._∷_ 111 (List._∷_ 114 (List._∷_ 100 (List._∷_ 115 (List._∷_ 58 (List._∷_ 58 (List._∷_ 80 (List._∷_ 108 (List._∷_ 97 (List._∷_ 99 (List._∷_ 101 List.[])))))))))))))))))))))) (Syntax.tcons (Syntax.tyInt Syntax.w64) (Syntax.tcons (Syntax.tyInt Syntax.w64) Syntax.tnil))) Syntax.tnil) (Syntax.ttcons (Syntax.tcons (Syntax.tyInt Syntax.w64) Syntax.tnil) (Syntax.ttcons (Syntax.tcons (Syntax.tyInt Syntax.w64) Syntax.tnil) (Syntax.ttcons (Syntax.tcons (Syntax.tyInt Syntax.w64) Syntax.tnil) (Syntax.ttcons (Syntax.tcons (Syntax.tyInt Syntax.w64) Syntax.tnil) Syntax.ttnil))))))) Syntax.tnil) (Syntax.ttcons (Syntax.tcons (Syntax.tyEnum (List._∷_ 115 (List._∷_ 99 (List._∷_ 114 (List._∷_ 105 (List._∷_ 112 (List._∷_ 116 (List._∷_ 58 (List._∷_ 58 (List._∷_ 114 (List._∷_ 101 (List._∷_ 99 (List._∷_ 111 (List._∷_ 114 (List._∷_ 100 (List._∷_ 115 (List._∷_ 58 (List._∷_ 58 (List._∷_ 77 (List._∷_ 97 (List._∷_ 116 (List._∷_ 99 (List._∷_ 104 (List._∷_ 101 (List._∷_ 114 List.[])))))))))))))))))))))))) (Syntax.ttcons (Syntax.tcons (Syntax.tyStruct (List._∷_ 115 (List._∷_ 99 (List._∷_ 114 (List._∷_ 105 (List._∷_ 112 (List._∷_ 116 (List._∷_ 58 (List._∷_ 58 (List._∷_ 114 (List._∷_ 101 (List._∷_ 99 (List._∷_ 111 (List._∷_ 114 (List._∷_ 100 (List._∷_ 115 (List._∷_ 58 (List._∷_ 58 (List._∷_ 80 (List._∷_ 108 (List._∷_ 97 (List._∷_ 99 (List._∷_ 101 List.[])))))))))))))))))))))) (Syntax.tcons (Syntax.tyInt Syntax.w64) (Syntax.tcons (Syntax.tyInt Syntax.w64) Syntax.tnil))) Syntax.tnil) (Syntax.ttcons (Syntax.tcons (Syntax.tyStruct (List._∷_ 115 (List._∷_ 99 (List._∷_ 114 (List._∷_ 105 (List._∷_ 112 (List._∷_ 116 (List._∷_ 58 (List._∷_ 58 (List._∷_ 114 (List._∷_ 101 (List._∷_ 99 (List._∷_ 111 (List._∷_ 114 (List._∷_ 100 (List._∷_ 115 (List._∷_ 58 (List._∷_ 58 (List._∷_ 80 (List._∷_ 108 (List._∷_ 97 (List._∷_ 99 (List._∷_ 101 List.[])))))))))))))))))))))) (Syntax.tcons (Syntax.tyInt Syntax.w64) (Syntax.tcons (Syntax.tyInt Syntax.w64) Syntax.tnil))) Syntax.tnil) (Syntax.ttcons (Syntax.tcons (Syntax.tyInt Syntax.w64) Syntax.tnil) (Syntax.ttcons (Syntax.tcons (Syntax.tyInt Syntax.w64) Syntax.tnil) (Syntax.ttcons (Syntax.tcons (Syntax.tyInt Syntax.w64) Syntax.tnil) (Syntax.ttcons (Syntax.tcons (Syntax.tyInt Syntax.w64) Syntax.tnil) Syntax.ttnil))))))) Syntax.tnil) (Syntax.ttcons (Syntax.tcons (Syntax.tyEnum (List._∷_ 115 (List._∷_ 99 (List._∷_ 114 (List._∷_ 105 (List._∷_ 112 (List._∷_ 116 (List._∷_ 58 (List._∷_ 58 (List._∷_ 114 (List._∷_ 101 (List._∷_ 99 (List._∷_ 111 (List._∷_ 114 (List._∷_ 100 (List._∷_ 115 (List._∷_ 58 (List._∷_ 58 (List._∷_ 77 (List._∷_ 97 (List._∷_ 116 (List._∷_ 99 (List._∷_ 104 (List._∷_ 101 (List._∷_ 114 List.[])))))))))))))))))))))))) (Syntax.ttcons (Syntax.tcons (Syntax.tyStruct (List._∷_ 115 (List._∷_ 99 (List._∷_ 114 (List._∷_ 105 (List._∷_ 112 (List._∷_ 116 (List._∷_ 58 (List._∷_ 58 (List._∷_ 114 (List._∷_ 101 (List._∷_ 99 (List._∷_ 111 (List._∷_ 114 (List._∷_ 100 (List._∷_ 115 (List._∷_ 58 (List._∷_ 58 (List._∷_ 80 (List._∷_ 108 (List._∷_ 97 (List._∷_ 99 (List._∷_ 101 List.[])))))))))))))))))))))) (Syntax.tcons (Syntax.tyInt Syntax.w64) (Syntax.tcons (Syntax.tyInt Syntax.w64) Syntax.tnil))) Syntax.tnil) (Syntax.ttcons (Syntax.tcons (Syntax.tyStruct (List._∷_ 115 (List._∷_ 99 (List._∷_ 114 (List._∷_ 105 (List._∷_ 112 (List._∷_ 116 (List._∷_ 58 (List._∷_ 58 (List._∷_ 114 (List._∷_ 101 (List._∷_ 99 (List._∷_ 111 (List._∷_ 114 (List._∷_ 100 (List._∷_ 115 (List._∷_ 58 (List._∷_ 58 (List._∷_ 80 (List._∷_ 108 (List._∷_ 97 (List._∷_ 99 (List._∷_ 101 List.[])))))))))))))))))))))) (Syntax.tcons (Syntax.tyInt Syntax.w64) (Syntax.tcons (Syntax.tyInt Syntax.w64) Syntax.tnil))) Syntax.tnil) (Syntax.ttcons (Syntax.tcons (Syntax.tyInt Syntax.w64) Syntax.tnil) (Syntax.ttcons (Syntax.tcons (Syntax.tyInt Syntax.w64) Syntax.tnil) (Syntax.ttcons (Syntax.tcons (Syntax.tyInt Syntax.w64) Syntax.tnil) (Syntax.ttcons (Syntax.tcons (Syntax.tyInt Syntax.w64) Syntax.tnil) Syntax.ttnil))))))) Syntax.tnil) (Syntax.ttcons (Syntax.tcons (Syntax.tyEnum (List._∷_ 115 (List._∷_ 99 (List._∷_ 114 (List._∷_ 105 (List._∷_ 112 (List._∷_ 116 (List._∷_ 58 (List._∷_ 58 (List._∷_ 114 (List._∷_ 101 (List._∷_ 99 (List._∷_ 111 (List._∷_ 114 (List._∷_ 100 (List._∷_ 115 (List._∷_ 58 (List._∷_ 58 (List._∷_ 77 (List._∷_ 97 (List._∷_ 116 (List._∷_ 99 (List._∷_ 104 (List._∷_ 101 (List._∷_ 114 List.[])))))))))))))))))))))))) (Syntax.ttcons (Syntax.tcons (Syntax.tyStruct (List._∷_ 115 (List._∷_ 99 (List._∷_ 114 (List._∷_ 105 (List._∷_ 112 (List._∷_ 116 (List._∷_ 58 (List._∷_ 58 (List._∷_ 114 (List._∷_ 101 (List._∷_ 99 (List._∷_ 111 (List._∷_ 114 (List._∷_ 100 (List._∷_ 115 (List._∷_ 58 (List._∷_ 58 (List._∷_ 80 (List._∷_ 108 (List._∷_ 97 (List._∷_ 99 (List._∷_ 101 List.[])))))))))))))))))))))) (Syntax.tcons (Syntax.tyInt Syntax.w64) (Syntax.tcons (Syntax.tyInt Syntax.w64) Syntax.tnil))) Syntax.tnil) (Syntax.ttcons (Syntax.tcons (Syntax.tyStruct (List._∷_ 115 (List._∷_ 99 (List._∷_ 114 (List._∷_ 105 (List._∷_ 112 (List._∷_ 116 (List._∷_ 58 (List._∷_ 58 (List._∷_ 114 (List._∷_ 101 (List._∷_ 99 (List._∷_ 111 (List._∷_ 114 (List._∷_ 100 (List._∷_ 115 (List._∷_ 58 (List._∷_ 58 (List._∷_ 80 (List._∷_ 108 (List._∷_ 97 (List._∷_ 99 (List._∷_ 101 List.[])))))))))))))))))))))) (Syntax.tcons (Syntax.tyInt Syntax.w64) (Syntax.tcons (Syntax.tyInt Syntax.w64) Syntax.tnil))) Syntax.tnil) (Syntax.ttcons (Syntax.tcons (Syntax.tyInt Syntax.w64) Syntax.tnil) (Syntax.ttcons (Syntax.tcons (Syntax.tyInt Syntax.w64) Syntax.tnil) (Syntax.ttcons (Syntax.tcons (Syntax.tyInt Syntax.w64) Syntax.tnil) (Syntax.ttcons (Syntax.tcons (Syntax.tyInt Syntax.w64) Syntax.tnil) Syntax.ttnil))))))) Syntax.tnil) Syntax.ttnil))))))))) Syntax.tnil) (Syntax.ttcons (Syntax.tcons (Syntax.tyStruct (List._∷_ 115 (List._∷_ 99 (List._∷_ 114 (List._∷_ 105 (List._∷_ 112 (List._∷_ 116 (List._∷_ 58 (List._∷_ 58 (List._∷_ 114 (List._∷_ 111 (List._∷_ 108 (List._∷_ 101 (List._∷_ 115 (List._∷_ 58 (List._∷_ 58 (List._∷_ 79 (List._∷_ 112 (List._∷_ 101 (List._∷_ 110 (List._∷_ 105 (List._∷_ 110 (List._∷_ 103 List.[])))))))))))))))))))))) (Syntax.tcons (Syntax.tyEnum (List._∷_ 115 (List._∷_ 99 (List._∷_ 114 (List._∷_ 105 (List._∷_ 112 (List._∷_ 116 (List._∷_ 58 (List._∷_ 58 (List._∷_ 114 (List._∷_ 101 (List._∷_ 99 (List._∷_ 111 (List._∷_ 114 (List._∷_ 100 (List._∷_ 115 (List._∷_ 58 (List._∷_ 58 (List._∷_ 83 (List._∷_ 116 (List._∷_ 97 (List._∷_ 109 (List._∷_ 112 List.[])))))))))))))))))))))) (Syntax.ttcons Syntax.tnil (Syntax.ttcons (Syntax.tcons (Syntax.tyStruct (List._∷_ 115 (List._∷_ 99 (List._∷_ 114 (List._∷_ 105 (List._∷_ 112 (List._∷_ 116 (List._∷_ 58 (List._∷_ 58 (List._∷_ 114 (List._∷_ 101 (List._∷_ 99 (List._∷_ 111 (List._∷_ 114 (List._∷_ 100 (List._∷_ 115 (List._∷_ 58 (List._∷_ 58 (List._∷_ 84 (List._∷_ 105 (List._∷_ 109 (List._∷_ 101 List.[]))))))))))))))))))))) (Syntax.tcons Syntax.tyBool (Syntax.tcons (Syntax.tyInt Syntax.w64) (Syntax.tcons (Syntax.tyInt Syntax.w64) Syntax.tnil)))) Syntax.tnil) Syntax.ttnil))) (Syntax.tcons (Syntax.tyEnum (List._∷_ 119 (List._∷_ 105 (List._∷_ 114 (List._∷_ 101 (List._∷_ 58 (List._∷_ 58 (List._∷_ 111 (List._∷_ 112 (List._∷_ 115 (List._∷_ 58 (List._∷_ 58 (List._∷_ 79 (List._∷_ 112 List.[]))))))))))))) (Syntax.ttcons Syntax.tnil (Syntax.ttcons Syntax.tnil (Syntax.ttcons Syntax.tnil (Syntax.ttcons Syntax.tnil (Syntax.ttcons Syntax.tnil (Syntax.ttcons Syntax.tnil (Syntax.ttcons Syntax.tnil (Syntax.ttcons Syntax.tnil (Syntax.ttcons Syntax.tnil (Syntax.ttcons Syntax.tnil (Syntax.ttcons Syntax.tnil (Syntax.ttcons Syntax.tnil (Syntax.ttcons Syntax.tnil (Syntax.ttcons Syntax.tnil (Syntax.ttcons Syntax.tnil (Syntax.ttcons Syntax.tnil (Syntax.ttcons Syntax.tnil (Syntax.ttcons Syntax.tnil (Syntax.ttcons Syntax.tnil (Syntax.ttcons Syntax.tnil (Syntax.ttcons Syntax.tnil (Syntax.ttcons Syntax.tnil (Syntax.ttcons Syntax.tnil (Syntax.ttcons Syntax.tnil (Syntax.ttcons Syntax.tnil (Syntax.ttcons Syntax.tnil (Syntax.ttcons Syntax.tnil (Syntax.ttcons Syntax.tnil (Syntax.ttcons Syntax.tnil (Syntax.ttcons Syntax.tnil (Syntax.ttcons Syntax.tnil (Syntax.ttcons Syntax.tnil (Syntax.ttcons Syntax.tnil (Syntax.ttcons Syntax.tnil (Syntax.ttcons Syntax.tnil (Syntax.ttcons Syntax.tnil (Syntax.ttcons Syntax.tnil Syntax.ttnil)))))))))))))))))))))))))))))))))))))) (Syntax.tcons (Syntax.tyStruct (List._∷_ 116 (List._∷_ 101 (List._∷_ 120 (List._∷_ 116 (List._∷_ 58 (List._∷_ 58 (List._∷_ 112 (List._∷_ 97 (List._∷_ 114 (List._∷_ 116 (List._∷_ 115 (List._∷_ 58 (List._∷_ 58 (List._∷_ 83 (List._∷_ 112 (List._∷_ 97 (List._∷_ 110 List.[]))))))))))))))))) (Syntax.tcons (Syntax.tyInt Syntax.w64) (Syntax.tcons (Syntax.tyInt Syntax.w64) Syntax.tnil))) Syntax.tnil)))) Syntax.tnil) (Syntax.ttcons (Syntax.tcons (Syntax.tyInt Syntax.w64) Syntax.tnil) Syntax.ttnil)))))) (Syntax.tcons (Syntax.tyEnum (List._∷_ 115 (List._∷_ 99 (List._∷_ 114 (List._∷_ 105 (List._∷_ 112 (List._∷_ 116 (List._∷_ 58 (List._∷_ 58 (List._∷_ 114 (List._∷_ 111 (List._∷_ 108 (List._∷_ 101 (List._∷_ 115 (List._∷_ 58 (List._∷_ 58 (List._∷_ 87 (List._∷_ 104 (List._∷_ 101 (List._∷_ 114 (List._∷_ 101 List.[])))))))))))))))))))) (Syntax.ttcons Syntax.tnil (Syntax.ttcons Syntax.tnil (Syntax.ttcons (Syntax.tcons (Syntax.tyEnum (List._∷_ 115 (List._∷_ 99 (List._∷_ 114 (List._∷_ 105 (List._∷_ 112 (List._∷_ 116 (List._∷_ 58 (List._∷_ 58 (List._∷_ 114 (List._∷_ 111 (List._∷_ 108 (List._∷_ 101 (List._∷_ 115 (List._∷_ 58 (List._∷_ 58 (List._∷_ 84 (List._∷_ 97 (List._∷_ 107 (List._∷_ 101 (List._∷_ 115 List.[])))))))))))))))))))) (Syntax.ttcons Syntax.tnil (Syntax.ttcons Syntax.tnil (Syntax.ttcons Syntax.tnil (Syntax.ttcons Syntax.tnil (Syntax.ttcons Syntax.tnil (Syntax.ttcons Syntax.tnil (Syntax.ttcons Syntax.tnil (Syntax.ttcons Syntax.tnil (Syntax.ttcons Syntax.tnil Syntax.ttnil)))))))))) (Syntax.tcons Syntax.tyBool Syntax.tnil)) (Syntax.ttcons Syntax.tnil Syntax.ttnil))))) Syntax.tnil))) (Syntax.tcons (Syntax.tyInt Syntax.w64) Syntax.tnil))
+τ1 = Syntax.tyStruct (List._∷_ 116 (List._∷_ 117 (List._∷_ 114 (List._∷_ 110 (List._∷_ 115 (List._∷_ 58 (List._∷_ 58 (List._∷_ 84 (List._∷_ 117 (List._∷_ 114 (List._∷_ 110 List.[]))))))))))) (Syntax.tcons (Syntax.tyStruct (List._∷_ 115 (List._∷_ 99 (List._∷_ 114 (List._∷_ 105 (List._∷_ 112 (List._∷_ 116 (List._∷_ 58 (List._∷_ 58 (List._∷_ 114 (List._∷_ 111 (List._∷_ 108 (List._∷_ 101 (List._∷_ 115 (List._∷_ 58 (List._∷_ 58 (List._∷_ 83 (List._∷_ 116 (List._∷_ 101 (List._∷_ 112 List.[]))))))))))))))))))) (Syntax.tcons (Syntax.tyEnum (List._∷_ 115 (List._∷_ 99 (List._∷_ 114 (List._∷_ 105 (List._∷_ 112 (List._∷_ 116 (List._∷_ 58 (List._∷_ 58 (List._∷_ 114 (List._∷_ 111 (List._∷_ 108 (List._∷_ 101 (List._∷_ 115 (List._∷_ 58 (List._∷_ 58 (List._∷_ 82 (List._∷_ 111 (List._∷_ 108 (List._∷_ 101 List.[]))))))))))))))))))) (Syntax.ttcons Syntax.tnil (Syntax.ttcons (Syntax.tcons (Syntax.tyEnum (List._∷_ 115 (List._∷_ 99 (List._∷_ 114 (List._∷_ 105 (List._∷_ 112 (List._∷_ 116 (List._∷_ 58 (List._∷_ 58 (List._∷_ 114 (List._∷_ 111 (List._∷_ 108 (List._∷_ 101 (List._∷_ 115 (List._∷_ 58 (List._∷_ 58 (List._∷_ 83 (List._∷_ 97 (List._∷_ 121 (List._∷_ 105 (List._∷_ 110 (List._∷_ 103 List.[]))))))))))))))))))))) (Syntax.ttcons (Syntax.tcons (Syntax.tyEnum (List._∷_ 115 (List._∷_ 99 (List._∷_ 114 (List._∷_ 105 (List._∷_ 112 (List._∷_ 116 (List._∷_ 58 (List._∷_ 58 (List._∷_ 114 (List._∷_ 111 (List._∷_ 108 (List._∷_ 101 (List._∷_ 115 (List._∷_ 58 (List._∷_ 58 (List._∷_ 75 (List._∷_ 101 (List._∷_ 121 List.[])))))))))))))))))) (Syntax.ttcons Syntax.tnil (Syntax.ttcons Syntax.tnil (Syntax.ttcons Syntax.tnil (Syntax.ttcons Syntax.tnil (Syntax.ttcons Syntax.tnil (Syntax.ttcons Syntax.tnil (Syntax.ttcons Syntax.tnil (Syntax.ttcons Syntax.tnil (Syntax.ttcons Syntax.tnil (Syntax.ttcons Syntax.tnil (Syntax.ttcons Syntax.tnil (Syntax.ttcons Syntax.tnil (Syntax.ttcons Syntax.tnil (Syntax.ttcons Syntax.tnil (Syntax.ttcons Syntax.tnil (Syntax.ttcons Syntax.tnil (Syntax.ttcons Syntax.tnil (Syntax.ttcons Syntax.tnil (Syntax.ttcons Syntax.tnil (Syntax.ttcons Syntax.tnil (Syntax.ttcons Syntax.tnil (Syntax.ttcons Syntax.tnil (Syntax.ttcons Syntax.tnil (Syntax.ttcons Syntax.tnil (Syntax.ttcons Syntax.tnil (Syntax.ttcons Syntax.tnil (Syntax.ttcons Syntax.tnil (Syntax.ttcons Syntax.tnil (Syntax.ttcons Syntax.tnil (Syntax.ttcons Syntax.tnil (Syntax.ttcons Syntax.tnil (Syntax.ttcons Syntax.tnil Syntax.ttnil))))))))))))))))))))))))))))))))) (Syntax.tcons (Syntax.tyStruct (List._∷_ 116 (List._∷_ 101 (List._∷_ 120 (List._∷_ 116 (List._∷_ 58 (List._∷_ 58 (List._∷_ 112 (List._∷_ 97 (List._∷_ 114 (List._∷_ 116 (List._∷_ 115 (List._∷_ 58 (List._∷_ 58 (List._∷_ 83 (List._∷_ 112 (List._∷_ 97 (List._∷_ 110 List.[]))))))))))))))))) (Syntax.tcons (Syntax.tyInt Syntax.w64) (Syntax.tcons (Syntax.tyInt Syntax.w64) Syntax.tnil))) Syntax.tnil)) (Syntax.ttcons (Syntax.tcons (Syntax.tyStruct (List._∷_ 116 (List._∷_ 101 (List._∷_ 120 (List._∷_ 116 (List._∷_ 58 (List._∷_ 58 (List._∷_ 112 (List._∷_ 97 (List._∷_ 114 (List._∷_ 116 (List._∷_ 115 (List._∷_ 58 (List._∷_ 58 (List._∷_ 83 (List._∷_ 112 (List._∷_ 97 (List._∷_ 110 List.[]))))))))))))))))) (Syntax.tcons (Syntax.tyInt Syntax.w64) (Syntax.tcons (Syntax.tyInt Syntax.w64) Syntax.tnil))) (Syntax.tcons (Syntax.tyStruct (List._∷_ 116 (List._∷_ 101 (List._∷_ 120 (List._∷_ 116 (List._∷_ 58 (List._∷_ 58 (List._∷_ 112 (List._∷_ 97 (List._∷_ 114 (List._∷_ 116 (List._∷_ 115 (List._∷_ 58 (List._∷_ 58 (List._∷_ 83 (List._∷_ 112 (List._∷_ 97 (List._∷_ 110 List.[]))))))))))))))))) (Syntax.tcons (Syntax.tyInt Syntax.w64) (Syntax.tcons (Syntax.tyInt Syntax.w64) Syntax.tnil))) Syntax.tnil)) (Syntax.ttcons Syntax.tnil (Syntax.ttcons (Syntax.tcons (Syntax.tyStruct (List._∷_ 116 (List._∷_ 101 (List._∷_ 120 (List._∷_ 116 (List._∷_ 58 (List._∷_ 58 (List._∷_ 112 (List._∷_ 97 (List._∷_ 114 (List._∷_ 116 (List._∷_ 115 (List._∷_ 58 (List._∷_ 58 (List._∷_ 83 (List._∷_ 112 (List._∷_ 97 (List._∷_ 110 List.[]))))))))))))))))) (Syntax.tcons (Syntax.tyInt Syntax.w64) (Syntax.tcons (Syntax.tyInt Syntax.w64) Syntax.tnil))) (Syntax.tcons (Syntax.tyStruct (List._∷_ 116 (List._∷_ 101 (List._∷_ 120 (List._∷_ 116 (List._∷_ 58 (List._∷_ 58 (List._∷_ 112 (List._∷_ 97 (List._∷_ 114 (List._∷_ 116 (List._∷_ 115 (List._∷_ 58 (List._∷_ 58 (List._∷_ 83 (List._∷_ 112 (List._∷_ 97 (List._∷_ 110 List.[]))))))))))))))))) (Syntax.tcons (Syntax.tyInt Syntax.w64) (Syntax.tcons (Syntax.tyInt Syntax.w64) Syntax.tnil))) Syntax.tnil)) (Syntax.ttcons Syntax.tnil (Syntax.ttcons Syntax.tnil Syntax.ttnil))))))) Syntax.tnil) (Syntax.ttcons (Syntax.tcons (Syntax.tyEnum (List._∷_ 115 (List._∷_ 99 (List._∷_ 114 (List._∷_ 105 (List._∷_ 112 (List._∷_ 116 (List._∷_ 58 (List._∷_ 58 (List._∷_ 114 (List._∷_ 101 (List._∷_ 99 (List._∷_ 111 (List._∷_ 114 (List._∷_ 100 (List._∷_ 115 (List._∷_ 58 (List._∷_ 58 (List._∷_ 69 (List._∷_ 120 (List._∷_ 112 (List._∷_ 101 (List._∷_ 99 (List._∷_ 116 List.[]))))))))))))))))))))))) (Syntax.ttcons (Syntax.tcons (Syntax.tyStruct (List._∷_ 115 (List._∷_ 99 (List._∷_ 114 (List._∷_ 105 (List._∷_ 112 (List._∷_ 116 (List._∷_ 58 (List._∷_ 58 (List._∷_ 114 (List._∷_ 101 (List._∷_ 99 (List._∷_ 111 (List._∷_ 114 (List._∷_ 100 (List._∷_ 115 (List._∷_ 58 (List._∷_ 58 (List._∷_ 80 (List._∷_ 108 (List._∷_ 97 (List._∷_ 99 (List._∷_ 101 List.[])))))))))))))))))))))) (Syntax.tcons (Syntax.tyInt Syntax.w64) (Syntax.tcons (Syntax.tyInt Syntax.w64) Syntax.tnil))) Syntax.tnil) (Syntax.ttcons (Syntax.tcons (Syntax.tyEnum (List._∷_ 115 (List._∷_ 99 (List._∷_ 114 (List._∷_ 105 (List._∷_ 112 (List._∷_ 116 (List._∷_ 58 (List._∷_ 58 (List._∷_ 114 (List._∷_ 101 (List._∷_ 99 (List._∷_ 111 (List._∷_ 114 (List._∷_ 100 (List._∷_ 115 (List._∷_ 58 (List._∷_ 58 (List._∷_ 77 (List._∷_ 97 (List._∷_ 116 (List._∷_ 99 (List._∷_ 104 (List._∷_ 101 (List._∷_ 114 List.[])))))))))))))))))))))))) (Syntax.ttcons (Syntax.tcons (Syntax.tyStruct (List._∷_ 115 (List._∷_ 99 (List._∷_ 114 (List._∷_ 105 (List._∷_ 112 (List._∷_ 116 (List._∷_ 58 (List._∷_ 58 (List._∷_ 114 (List._∷_ 101 (List._∷_ 99 (List._∷_ 111 (List._∷_ 114 (List._∷_ 100 (List._∷_ 115 (List._∷_ 58 (List._∷_ 58 (List._∷_ 80 (List._∷_ 108 (List._∷_ 97 (List._∷_ 99 (List._∷_ 101 List.[])))))))))))))))))))))) (Syntax.tcons (Syntax.tyInt Syntax.w64) (Syntax.tcons (Syntax.tyInt Syntax.w64) Syntax.tnil))) Syntax.tnil) (Syntax.ttcons (Syntax.tcons (Syntax.tyStruct (List._∷_ 115 (List._∷_ 99 (List._∷_ 114 (List._∷_ 105 (List._∷_ 112 (List._∷_ 116 (List._∷_ 58 (List._∷_ 58 (List._∷_ 114 (List._∷_ 101 (List._∷_ 99 (List._∷_ 111 (List._∷_ 114 (List._∷_ 100 (List._∷_ 115 (List._∷_ 58 (List._∷_ 58 (List._∷_ 80 (List._∷_ 108 (List._∷_ 97 (List._∷_ 99 (List._∷_ 101 List.[])))))))))))))))))))))) (Syntax.tcons (Syntax.tyInt Syntax.w64) (Syntax.tcons (Syntax.tyInt Syntax.w64) Syntax.tnil))) Syntax.tnil) (Syntax.ttcons (Syntax.tcons (Syntax.tyInt Syntax.w64) Syntax.tnil) (Syntax.ttcons (Syntax.tcons (Syntax.tyInt Syntax.w64) Syntax.tnil) (Syntax.ttcons (Syntax.tcons (Syntax.tyInt Syntax.w64) Syntax.tnil) (Syntax.ttcons (Syntax.tcons (Syntax.tyInt Syntax.w64) Syntax.tnil) Syntax.ttnil))))))) Syntax.tnil) (Syntax.ttcons (Syntax.tcons (Syntax.tyStruct (List._∷_ 115 (List._∷_ 99 (List._∷_ 114 (List._∷_ 105 (List._∷_ 112 (List._∷_ 116 (List._∷_ 58 (List._∷_ 58 (List._∷_ 114 (List._∷_ 101 (List._∷_ 99 (List._∷_ 111 (List._∷_ 114 (List._∷_ 100 (List._∷_ 115 (List._∷_ 58 (List._∷_ 58 (List._∷_ 80 (List._∷_ 108 (List._∷_ 97 (List._∷_ 99 (List._∷_ 101 List.[])))))))))))))))))))))) (Syntax.tcons (Syntax.tyInt Syntax.w64) (Syntax.tcons (Syntax.tyInt Syntax.w64) Syntax.tnil))) (Syntax.tcons (Syntax.tyEnum (List._∷_ 115 (List._∷_ 99 (List._∷_ 114 (List._∷_ 105 (List._∷_ 112 (List._∷_ 116 (List._∷_ 58 (List._∷_ 58 (List._∷_ 114 (List._∷_ 101 (List._∷_ 99 (List._∷_ 111 (List._∷_ 114 (List._∷_ 100 (List._∷_ 115 (List._∷_ 58 (List._∷_ 58 (List._∷_ 77 (List._∷_ 97 (List._∷_ 116 (List._∷_ 99 (List._∷_ 104 (List._∷_ 101 (List._∷_ 114 List.[])))))))))))))))))))))))) (Syntax.ttcons (Syntax.tcons (Syntax.tyStruct (List._∷_ 115 (List._∷_ 99 (List._∷_ 114 (List._∷_ 105 (List._∷_ 112 (List._∷_ 116 (List._∷_ 58 (List._∷_ 58 (List._∷_ 114 (List._∷_ 101 (List._∷_ 99 (List._∷_ 111 (List._∷_ 114 (List._∷_ 100 (List._∷_ 115 (List._∷_ 58 (List._∷_ 58 (List._∷_ 80 (List._∷_ 108 (List._∷_ 97 (List._∷_ 99 (List._∷_ 101 List.[])))))))))))))))))))))) (Syntax.tcons (Syntax.tyInt Syntax.w64) (Syntax.tcons (Syntax.tyInt Syntax.w64) Syntax.tnil))) Syntax.tnil) (Syntax.ttcons (Syntax.tcons (Syntax.tyStruct (List._∷_ 115 (List._∷_ 99 (List._∷_ 114 (List._∷_ 105 (List._∷_ 112 (List._∷_ 116 (List._∷_ 58 (List._∷_ 58 (List._∷_ 114 (List._∷_ 101 (List._∷_ 99 (List._∷_ 111 (List._∷_ 114 (List._∷_ 100 (List._∷_ 115 (List._∷_ 58 (List._∷_ 58 (List._∷_ 80 (List._∷_ 108 (List._∷_ 97 (List._∷_ 99 (List._∷_ 101 List.[])))))))))))))))))))))) (Syntax.tcons (Syntax.tyInt Syntax.w64) (Syntax.tcons (Syntax.tyInt Syntax.w64) Syntax.tnil))) Syntax.tnil) (Syntax.ttcons (Syntax.tcons (Syntax.tyInt Syntax.w64) Syntax.tnil) (Syntax.ttcons (Syntax.tcons (Syntax.tyInt Syntax.w64) Syntax.tnil) (Syntax.ttcons (Syntax.tcons (Syntax.tyInt Syntax.w64) Syntax.tnil) (Syntax.ttcons (Syntax.tcons (Syntax.tyInt Syntax.w64) Syntax.tnil) Syntax.ttnil))))))) Syntax.tnil)) (Syntax.ttcons (Syntax.tcons (Syntax.tyEnum (List._∷_ 115 (List._∷_ 99 (List._∷_ 114 (List._∷_ 105 (List._∷_ 112 (List._∷_ 116 (List._∷_ 58 (List._∷_ 58 (List._∷_ 114 (List._∷_ 101 (List._∷_ 99 (List._∷_ 111 (List._∷_ 114 (List._∷_ 100 (List._∷_ 115 (List._∷_ 58 (List._∷_ 58 (List._∷_ 77 (List._∷_ 97 (List._∷_ 116 (List._∷_ 99 (List._∷_ 104 (List._∷_ 101 (List._∷_ 114 List.[])))))))))))))))))))))))) (Syntax.ttcons (Syntax.tcons (Syntax.tyStruct (List._∷_ 115 (List._∷_ 99 (List._∷_ 114 (List._∷_ 105 (List._∷_ 112 (List._∷_ 116 (List._∷_ 58 (List._∷_ 58 (List._∷_ 114 (List._∷_ 101 (List._∷_ 99 (List._∷_ 111 (List._∷_ 114 (List._∷_ 100 (List._∷_ 115 (List._∷_ 58 (List._∷_ 58 (List._∷_ 80 (List._∷_ 108 (List._∷_ 97 (List._∷_ 99 (List._∷_ 101 List.[])))))))))))))))))))))) (Syntax.tcons (Syntax.tyInt Syntax.w64) (Syntax.tcons (Syntax.tyInt Syntax.w64) Syntax.tnil))) Syntax.tnil) (Syntax.ttcons (Syntax.tcons (Syntax.tyStruct (List._∷_ 115 (List._∷_ 99 (List._∷_ 114 (List._∷_ 105 (List._∷_ 112 (List._∷_ 116 (List._∷_ 58 (List._∷_ 58 (List._∷_ 114 (List._∷_ 101 (List._∷_ 99 (List._∷_ 111 (List._∷_ 114 (List._∷_ 100 (List._∷_ 115 (List._∷_ 58 (List._∷_ 58 (List._∷_ 80 (List._∷_ 108 (List._∷_ 97 (List._∷_ 99 (List._∷_ 101 List.[])))))))))))))))))))))) (Syntax.tcons (Syntax.tyInt Syntax.w64) (Syntax.tcons (Syntax.tyInt Syntax.w64) Syntax.tnil))) Syntax.tnil) (Syntax.ttcons (Syntax.tcons (Syntax.tyInt Syntax.w64) Syntax.tnil) (Syntax.ttcons (Syntax.tcons (Syntax.tyInt Syntax.w64) Syntax.tnil) (Syntax.ttcons (Syntax.tcons (Syntax.tyInt Syntax.w64) Syntax.tnil) (Syntax.ttcons (Syntax.tcons (Syntax.tyInt Syntax.w64) Syntax.tnil) Syntax.ttnil))))))) Syntax.tnil) (Syntax.ttcons (Syntax.tcons (Syntax.tyEnum (List._∷_ 115 (List._∷_ 99 (List._∷_ 114 (List._∷_ 105 (List._∷_ 112 (List._∷_ 116 (List._∷_ 58 (List._∷_ 58 (List._∷_ 114 (List._∷_ 101 (List._∷_ 99 (List._∷_ 111 (List._∷_ 114 (List._∷_ 100 (List._∷_ 115 (List._∷_ 58 (List._∷_ 58 (List._∷_ 77 (List._∷_ 97 (List._∷_ 116 (List._∷_ 99 (List._∷_ 104 (List._∷_ 101 (List._∷_ 114 List.[])))))))))))))))))))))))) (Syntax.ttcons (Syntax.tcons (Syntax.tyStruct (List._∷_ 115 (List._∷_ 99 (List._∷_ 114 (List._∷_ 105 (List._∷_ 112 (List._∷_ 116 (List._∷_ 58 (List._∷_ 58 (List._∷_ 114 (List._∷_ 101 (List._∷_ 99 (List._∷_ 111 (List._∷_ 114 (List._∷_ 100 (List._∷_ 115 (List._∷_ 58 (List._∷_ 58 (List._∷_ 80 (List._∷_ 108 (List._∷_ 97 (List._∷_ 99 (List._∷_ 101 List.[])))))))))))))))))))))) (Syntax.tcons (Syntax.tyInt Syntax.w64) (Syntax.tcons (Syntax.tyInt Syntax.w64) Syntax.tnil))) Syntax.tnil) (Syntax.ttcons (Syntax.tcons (Syntax.tyStruct (List._∷_ 115 (List._∷_ 99 (List._∷_ 114 (List._∷_ 105 (List._∷_ 112 (List._∷_ 116 (List._∷_ 58 (List._∷_ 58 (List._∷_ 114 (List._∷_ 101 (List._∷_ 99 (List._∷_ 111 (List._∷_ 114 (List._∷_ 100 (List._∷_ 115 (List._∷_ 58 (List._∷_ 58 (List._∷_ 80 (List._∷_ 108 (List._∷_ 97 (List._∷_ 99 (List._∷_ 101 List.[])))))))))))))))))))))) (Syntax.tcons (Syntax.tyInt Syntax.w64) (Syntax.tcons (Syntax.tyInt Syntax.w64) Syntax.tnil))) Syntax.tnil) (Syntax.ttcons (Syntax.tcons (Syntax.tyInt Syntax.w64) Syntax.tnil) (Syntax.ttcons (Syntax.tcons (Syntax.tyInt Syntax.w64) Syntax.tnil) (Syntax.ttcons (Syntax.tcons (Syntax.tyInt Syntax.w64) Syntax.tnil) (Syntax.ttcons (Syntax.tcons (Syntax.tyInt Syntax.w64) Syntax.tnil) Syntax.ttnil))))))) Syntax.tnil) (Syntax.ttcons (Syntax.tcons (Syntax.tyEnum (List._∷_ 115 (List._∷_ 99 (List._∷_ 114 (List._∷_ 105 (List._∷_ 112 (List._∷_ 116 (List._∷_ 58 (List._∷_ 58 (List._∷_ 114 (List._∷_ 101 (List._∷_ 99 (List._∷_ 111 (List._∷_ 114 (List._∷_ 100 (List._∷_ 115 (List._∷_ 58 (List._∷_ 58 (List._∷_ 77 (List._∷_ 97 (List._∷_ 116 (List._∷_ 99 (List._∷_ 104 (List._∷_ 101 (List._∷_ 114 List.[])))))))))))))))))))))))) (Syntax.ttcons (Syntax.tcons (Syntax.tyStruct (List._∷_ 115 (List._∷_ 99 (List._∷_ 114 (List._∷_ 105 (List._∷_ 112 (List._∷_ 116 (List._∷_ 58 (List._∷_ 58 (List._∷_ 114 (List._∷_ 101 (List._∷_ 99 (List._∷_ 111 (List._∷_ 114 (List._∷_ 100 (List._∷_ 115 (List._∷_ 58 (List._∷_ 58 (List._∷_ 80 (List._∷_ 108 (List._∷_ 97 (List._∷_ 99 (List._∷_ 101 List.[])))))))))))))))))))))) (Syntax.tcons (Syntax.tyInt Syntax.w64) (Syntax.tcons (Syntax.tyInt Syntax.w64) Syntax.tnil))) Syntax.tnil) (Syntax.ttcons (Syntax.tcons (Syntax.tyStruct (List._∷_ 115 (List._∷_ 99 (List._∷_ 114 (List._∷_ 105 (List._∷_ 112 (List._∷_ 116 (List._∷_ 58 (List._∷_ 58 (List._∷_ 114 (List._∷_ 101 (List._∷_ 99 (List._∷_ 111 (List._∷_ 114 (List._∷_ 100 (List._∷_ 115 (List._∷_ 58 (List._∷_ 58 (List._∷_ 80 (List._∷_ 108 (List._∷_ 97 (List._∷_ 99 (List._∷_ 101 List.[])))))))))))))))))))))) (Syntax.tcons (Syntax.tyInt Syntax.w64) (Syntax.tcons (Syntax.tyInt Syntax.w64) Syntax.tnil))) Syntax.tnil) (Syntax.ttcons (Syntax.tcons (Syntax.tyInt Syntax.w64) Syntax.tnil) (Syntax.ttcons (Syntax.tcons (Syntax.tyInt Syntax.w64) Syntax.tnil) (Syntax.ttcons (Syntax.tcons (Syntax.tyInt Syntax.w64) Syntax.tnil) (Syntax.ttcons (Syntax.tcons (Syntax.tyInt Syntax.w64) Syntax.tnil) Syntax.ttnil))))))) Syntax.tnil) (Syntax.ttcons (Syntax.tcons (Syntax.tyEnum (List._∷_ 115 (List._∷_ 99 (List._∷_ 114 (List._∷_ 105 (List._∷_ 112 (List._∷_ 116 (List._∷_ 58 (List._∷_ 58 (List._∷_ 114 (List._∷_ 101 (List._∷_ 99 (List._∷_ 111 (List._∷_ 114 (List._∷_ 100 (List._∷_ 115 (List._∷_ 58 (List._∷_ 58 (List._∷_ 77 (List._∷_ 97 (List._∷_ 116 (List._∷_ 99 (List._∷_ 104 (List._∷_ 101 (List._∷_ 114 List.[])))))))))))))))))))))))) (Syntax.ttcons (Syntax.tcons (Syntax.tyStruct (List._∷_ 115 (List._∷_ 99 (List._∷_ 114 (List._∷_ 105 (List._∷_ 112 (List._∷_ 116 (List._∷_ 58 (List._∷_ 58 (List._∷_ 114 (List._∷_ 101 (List._∷_ 99 (List._∷_ 111 (List._∷_ 114 (List._∷_ 100 (List._∷_ 115 (List._∷_ 58 (List._∷_ 58 (List._∷_ 80 (List._∷_ 108 (List._∷_ 97 (List._∷_ 99 (List._∷_ 101 List.[])))))))))))))))))))))) (Syntax.tcons (Syntax.tyInt Syntax.w64) (Syntax.tcons (Syntax.tyInt Syntax.w64) Syntax.tnil))) Syntax.tnil) (Syntax.ttcons (Syntax.tcons (Syntax.tyStruct (List._∷_ 115 (List._∷_ 99 (List._∷_ 114 (List._∷_ 105 (List._∷_ 112 (List._∷_ 116 (List._∷_ 58 (List._∷_ 58 (List._∷_ 114 (List._∷_ 101 (List._∷_ 99 (List._∷_ 111 (List._∷_ 114 (List._∷_ 100 (List._∷_ 115 (List._∷_ 58 (List._∷_ 58 (List._∷_ 80 (List._∷_ 108 (List._∷_ 97 (List._∷_ 99 (List._∷_ 101 List.[])))))))))))))))))))))) (Syntax.tcons (Syntax.tyInt Syntax.w64) (Syntax.tcons (Syntax.tyInt Syntax.w64) Syntax.tnil))) Syntax.tnil) (Syntax.ttcons (Syntax.tcons (Syntax.tyInt Syntax.w64) Syntax.tnil) (Syntax.ttcons (Syntax.tcons (Syntax.tyInt Syntax.w64) Syntax.tnil) (Syntax.ttcons (Syntax.tcons (Syntax.tyInt Syntax.w64) Syntax.tnil) (Syntax.ttcons (Syntax.tcons (Syntax.tyInt Syntax.w64) Syntax.tnil) Syntax.ttnil))))))) Syntax.tnil) (Syntax.ttcons (Syntax.tcons (Syntax.tyEnum (List._∷_ 115 (List._∷_ 99 (List._∷_ 114 (List._∷_ 105 (List._∷_ 112 (List._∷_ 116 (List._∷_ 58 (List._∷_ 58 (List._∷_ 114 (List._∷_ 101 (List._∷_ 99 (List._∷_ 111 (List._∷_ 114 (List._∷_ 100 (List._∷_ 115 (List._∷_ 58 (List._∷_ 58 (List._∷_ 77 (List._∷_ 97 (List._∷_ 116 (List._∷_ 99 (List._∷_ 104 (List._∷_ 101 (List._∷_ 114 List.[])))))))))))))))))))))))) (Syntax.ttcons (Syntax.tcons (Syntax.tyStruct (List._∷_ 115 (List._∷_ 99 (List._∷_ 114 (List._∷_ 105 (List._∷_ 112 (List._∷_ 116 (List._∷_ 58 (List._∷_ 58 (List._∷_ 114 (List._∷_ 101 (List._∷_ 99 (List._∷_ 111 (List._∷_ 114 (List._∷_ 100 (List._∷_ 115 (List._∷_ 58 (List._∷_ 58 (List._∷_ 80 (List._∷_ 108 (List._∷_ 97 (List._∷_ 99 (List._∷_ 101 List.[])))))))))))))))))))))) (Syntax.tcons (Syntax.tyInt Syntax.w64) (Syntax.tcons (Syntax.tyInt Syntax.w64) Syntax.tnil))) Syntax.tnil) (Syntax.ttcons (Syntax.tcons (Syntax.tyStruct (List._∷_ 115 (List._∷_ 99 (List._∷_ 114 (List._∷_ 105 (List._∷_ 112 (List._∷_ 116 (List._∷_ 58 (List._∷_ 58 (List._∷_ 114 (List._∷_ 101 (List._∷_ 99 (List._∷_ 111 (List._∷_ 114 (List._∷_ 100 (List._∷_ 115 (List._∷_ 58 (List._∷_ 58 (List._∷_ 80 (List._∷_ 108 (List._∷_ 97 (List._∷_ 99 (List._∷_ 101 List.[])))))))))))))))))))))) (Syntax.tcons (Syntax.tyInt Syntax.w64) (Syntax.tcons (Syntax.tyInt Syntax.w64) Syntax.tnil))) Syntax.tnil) (Syntax.ttcons (Syntax.tcons (Syntax.tyInt Syntax.w64) Syntax.tnil) (Syntax.ttcons (Syntax.tcons (Syntax.tyInt Syntax.w64) Syntax.tnil) (Syntax.ttcons (Syntax.tcons (Syntax.tyInt Syntax.w64) Syntax.tnil) (Syntax.ttcons (Syntax.tcons (Syntax.tyInt Syntax.w64) Syntax.tnil) Syntax.ttnil))))))) Syntax.tnil) Syntax.ttnil))))))))) Syntax.tnil) (Syntax.ttcons (Syntax.tcons (Syntax.tyStruct (List._∷_ 115 (List._∷_ 99 (List._∷_ 114 (List._∷_ 105 (List._∷_ 112 (List._∷_ 116 (List._∷_ 58 (List._∷_ 58 (List._∷_ 114 (List._∷_ 111 (List._∷_ 108 (List._∷_ 101 (List._∷_ 115 (List._∷_ 58 (List._∷_ 58 (List._∷_ 79 (List._∷_ 112 (List._∷_ 101 (List._∷_ 110 (List._∷_ 105 (List._∷_ 110 (List._∷_ 103 List.[])))))))))))))))))))))) (Syntax.tcons (Syntax.tyEnum (List._∷_ 115 (List._∷_ 99 (List._∷_ 114 (List._∷_ 105 (List._∷_ 112 (List._∷_ 116 (List._∷_ 58 (List._∷_ 58 (List._∷_ 114 (List._∷_ 101 (List._∷_ 99 (List._∷_ 111 (List._∷_ 114 (List._∷_ 100 (List._∷_ 115 (List._∷_ 58 (List._∷_ 58 (List._∷_ 83 (List._∷_ 116 (List._∷_ 97 (List._∷_ 109 (List._∷_ 112 List.[])))))))))))))))))))))) (Syntax.ttcons Syntax.tnil (Syntax.ttcons (Syntax.tcons (Syntax.tyStruct (List._∷_ 115 (List._∷_ 99 (List._∷_ 114 (List._∷_ 105 (List._∷_ 112 (List._∷_ 116 (List._∷_ 58 (List._∷_ 58 (List._∷_ 114 (List._∷_ 101 (List._∷_ 99 (List._∷_ 111 (List._∷_ 114 (List._∷_ 100 (List._∷_ 115 (List._∷_ 58 (List._∷_ 58 (List._∷_ 84 (List._∷_ 105 (List._∷_ 109 (List._∷_ 101 List.[]))))))))))))))))))))) (Syntax.tcons Syntax.tyBool (Syntax.tcons (Syntax.tyInt Syntax.w64) (Syntax.tcons (Syntax.tyInt Syntax.w64) Syntax.tnil)))) Syntax.tnil) Syntax.ttnil))) (Syntax.tcons (Syntax.tyEnum (List._∷_ 119 (List._∷_ 105 (List._∷_ 114 (List._∷_ 101 (List._∷_ 58 (List._∷_ 58 (List._∷_ 111 (List._∷_ 112 (List._∷_ 115 (List._∷_ 58 (List._∷_ 58 (List._∷_ 79 (List._∷_ 112 List.[]))))))))))))) (Syntax.ttcons Syntax.tnil (Syntax.ttcons Syntax.tnil (Syntax.ttcons Syntax.tnil (Syntax.ttcons Syntax.tnil (Syntax.ttcons Syntax.tnil (Syntax.ttcons Syntax.tnil (Syntax.ttcons Syntax.tnil (Syntax.ttcons Syntax.tnil (Syntax.ttcons Syntax.tnil (Syntax.ttcons Syntax.tnil (Syntax.ttcons Syntax.tnil (Syntax.ttcons Syntax.tnil (Syntax.ttcons Syntax.tnil (Syntax.ttcons Syntax.tnil (Syntax.ttcons Syntax.tnil (Syntax.ttcons Syntax.tnil (Syntax.ttcons Syntax.tnil (Syntax.ttcons Syntax.tnil (Syntax.ttcons Syntax.tnil (Syntax.ttcons Syntax.tnil (Syntax.ttcons Syntax.tnil (Syntax.ttcons Syntax.tnil (Syntax.ttcons Syntax.tnil (Syntax.ttcons Syntax.tnil (Syntax.ttcons Syntax.tnil (Syntax.ttcons Syntax.tnil (Syntax.ttcons Syntax.tnil (Syntax.ttcons Syntax.tnil (Syntax.ttcons Syntax.tnil (Syntax.ttcons Syntax.tnil (Syntax.ttcons Syntax.tnil (Syntax.ttcons Syntax.tnil (Syntax.ttcons Syntax.tnil (Syntax.ttcons Syntax.tnil (Syntax.ttcons Syntax.tnil (Syntax.ttcons Syntax.tnil (Syntax.ttcons Syntax.tnil Syntax.ttnil)))))))))))))))))))))))))))))))))))))) (Syntax.tcons (Syntax.tyStruct (List._∷_ 116 (List._∷_ 101 (List._∷_ 120 (List._∷_ 116 (List._∷_ 58 (List._∷_ 58 (List._∷_ 112 (List._∷_ 97 (List._∷_ 114 (List._∷_ 116 (List._∷_ 115 (List._∷_ 58 (List._∷_ 58 (List._∷_ 83 (List._∷_ 112 (List._∷_ 97 (List._∷_ 110 List.[]))))))))))))))))) (Syntax.tcons (Syntax.tyInt Syntax.w64) (Syntax.tcons (Syntax.tyInt Syntax.w64) Syntax.tnil))) Syntax.tnil)))) Syntax.tnil) (Syntax.ttcons (Syntax.tcons (Syntax.tyInt Syntax.w64) Syntax.tnil) Syntax.ttnil)))))) (Syntax.tcons (Syntax.tyEnum (List._∷_ 115 (List._∷_ 99 (List._∷_ 114 (List._∷_ 105 (List._∷_ 112 (List._∷_ 116 (List._∷_ 58 (List._∷_ 58 (List._∷_ 114 (List._∷_ 111 (List._∷_ 108 (List._∷_ 101 (List._∷_ 115 (List._∷_ 58 (List._∷_ 58 (List._∷_ 87 (List._∷_ 104 (List._∷_ 101 (List._∷_ 114 (List._∷_ 101 List.[])))))))))))))))))))) (Syntax.ttcons Syntax.tnil (Syntax.ttcons Syntax.tnil (Syntax.ttcons (Syntax.tcons (Syntax.tyEnum (List._∷_ 115 (List._∷_ 99 (List._∷_ 114 (List._∷_ 105 (List._∷_ 112 (List._∷_ 116 (List._∷_ 58 (List._∷_ 58 (List._∷_ 114 (List._∷_ 111 (List._∷_ 108 (List._∷_ 101 (List._∷_ 115 (List._∷_ 58 (List._∷_ 58 (List._∷_ 84 (List._∷_ 97 (List._∷_ 107 (List._∷_ 101 (List._∷_ 115 List.[])))))))))))))))))))) (Syntax.ttcons Syntax.tnil (Syntax.ttcons Syntax.tnil (Syntax.ttcons Syntax.tnil (Syntax.ttcons Syntax.tnil (Syntax.ttcons Syntax.tnil (Syntax.ttcons Syntax.tnil (Syntax.ttcons Syntax.tnil (Syntax.ttcons Syntax.tnil (Syntax.ttcons Syntax.tnil Syntax.ttnil)))))))))) (Syntax.tcons Syntax.tyBool Syntax.tnil)) (Syntax.ttcons Syntax.tnil Syntax.ttnil))))) Syntax.tnil))) (Syntax.tcons (Syntax.tyInt Syntax.w64) Syntax.tnil))
 
 abbrev τ2 : Syntax.Ty
 τ2 = Syntax.tyStruct (List._∷_ 115 (List._∷_ 99 (List._∷_ 114 (List._∷_ 105 (List._∷_ 112 (List._∷_ 116 (List._∷_ 58 (List._∷_ 58 (List._∷_ 114 (List._∷_ 111 (List._∷_ 108 (List._∷_ 101 (List._∷_ 115 (List._∷_ 58 (List._∷_ 58 (List._∷_ 83 (List._∷_ 116 (List._∷_ 101 (List._∷_ 112 List.[]))))))))))))))))))) (Syntax.tcons (Syntax.tyEnum (List._∷_ 115 (List._∷_ 99 (List._∷_ 114 (List._∷_ 105 (List._∷_ 112 (List._∷_ 116 (List._∷_ 58 (List._∷_ 58 (List._∷_ 114 (List._∷_ 111 (List._∷_ 108 (List._∷_ 101 (List._∷_ 115 (List._∷_ 58 (List._∷_ 58 (List._∷_ 82 (List._∷_ 111 (List._∷_ 108 (List._∷_ 101 List.[]))))))))))))))))))) (Syntax.ttcons Syntax.tnil (Syntax.ttcons (Syntax.tcons (Syntax.tyEnum (List._∷_ 115 (List._∷_ 99 (List._∷_ 114 (List._∷_ 105 (List._∷_ 112 (List._∷_ 116 (List._∷_ 58 (List._∷_ 58 (List._∷_ 114 (List._∷_ 111 (List._∷_ 108 (List._∷_ 101 (List._∷_ 115 (List._∷_ 58 (List._∷_ 58 (List._∷_ 83 (List._∷_ 97 (List._∷_ 121 (List._∷_ 105 (List._∷_ 110 (List._∷_ 103 List.[]))))))))))))))))))))) (Syntax.ttcons (Syntax.tcons (Syntax.tyEnum (List._∷_ 115 (List._∷_ 99 (List._∷_ 114 (List._∷_ 105 (List._∷_ 112 (List._∷_ 116 (List._∷_ 58 (List._∷_ 58 (List._∷_ 114 (List._∷_ 111 (List._∷_ 108 (List._∷_ 101 (List._∷_ 115 (List._∷_ 58 (List._∷_ 58 (List._∷_ 75 (List._∷_ 101 (List._∷_ 121 List.[])))))))))))))))))) (Syntax.ttcons Syntax.tnil (Syntax.ttcons Syntax.tnil (Syntax.ttcons Syntax.tnil (Syntax.ttcons Syntax.tnil (Syntax.ttcons Syntax.tnil (Syntax.ttcons Syntax.tnil (Syntax.ttcons Syntax.tnil (Syntax.ttcons Syntax.tnil (Syntax.ttcons Syntax.tnil (Syntax.ttcons Syntax.tnil (Syntax.ttcons Syntax.tnil (Syntax.ttcons Syntax.tnil (Syntax.ttcons Syntax.tnil (Syntax.ttcons Syntax.tnil (Syntax.ttcons Syntax.tnil (Syntax.ttcons Syntax.tnil (Syntax.ttcons Syntax.tnil (Syntax.ttcons Syntax.tnil (Syntax.ttcons Syntax.tnil (Syntax.ttcons Syntax.tnil (Syntax.ttcons Syntax.tnil (Syntax.ttcons Syntax.tnil (Syntax.ttcons Syntax.tnil (Syntax.ttcons Syntax.tnil (Syntax.ttcons Syntax.tnil (Syntax.ttcons Syntax.tnil (Syntax.ttcons Syntax.tnil (Syntax.ttcons Syntax.tnil (Syntax.ttcons Syntax.tnil (Syntax.ttcons Syntax.tnil (Syntax.ttcons Syntax.tnil (Syntax.ttcons Syntax.tnil Syntax.ttnil))))))))))))))))))))))))))))))))) (Syntax.tcons (Syntax.tyStruct (List._∷_ 116 (List._∷_ 101 (List._∷_ 120 (List._∷_ 116 (List._∷_ 58 (List._∷_ 58 (List._∷_ 112 (List._∷_ 97 (List._∷_ 114 (List._∷_ 116 (List._∷_ 115 (List._∷_ 58 (List._∷_ 58 (List._∷_ 83 (List._∷_ 112 (List._∷_ 97 (List._∷_ 110 List.[]))))))))))))))))) (Syntax.tcons (Syntax.tyInt Syntax.w64) (Syntax.tcons (Syntax.tyInt Syntax.w64) Syntax.tnil))) Syntax.tnil)) (Syntax.ttcons (Syntax.tcons (Syntax.tyStruct (List._∷_ 116 (List._∷_ 101 (List._∷_ 120 (List._∷_ 116 (List._∷_ 58 (List._∷_ 58 (List._∷_ 112 (List._∷_ 97 (List._∷_ 114 (List._∷_ 116 (List._∷_ 115 (List._∷_ 58 (List._∷_ 58 (List._∷_ 83 (List._∷_ 112 (List._∷_ 97 (List._∷_ 110 List.[]))))))))))))))))) (Syntax.tcons (Syntax.tyInt Syntax.w64) (Syntax.tcons (Syntax.tyInt Syntax.w64) Syntax.tnil))) (Syntax.tcons (Syntax.tyStruct (List._∷_ 116 (List._∷_ 101 (List._∷_ 120 (List._∷_ 116 (List._∷_ 58 (List._∷_ 58 (List._∷_ 112 (List._∷_ 97 (List._∷_ 114 (List._∷_ 116 (List._∷_ 115 (List._∷_ 58 (List._∷_ 58 (List._∷_ 83 (List._∷_ 112 (List._∷_ 97 (List._∷_ 110 List.[]))))))))))))))))) (Syntax.tcons (Syntax.tyInt Syntax.w64) (Syntax.tcons (Syntax.tyInt Syntax.w64) Syntax.tnil))) Syntax.tnil)) (Syntax.ttcons Syntax.tnil (Syntax.ttcons (Syntax.tcons (Syntax.tyStruct (List._∷_ 116 (List._∷_ 101 (List._∷_ 120 (List._∷_ 116 (List._∷_ 58 (List._∷_ 58 (List._∷_ 112 (List._∷_ 97 (List._∷_ 114 (List._∷_ 116 (List._∷_ 115 (List._∷_ 58 (List._∷_ 58 (List._∷_ 83 (List._∷_ 112 (List._∷_ 97 (List._∷_ 110 List.[]))))))))))))))))) (Syntax.tcons (Syntax.tyInt Syntax.w64) (Syntax.tcons (Syntax.tyInt Syntax.w64) Syntax.tnil))) (Syntax.tcons (Syntax.tyStruct (List._∷_ 116 (List._∷_ 101 (List._∷_ 120 (List._∷_ 116 (List._∷_ 58 (List._∷_ 58 (List._∷_ 112 (List._∷_ 97 (List._∷_ 114 (List._∷_ 116 (List._∷_ 115 (List._∷_ 58 (List._∷_ 58 (List._∷_ 83 (List._∷_ 112 (List._∷_ 97 (List._∷_ 110 List.[]))))))))))))))))) (Syntax.tcons (Syntax.tyInt Syntax.w64) (Syntax.tcons (Syntax.tyInt Syntax.w64) Syntax.tnil))) Syntax.tnil)) (Syntax.ttcons Syntax.tnil (Syntax.ttcons Syntax.tnil Syntax.ttnil))))))) Syntax.tnil) (Syntax.ttcons (Syntax.tcons (Syntax.tyEnum (List._∷_ 115 (List._∷_ 99 (List._∷_ 114 (List._∷_ 105 (List._∷_ 112 (List._∷_ 116 (List._∷_ 58 (List._∷_ 58 (List._∷_ 114 (List._∷_ 101 (List._∷_ 99 (List._∷_ 111 (List._∷_ 114 (List._∷_ 100 (List._∷_ 115 (List._∷_ 58 (List._∷_ 58 (List._∷_ 69 (List._∷_ 120 (List._∷_ 112 (List._∷_ 101 (List._∷_ 99 (List._∷_ 116 List.[]))))))))))))))))))))))) (Syntax.ttcons (Syntax.tcons (Syntax.tyStruct (List._∷_ 115 (List._∷_ 99 (List._∷_ 114 (List._∷_ 105 (List._∷_ 112 (List._∷_ 116 (List._∷_ 58 (List._∷_ 58 (List._∷_ 114 (List._∷_ 101 (List._∷_ 99 (List._∷_ 111 (List._∷_ 114 (List._∷_ 100 (List._∷_ 115 (List._∷_ 58 (List._∷_ 58 (List._∷_ 80 (List._∷_ 108 (List._∷_ 97 (List._∷_ 99 (List._∷_ 101 List.[])))))))))))))))))))))) (Syntax.tcons (Syntax.tyInt Syntax.w64) (Syntax.tcons (Syntax.tyInt Syntax.w64) Syntax.tnil))) Syntax.tnil) (Syntax.ttcons (Syntax.tcons (Syntax.tyEnum (List._∷_ 115 (List._∷_ 99 (List._∷_ 114 (List._∷_ 105 (List._∷_ 112 (List._∷_ 116 (List._∷_ 58 (List._∷_ 58 (List._∷_ 114 (List._∷_ 101 (List._∷_ 99 (List._∷_ 111 (List._∷_ 114 (List._∷_ 100 (List._∷_ 115 (List._∷_ 58 (List._∷_ 58 (List._∷_ 77 (List._∷_ 97 (List._∷_ 116 (List._∷_ 99 (List._∷_ 104 (List._∷_ 101 (List._∷_ 114 List.[])))))))))))))))))))))))) (Syntax.ttcons (Syntax.tcons (Syntax.tyStruct (List._∷_ 115 (List._∷_ 99 (List._∷_ 114 (List._∷_ 105 (List._∷_ 112 (List._∷_ 116 (List._∷_ 58 (List._∷_ 58 (List._∷_ 114 (List._∷_ 101 (List._∷_ 99 (List._∷_ 111 (List._∷_ 114 (List._∷_ 100 (List._∷_ 115 (List._∷_ 58 (List._∷_ 58 (List._∷_ 80 (List._∷_ 108 (List._∷_ 97 (List._∷_ 99 (List._∷_ 101 List.[])))))))))))))))))))))) (Syntax.tcons (Syntax.tyInt Syntax.w64) (Syntax.tcons (Syntax.tyInt Syntax.w64) Syntax.tnil))) Syntax.tnil) (Syntax.ttcons (Syntax.tcons (Syntax.tyStruct (List._∷_ 115 (List._∷_ 99 (List._∷_ 114 (List._∷_ 105 (List._∷_ 112 (List._∷_ 116 (List._∷_ 58 (List._∷_ 58 (List._∷_ 114 (List._∷_ 101 (List._∷_ 99 (List._∷_ 111 (List._∷_ 114 (List._∷_ 100 (List._∷_ 115 (List._∷_ 58 (List._∷_ 58 (List._∷_ 80 (List._∷_ 108 (List._∷_ 97 (List._∷_ 99 (List._∷_ 101 List.[])))))))))))))))))))))) (Syntax.tcons (Syntax.tyInt Syntax.w64) (Syntax.tcons (Syntax.tyInt Syntax.w64) Syntax.tnil))) Syntax.tnil) (Syntax.ttcons (Syntax.tcons (Syntax.tyInt Syntax.w64) Syntax.tnil) (Syntax.ttcons (Syntax.tcons (Syntax.tyInt Syntax.w64) Syntax.tnil) (Syntax.ttcons (Syntax.tcons (Syntax.tyInt Syntax.w64) Syntax.tnil) (Syntax.ttcons (Syntax.tcons (Syntax.tyInt Syntax.w64) Syntax.tnil) Syntax.ttnil))))))) Syntax.tnil) (Syntax.ttcons (Syntax.tcons (Syntax.tyStruct (List._∷_ 115 (List._∷_ 99 (List._∷_ 114 (List._∷_ 105 (List._∷_ 112 (List._∷_ 116 (List._∷_ 58 (List._∷_ 58 (List._∷_ 114 (List._∷_ 101 (List._∷_ 99 (List._∷_ 111 (List._∷_ 114 (List._∷_ 100 (List._∷_ 115 (List._∷_ 58 (List._∷_ 58 (List._∷_ 80 (List._∷_ 108 (List._∷_ 97 (List._∷_ 99 (List._∷_ 101 List.[])))))))))))))))))))))) (Syntax.tcons (Syntax.tyInt Syntax.w64) (Syntax.tcons (Syntax.tyInt Syntax.w64) Syntax.tnil))) (Syntax.tcons (Syntax.tyEnum (List._∷_ 115 (List._∷_ 99 (List._∷_ 114 (List._∷_ 105 (List._∷_ 112 (List._∷_ 116 (List._∷_ 58 (List._∷_ 58 (List._∷_ 114 (List._∷_ 101 (List._∷_ 99 (List._∷_ 111 (List._∷_ 114 (List._∷_ 100 (List._∷_ 115 (List._∷_ 58 (List._∷_ 58 (List._∷_ 77 (List._∷_ 97 (List._∷_ 116 (List._∷_ 99 (List._∷_ 104 (List._∷_ 101 (List._∷_ 114 List.[])))))))))))))))))))))))) (Syntax.ttcons (Syntax.tcons (Syntax.tyStruct (List._∷_ 115 (List._∷_ 99 (List._∷_ 114 (List._∷_ 105 (List._∷_ 112 (List._∷_ 116 (List._∷_ 58 (List._∷_ 58 (List._∷_ 114 (List._∷_ 101 (List._∷_ 99 (List._∷_ 111 (List._∷_ 114 (List._∷_ 100 (List._∷_ 115 (List._∷_ 58 (List._∷_ 58 (List._∷_ 80 (List._∷_ 108 (List._∷_ 97 (List._∷_ 99 (List._∷_ 101 List.[])))))))))))))))))))))) (Syntax.tcons (Syntax.tyInt Syntax.w64) (Syntax.tcons (Syntax.tyInt Syntax.w64) Syntax.tnil))) Syntax.tnil) (Syntax.ttcons (Syntax.tcons (Syntax.tyStruct (List._∷_ 115 (List._∷_ 99 (List._∷_ 114 (List._∷_ 105 (List._∷_ 112 (List._∷_ 116 (List._∷_ 58 (List._∷_ 58 (List._∷_ 114 (List._∷_ 101 (List._∷_ 99 (List._∷_ 111 (List._∷_ 114 (List._∷_ 100 (List._∷_ 115 (List._∷_ 58 (List._∷_ 58 (List._∷_ 80 (List._∷_ 108 (List._∷_ 97 (List._∷_ 99 (List._∷_ 101 List.[])))))))))))))))))))))) (Syntax.tcons (Syntax.tyInt Syntax.w64) (Syntax.tcons (Syntax.tyInt Syntax.w64) Syntax.tnil))) Syntax.tnil) (Syntax.ttcons (Syntax.tcons (Syntax.tyInt Syntax.w64) Syntax.tnil) (Syntax.ttcons (Syntax.tcons (Syntax.tyInt Syntax.w64) Syntax.tnil) (Syntax.ttcons (Syntax.tcons (Syntax.tyInt Syntax.w64) Syntax.tnil) (Syntax.ttcons (Syntax.tcons (Syntax.tyInt Syntax.w64) Syntax.tnil) Syntax.ttnil))))))) Syntax.tnil)) (Syntax.ttcons (Syntax.tcons (Syntax.tyEnum (List._∷_ 115 (List._∷_ 99 (List._∷_ 114 (List._∷_ 105 (List._∷_ 112 (List._∷_ 116 (List._∷_ 58 (List._∷_ 58 (List._∷_ 114 (List._∷_ 101 (List._∷_ 99 (List._∷_ 111 (List._∷_ 114 (List._∷_ 100 (List._∷_ 115 (List._∷_ 58 (List._∷_ 58 (List._∷_ 77 (List._∷_ 97 (List._∷_ 116 (List._∷_ 99 (List._∷_ 104 (List._∷_ 101 (List._∷_ 114 List.[])))))))))))))))))))))))) (Syntax.ttcons (Syntax.tcons (Syntax.tyStruct (List._∷_ 115 (List._∷_ 99 (List._∷_ 114 (List._∷_ 105 (List._∷_ 112 (List._∷_ 116 (List._∷_ 58 (List._∷_ 58 (List._∷_ 114 (List._∷_ 101 (List._∷_ 99 (List._∷_ 111 (List._∷_ 114 (List._∷_ 100 (List._∷_ 115 (List._∷_ 58 (List._∷_ 58 (List._∷_ 80 (List._∷_ 108 (List._∷_ 97 (List._∷_ 99 (List._∷_ 101 List.[])))))))))))))))))))))) (Syntax.tcons (Syntax.tyInt Syntax.w64) (Syntax.tcons (Syntax.tyInt Syntax.w64) Syntax.tnil))) Syntax.tnil) (Syntax.ttcons (Syntax.tcons (Syntax.tyStruct (List._∷_ 115 (List._∷_ 99 (List._∷_ 114 (List._∷_ 105 (List._∷_ 112 (List._∷_ 116 (List._∷_ 58 (List._∷_ 58 (List._∷_ 114 (List._∷_ 101 (List._∷_ 99 (List._∷_ 111 (List._∷_ 114 (List._∷_ 100 (List._∷_ 115 (List._∷_ 58 (List._∷_ 58 (List._∷_ 80 (List._∷_ 108 (List._∷_ 97 (List._∷_ 99 (List._∷_ 101 List.[])))))))))))))))))))))) (Syntax.tcons (Syntax.tyInt Syntax.w64) (Syntax.tcons (Syntax.tyInt Syntax.w64) Syntax.tnil))) Syntax.tnil) (Syntax.ttcons (Syntax.tcons (Syntax.tyInt Syntax.w64) Syntax.tnil) (Syntax.ttcons (Syntax.tcons (Syntax.tyInt Syntax.w64) Syntax.tnil) (Syntax.ttcons (Syntax.tcons (Syntax.tyInt Syntax.w64) Syntax.tnil) (Syntax.ttcons (Syntax.tcons (Syntax.tyInt Syntax.w64) Syntax.tnil) Syntax.ttnil))))))) Syntax.tnil) (Syntax.ttcons (Syntax.tcons (Syntax.tyEnum (List._∷_ 115 (List._∷_ 99 (List._∷_ 114 (List._∷_ 105 (List._∷_ 112 (List._∷_ 116 (List._∷_ 58 (List._∷_ 58 (List._∷_ 114 (List._∷_ 101 (List._∷_ 99 (List._∷_ 111 (List._∷_ 114 (List._∷_ 100 (List._∷_ 115 (List._∷_ 58 (List._∷_ 58 (List._∷_ 77 (List._∷_ 97 (List._∷_ 116 (List._∷_ 99 (List._∷_ 104 (List._∷_ 101 (List._∷_ 114 List.[])))))))))))))))))))))))) (Syntax.ttcons (Syntax.tcons (Syntax.tyStruct (List._∷_ 115 (List._∷_ 99 (List._∷_ 114 (List._∷_ 105 (List._∷_ 112 (List._∷_ 116 (List._∷_ 58 (List._∷_ 58 (List._∷_ 114 (List._∷_ 101 (List._∷_ 99 (List._∷_ 111 (List._∷_ 114 (List._∷_ 100 (List._∷_ 115 (List._∷_ 58 (List._∷_ 58 (List._∷_ 80 (List._∷_ 108 (List._∷_ 97 (List._∷_ 99 (List._∷_ 101 List.[])))))))))))))))))))))) (Syntax.tcons (Syntax.tyInt Syntax.w64) (Syntax.tcons (Syntax.tyInt Syntax.w64) Syntax.tnil))) Syntax.tnil) (Syntax.ttcons (Syntax.tcons (Syntax.tyStruct (List._∷_ 115 (List._∷_ 99 (List._∷_ 114 (List._∷_ 105 (List._∷_ 112 (List._∷_ 116 (List._∷_ 58 (List._∷_ 58 (List._∷_ 114 (List._∷_ 101 (List._∷_ 99 (List._∷_ 111 (List._∷_ 114 (List._∷_ 100 (List._∷_ 115 (List._∷_ 58 (List._∷_ 58 (List._∷_ 80 (List._∷_ 108 (List._∷_ 97 (List._∷_ 99 (List._∷_ 101 List.[])))))))))))))))))))))) (Syntax.tcons (Syntax.tyInt Syntax.w64) (Syntax.tcons (Syntax.tyInt Syntax.w64) Syntax.tnil))) Syntax.tnil) (Syntax.ttcons (Syntax.tcons (Syntax.tyInt Syntax.w64) Syntax.tnil) (Syntax.ttcons (Syntax.tcons (Syntax.tyInt Syntax.w64) Syntax.tnil) (Syntax.ttcons (Syntax.tcons (Syntax.tyInt Syntax.w64) Syntax.tnil) (Syntax.ttcons (Syntax.tcons (Syntax.tyInt Syntax.w64) Syntax.tnil) Syntax.ttnil))))))) Syntax.tnil) (Syntax.ttcons (Syntax.tcons (Syntax.tyEnum (List._∷_ 115 (List._∷_ 99 (List._∷_ 114 (List._∷_ 105 (List._∷_ 112 (List._∷_ 116 (List._∷_ 58 (List._∷_ 58 (List._∷_ 114 (List._∷_ 101 (List._∷_ 99 (List._∷_ 111 (List._∷_ 114 (List._∷_ 100 (List._∷_ 115 (List._∷_ 58 (List._∷_ 58 (List._∷_ 77 (List._∷_ 97 (List._∷_ 116 (List._∷_ 99 (List._∷_ 104 (List._∷_ 101 (List._∷_ 114 List.[])))))))))))))))))))))))) (Syntax.ttcons (Syntax.tcons (Syntax.tyStruct (List._∷_ 115 (List._∷_ 99 (List._∷_ 114 (List._∷_ 105 (List._∷_ 112 (List._∷_ 116 (List._∷_ 58 (List._∷_ 58 (List._∷_ 114 (List._∷_ 101 (List._∷_ 99 (List._∷_ 111 (List._∷_ 114 (List._∷_ 100 (List._∷_ 115 (List._∷_ 58 (List._∷_ 58 (List._∷_ 80 (List._∷_ 108 (List._∷_ 97 (List._∷_ 99 (List._∷_ 101 List.[])))))))))))))))))))))) (Syntax.tcons (Syntax.tyInt Syntax.w64) (Syntax.tcons (Syntax.tyInt Syntax.w64) Syntax.tnil))) Syntax.tnil) (Syntax.ttcons (Syntax.tcons (Syntax.tyStruct (List._∷_ 115 (List._∷_ 99 (List._∷_ 114 (List._∷_ 105 (List._∷_ 112 (List._∷_ 116 (List._∷_ 58 (List._∷_ 58 (List._∷_ 114 (List._∷_ 101 (List._∷_ 99 (List._∷_ 111 (List._∷_ 114 (List._∷_ 100 (List._∷_ 115 (List._∷_ 58 (List._∷_ 58 (List._∷_ 80 (List._∷_ 108 (List._∷_ 97 (List._∷_ 99 (List._∷_ 101 List.[])))))))))))))))))))))) (Syntax.tcons (Syntax.tyInt Syntax.w64) (Syntax.tcons (Syntax.tyInt Syntax.w64) Syntax.tnil))) Syntax.tnil) (Syntax.ttcons (Syntax.tcons (Syntax.tyInt Syntax.w64) Syntax.tnil) (Syntax.ttcons (Syntax.tcons (Syntax.tyInt Syntax.w64) Syntax.tnil) (Syntax.ttcons (Syntax.tcons (Syntax.tyInt Syntax.w64) Syntax.tnil) (Syntax.ttcons (Syntax.tcons (Syntax.tyInt Syntax.w64) Syntax.tnil) Syntax.ttnil))))))) Syntax.tnil) (Syntax.ttcons (Syntax.tcons (Syntax.tyEnum (List._∷_ 115 (List._∷_ 99 (List._∷_ 114 (List._∷_ 105 (List._∷_ 112 (List._∷_ 116 (List._∷_ 58 (List._∷_ 58 (List._∷_ 114 (List._∷_ 101 (List._∷_ 99 (List._∷_ 111 (List._∷_ 114 (List._∷_ 100 (List._∷_ 115 (List._∷_ 58 (List._∷_ 58 (List._∷_ 77 (List._∷_ 97 (List._∷_ 116 (List._∷_ 99 (List._∷_ 104 (List._∷_ 101 (List._∷_ 114 List.[])))))))))))))))))))))))) (Syntax.ttcons (Syntax.tcons (Syntax.tyStruct (List._∷_ 115 (List._∷_ 99 (List._∷_ 114 (List._∷_ 105 (List._∷_ 112 (List._∷_ 116 (List._∷_ 58 (List._∷_ 58 (List._∷_ 114 (List._∷_ 101 (List._∷_ 99 (List._∷_ 111 (List._∷_ 114 (List._∷_ 100 (List._∷_ 115 (List._∷_ 58 (List._∷_ 58 (List._∷_ 80 (List._∷_ 108 (List._∷_ 97 (List._∷_ 99 (List._∷_ 101 List.[])))))))))))))))))))))) (Syntax.tcons (Syntax.tyInt Syntax.w64) (Syntax.tcons (Syntax.tyInt Syntax.w64) Syntax.tnil))) Syntax.tnil) (Syntax.ttcons (Syntax.tcons (Syntax.tyStruct (List._∷_ 115 (List._∷_ 99 (List._∷_ 114 (List._∷_ 105 (List._∷_ 112 (List._∷_ 116 (List._∷_ 58 (List._∷_ 58 (List._∷_ 114 (List._∷_ 101 (List._∷_ 99 (List._∷_ 111 (List._∷_ 114 (List._∷_ 100 (List._∷_ 115 (List._∷_ 58 (List._∷_ 58 (List._∷_ 80 (List._∷_ 108 (List._∷_ 97 (List._∷_ 99 (List._∷_ 101 List.[])))))))))))))))))))))) (Syntax.tcons (Syntax.tyInt Syntax.w64) (Syntax.tcons (Syntax.tyInt Syntax.w64) Syntax.tnil))) Syntax.tnil) (Syntax.ttcons (Syntax.tcons (Syntax.tyInt Syntax.w64) Syntax.tnil) (Syntax.ttcons (Syntax.tcons (Syntax.tyInt Syntax.w64) Syntax.tnil) (Syntax.ttcons (Syntax.tcons (Syntax.tyInt Syntax.w64) Syntax.tnil) (Syntax.ttcons (Syntax.tcons (Syntax.tyInt Syntax.w64) Syntax.tnil) Syntax.ttnil))))))) Syntax.tnil) (Syntax.ttcons (Syntax.tcons (Syntax.tyEnum (List._∷_ 115 (List._∷_ 99 (List._∷_ 114 (List._∷_ 105 (List._∷_ 112 (List._∷_ 116 (List._∷_ 58 (List._∷_ 58 (List._∷_ 114 (List._∷_ 101 (List._∷_ 99 (List._∷_ 111 (List._∷_ 114 (List._∷_ 100 (List._∷_ 115 (List._∷_ 58 (List._∷_ 58 (List._∷_ 77 (List._∷_ 97 (List._∷_ 116 (List._∷_ 99 (List._∷_ 104 (List._∷_ 101 (List._∷_ 114 List.[])))))))))))))))))))))))) (Syntax.ttcons (Syntax.tcons (Syntax.tyStruct (List._∷_ 115 (List._∷_ 99 (List._∷_ 114 (List._∷_ 105 (List._∷_ 112 (List._∷_ 116 (List._∷_ 58 (List._∷_ 58 (List._∷_ 114 (List._∷_ 101 (List._∷_ 99 (List._∷_ 111 (List._∷_ 114 (List._∷_ 100 (List._∷_ 115 (List._∷_ 58 (List._∷_ 58 (List._∷_ 80 (List._∷_ 108 (List._∷_ 97 (List._∷_ 99 (List._∷_ 101 List.[])))))))))))))))))))))) (Syntax.tcons (Syntax.tyInt Syntax.w64) (Syntax.tcons (Syntax.tyInt Syntax.w64) Syntax.tnil))) Syntax.tnil) (Syntax.ttcons (Syntax.tcons (Syntax.tyStruct (List._∷_ 115 (List._∷_ 99 (List._∷_ 114 (List._∷_ 105 (List._∷_ 112 (List._∷_ 116 (List._∷_ 58 (List._∷_ 58 (List._∷_ 114 (List._∷_ 101 (List._∷_ 99 (List._∷_ 111 (List._∷_ 114 (List._∷_ 100 (List._∷_ 115 (List._∷_ 58 (List._∷_ 58 (List._∷_ 80 (List._∷_ 108 (List._∷_ 97 (List._∷_ 99 (List._∷_ 101 List.[])))))))))))))))))))))) (Syntax.tcons (Syntax.tyInt Syntax.w64) (Syntax.tcons (Syntax.tyInt Syntax.w64) Syntax.tnil))) Syntax.tnil) (Syntax.ttcons (Syntax.tcons (Syntax.tyInt Syntax.w64) Syntax.tnil) (Syntax.ttcons (Syntax.tcons (Syntax.tyInt Syntax.w64) Syntax.tnil) (Syntax.ttcons (Syntax.tcons (Syntax.tyInt Syntax.w64) Syntax.tnil) (Syntax.ttcons (Syntax.tcons (Syntax.tyInt Syntax.w64) Syntax.tnil) Syntax.ttnil))))))) Syntax.tnil) Syntax.ttnil))))))))) Syntax.tnil) (Syntax.ttcons (Syntax.tcons (Syntax.tyStruct (List._∷_ 115 (List._∷_ 99 (List._∷_ 114 (List._∷_ 105 (List._∷_ 112 (List._∷_ 116 (List._∷_ 58 (List._∷_ 58 (List._∷_ 114 (List._∷_ 111 (List._∷_ 108 (List._∷_ 101 (List._∷_ 115 (List._∷_ 58 (List._∷_ 58 (List._∷_ 79 (List._∷_ 112 (List._∷_ 101 (List._∷_ 110 (List._∷_ 105 (List._∷_ 110 (List._∷_ 103 List.[])))))))))))))))))))))) (Syntax.tcons (Syntax.tyEnum (List._∷_ 115 (List._∷_ 99 (List._∷_ 114 (List._∷_ 105 (List._∷_ 112 (List._∷_ 116 (List._∷_ 58 (List._∷_ 58 (List._∷_ 114 (List._∷_ 101 (List._∷_ 99 (List._∷_ 111 (List._∷_ 114 (List._∷_ 100 (List._∷_ 115 (List._∷_ 58 (List._∷_ 58 (List._∷_ 83 (List._∷_ 116 (List._∷_ 97 (List._∷_ 109 (List._∷_ 112 List.[])))))))))))))))))))))) (Syntax.ttcons Syntax.tnil (Syntax.ttcons (Syntax.tcons (Syntax.tyStruct (List._∷_ 115 (List._∷_ 99 (List._∷_ 114 (List._∷_ 105 (List._∷_ 112 (List._∷_ 116 (List._∷_ 58 (List._∷_ 58 (List._∷_ 114 (List._∷_ 101 (List._∷_ 99 (List._∷_ 111 (List._∷_ 114 (List._∷_ 100 (List._∷_ 115 (List._∷_ 58 (List._∷_ 58 (List._∷_ 84 (List._∷_ 105 (List._∷_ 109 (List._∷_ 101 List.[]))))))))))))))))))))) (Syntax.tcons Syntax.tyBool (Syntax.tcons (Syntax.tyInt Syntax.w64) (Syntax.tcons (Syntax.tyInt Syntax.w64) Syntax.tnil)))) Syntax.tnil) Syntax.ttnil))) (Syntax.tcons (Syntax.tyEnum (List._∷_ 119 (List._∷_ 105 (List._∷_ 114 (List._∷_ 101 (List._∷_ 58 (List._∷_ 58 (List._∷_ 111 (List._∷_ 112 (List._∷_ 115 (List._∷_ 58 (List._∷_ 58 (List._∷_ 79 (List._∷_ 112 List.[]))))))))))))) (Syntax.ttcons Syntax.tnil (Syntax.ttcons Syntax.tnil (Syntax.ttcons Syntax.tnil (Syntax.ttcons Syntax.tnil (Syntax.ttcons Syntax.tnil (Syntax.ttcons Syntax.tnil (Syntax.ttcons Syntax.tnil (Syntax.ttcons Syntax.tnil (Syntax.ttcons Syntax.tnil (Syntax.ttcons Syntax.tnil (Syntax.ttcons Syntax.tnil (Syntax.ttcons Syntax.tnil (Syntax.ttcons Syntax.tnil (Syntax.ttcons Syntax.tnil (Syntax.ttcons Syntax.tnil (Syntax.ttcons Syntax.tnil (Syntax.ttcons Syntax.tnil (Syntax.ttcons Syntax.tnil (Syntax.ttcons Syntax.tnil (Syntax.ttcons Syntax.tnil (Syntax.ttcons Syntax.tnil (Syntax.ttcons Syntax.tnil (Syntax.ttcons Syntax.tnil (Syntax.ttcons Syntax.tnil (Syntax.ttcons Syntax.tnil (Syntax.ttcons Syntax.tnil (Syntax.ttcons Syntax.tnil (Syntax.ttcons Syntax.tnil (Syntax.ttcons Syntax.tnil (Syntax.ttcons Syntax.tnil (Syntax.ttcons Syntax.tnil (Syntax.ttcons Syntax.tnil (Syntax.ttcons Syntax.tnil (Syntax.ttcons Syntax.tnil (Syntax.ttcons Syntax.tnil (Syntax.ttcons Syntax.tnil (Syntax.ttcons Syntax.tnil Syntax.ttnil)))))))))))))))))))))))))))))))))))))) (Syntax.tcons (Syntax.tyStruct (List._∷_ 116 (List._∷_ 101 (List._∷_ 120 (List._∷_ 116 (List._∷_ 58 (List._∷_ 58 (List._∷_ 112 (List._∷_ 97 (List._∷_ 114 (List._∷_ 116 (List._∷_ 115 (List._∷_ 58 (List._∷_ 58 (List._∷_ 83 (List._∷_ 112 (List._∷_ 97 (List._∷_ 110 List.[]))))))))))))))))) (Syntax.tcons (Syntax.tyInt Syntax.w64) (Syntax.tcons (Syntax.tyInt Syntax.w64) Syntax.tnil))) Syntax.tnil)))) Syntax.tnil) (Syntax.ttcons (Syntax.tcons (Syntax.tyInt Syntax.w64) Syntax.tnil) Syntax.ttnil)))))) (Syntax.tcons (Syntax.tyEnum (List._∷_ 115 (List._∷_ 99 (List._∷_ 114 (List._∷_ 105 (List._∷_ 112 (List._∷_ 116 (List._∷_ 58 (List._∷_ 58 (List._∷_ 114 (List._∷_ 111 (List._∷_ 108 (List._∷_ 101 (List._∷_ 115 (List._∷_ 58 (List._∷_ 58 (List._∷_ 87 (List._∷_ 104 (List._∷_ 101 (List._∷_ 114 (List._∷_ 101 List.[])))))))))))))))))))) (Syntax.ttcons Syntax.tnil (Syntax.ttcons Syntax.tnil (Syntax.ttcons (Syntax.tcons (Syntax.tyEnum (List._∷_ 115 (List._∷_ 99 (List._∷_ 114 (List._∷_ 105 (List._∷_ 112 (List._∷_ 116 (List._∷_ 58 (List._∷_ 58 (List._∷_ 114 (List._∷_ 111 (List._∷_ 108 (List._∷_ 101 (List._∷_ 115 (List._∷_ 58 (List._∷_ 58 (List._∷_ 84 (List._∷_ 97 (List._∷_ 107 (List._∷_ 101 (List._∷_ 115 List.[])))))))))))))))))))) (Syntax.ttcons Syntax.tnil (Syntax.ttcons Syntax.tnil (Syntax.ttcons Syntax.tnil (Syntax.ttcons Syntax.tnil (Syntax.ttcons Syntax.tnil (Syntax.ttcons Syntax.tnil (Syntax.ttcons Syntax.tnil (Syntax.ttcons Syntax.tnil (Syntax.ttcons Syntax.tnil Syntax.ttnil)))))))))) (Syntax.tcons Syntax.tyBool Syntax.tnil)) (Syntax.ttcons Syntax.tnil Syntax.ttnil))))) Syntax.tnil))
@@ -118,10 +118,10 @@ abbrev τ9 : Syntax.Ty
 τ9 = Syntax.tyStruct (List._∷_ 98 (List._∷_ 101 (List._∷_ 108 (List._∷_ 111 (List._∷_ 119 (List._∷_ 58 (List._∷_ 58 (List._∷_ 108 (List._∷_ 105 (List._∷_ 110 (List._∷_ 101 (List._∷_ 115 (List._∷_ 58 (List._∷_ 58 (List._∷_ 66 (List._∷_ 101 (List._∷_ 108 (List._∷_ 111 (List._∷_ 119 List.[]))))))))))))))))))) (Syntax.tcons (Syntax.tyInt Syntax.w64) (Syntax.tcons (Syntax.tyInt Syntax.w64) (Syntax.tcons (Syntax.tyEnum (List._∷_ 98 (List._∷_ 101 (List._∷_ 108 (List._∷_ 111 (List._∷_ 119 (List._∷_ 58 (List._∷_ 58 (List._∷_ 108 (List._∷_ 105 (List._∷_ 110 (List._∷_ 101 (List._∷_ 115 (List._∷_ 58 (List._∷_ 58 (List._∷_ 78 (List._∷_ 101 (List._∷_ 120 (List._∷_ 116 List.[])))))))))))))))))) (Syntax.ttcons Syntax.tnil (Syntax.ttcons (Syntax.tcons (Syntax.tyStruct (List._∷_ 98 (List._∷_ 101 (List._∷_ 108 (List._∷_ 111 (List._∷_ 119 (List._∷_ 58 (List._∷_ 58 (List._∷_ 108 (List._∷_ 105 (List._∷_ 110 (List._∷_ 101 (List._∷_ 115 (List._∷_ 58 (List._∷_ 58 (List._∷_ 65 (List._∷_ 104 (List._∷_ 101 (List._∷_ 97 (List._∷_ 100 List.[]))))))))))))))))))) (Syntax.tcons (Syntax.tyInt Syntax.w64) (Syntax.tcons (Syntax.tyStruct (List._∷_ 115 (List._∷_ 99 (List._∷_ 114 (List._∷_ 105 (List._∷_ 112 (List._∷_ 116 (List._∷_ 58 (List._∷_ 58 (List._∷_ 114 (List._∷_ 111 (List._∷_ 108 (List._∷_ 101 (List._∷_ 115 (List._∷_ 58 (List._∷_ 58 (List._∷_ 79 (List._∷_ 112 (List._∷_ 101 (List._∷_ 110 (List._∷_ 105 (List._∷_ 110 (List._∷_ 103 List.[])))))))))))))))))))))) (Syntax.tcons (Syntax.tyEnum (List._∷_ 115 (List._∷_ 99 (List._∷_ 114 (List._∷_ 105 (List._∷_ 112 (List._∷_ 116 (List._∷_ 58 (List._∷_ 58 (List._∷_ 114 (List._∷_ 101 (List._∷_ 99 (List._∷_ 111 (List._∷_ 114 (List._∷_ 100 (List._∷_ 115 (List._∷_ 58 (List._∷_ 58 (List._∷_ 83 (List._∷_ 116 (List._∷_ 97 (List._∷_ 109 (List._∷_ 112 List.[])))))))))))))))))))))) (Syntax.ttcons Syntax.tnil (Syntax.ttcons (Syntax.tcons (Syntax.tyStruct (List._∷_ 115 (List._∷_ 99 (List._∷_ 114 (List._∷_ 105 (List._∷_ 112 (List._∷_ 116 (List._∷_ 58 (List._∷_ 58 (List._∷_ 114 (List._∷_ 101 (List._∷_ 99 (List._∷_ 111 (List._∷_ 114 (List._∷_ 100 (List._∷_ 115 (List._∷_ 58 (List._∷_ 58 (List._∷_ 84 (List._∷_ 105 (List._∷_ 109 (List._∷_ 101 List.[]))))))))))))))))))))) (Syntax.tcons Syntax.tyBool (Syntax.tcons (Syntax.tyInt Syntax.w64) (Syntax.tcons (Syntax.tyInt Syntax.w64) Syntax.tnil)))) Syntax.tnil) Syntax.ttnil))) (Syntax.tcons (Syntax.tyEnum (List._∷_ 119 (List._∷_ 105 (List._∷_ 114 (List._∷_ 101 (List._∷_ 58 (List._∷_ 58 (List._∷_ 111 (List._∷_ 112 (List._∷_ 115 (List._∷_ 58 (List._∷_ 58 (List._∷_ 79 (List._∷_ 112 List.[]))))))))))))) (Syntax.ttcons Syntax.tnil (Syntax.ttcons Syntax.tnil (Syntax.ttcons Syntax.tnil (Syntax.ttcons Syntax.tnil (Syntax.ttcons Syntax.tnil (Syntax.ttcons Syntax.tnil (Syntax.ttcons Syntax.tnil (Syntax.ttcons Syntax.tnil (Syntax.ttcons Syntax.tnil (Syntax.ttcons Syntax.tnil (Syntax.ttcons Syntax.tnil (Syntax.ttcons Syntax.tnil (Syntax.ttcons Syntax.tnil (Syntax.ttcons Syntax.tnil (Syntax.ttcons Syntax.tnil (Syntax.ttcons Syntax.tnil (Syntax.ttcons Syntax.tnil (Syntax.ttcons Syntax.tnil (Syntax.ttcons Syntax.tnil (Syntax.ttcons Syntax.tnil (Syntax.ttcons Syntax.tnil (Syntax.ttcons Syntax.tnil (Syntax.ttcons Syntax.tnil (Syntax.ttcons Syntax.tnil (Syntax.ttcons Syntax.tnil (Syntax.ttcons Syntax.tnil (Syntax.ttcons Syntax.tnil (Syntax.ttcons Syntax.tnil (Syntax.ttcons Syntax.tnil (Syntax.ttcons Syntax.tnil (Syntax.ttcons Syntax.tnil (Syntax.ttcons Syntax.tnil (Syntax.ttcons Syntax.tnil (Syntax.ttcons Syntax.tnil (Syntax.ttcons Syntax.tnil (Syntax.ttcons Syntax.tnil (Syntax.ttcons Syntax.tnil Syntax.ttnil)))))))))))))))))))))))))))))))))))))) (Syntax.tcons (Syntax.tyStruct (List._∷_ 116 (List._∷_ 101 (List._∷_ 120 (List._∷_ 116 (List._∷_ 58 (List._∷_ 58 (List._∷_ 112 (List._∷_ 97 (List._∷_ 114 (List._∷_ 116 (List._∷_ 115 (List._∷_ 58 (List._∷_ 58 (List._∷_ 83 (List._∷_ 112 (List._∷_ 97 (List._∷_ 110 List.[]))))))))))))))))) (Syntax.tcons (Syntax.tyInt Syntax.w64) (Syntax.tcons (Syntax.tyInt Syntax.w64) Syntax.tnil))) Syntax.tnil)))) (Syntax.tcons (Syntax.tyInt Syntax.w64) (Syntax.tcons (Syntax.tyEnum (List._∷_ 115 (List._∷_ 99 (List._∷_ 114 (List._∷_ 105 (List._∷_ 112 (List._∷_ 116 (List._∷_ 58 (List._∷_ 58 (List._∷_ 114 (List._∷_ 111 (List._∷_ 108 (List._∷_ 101 (List._∷_ 115 (List._∷_ 58 (List._∷_ 58 (List._∷_ 87 (List._∷_ 104 (List._∷_ 101 (List._∷_ 114 (List._∷_ 101 List.[])))))))))))))))))))) (Syntax.ttcons Syntax.tnil (Syntax.ttcons Syntax.tnil (Syntax.ttcons (Syntax.tcons (Syntax.tyEnum (List._∷_ 115 (List._∷_ 99 (List._∷_ 114 (List._∷_ 105 (List._∷_ 112 (List._∷_ 116 (List._∷_ 58 (List._∷_ 58 (List._∷_ 114 (List._∷_ 111 (List._∷_ 108 (List._∷_ 101 (List._∷_ 115 (List._∷_ 58 (List._∷_ 58 (List._∷_ 84 (List._∷_ 97 (List._∷_ 107 (List._∷_ 101 (List._∷_ 115 List.[])))))))))))))))))))) (Syntax.ttcons Syntax.tnil (Syntax.ttcons Syntax.tnil (Syntax.ttcons Syntax.tnil (Syntax.ttcons Syntax.tnil (Syntax.ttcons Syntax.tnil (Syntax.ttcons Syntax.tnil (Syntax.ttcons Syntax.tnil (Syntax.ttcons Syntax.tnil (Syntax.ttcons Syntax.tnil Syntax.ttnil)))))))))) (Syntax.tcons Syntax.tyBool Syntax.tnil)) (Syntax.ttcons Syntax.tnil Syntax.ttnil))))) Syntax.tnil))))) Syntax.tnil) Syntax.ttnil))) Syntax.tnil)))
 
 abbrev kind0 : KValue.Valued
-kind0 = record { ty = Declared.row Where.the-type; one = Path'.refl; val = Laws'8.val Where.the-type Laws'7.the-laws; tells = Laws'8.tells Where.the-type Laws'7.the-laws; still = Laws'8.still Where.the-type Laws'7.the-copy Exit.yes; row = Rows'.whole (Declared.row Where.the-type); rd = λ x. x; mk = λ x. x }
+kind0 = record { ty = Declared.row Where.the-type; one = Path'.refl; val = Laws'8.val Where.the-type Laws'6.the-laws; tells = Laws'8.tells Where.the-type Laws'6.the-laws; still = Laws'8.still Where.the-type Laws'6.the-copy Exit.yes; row = Rows'.whole (Declared.row Where.the-type); rd = λ x. x; mk = λ x. x }
 
 abbrev kind0-laws : (M : Type 1) (𝓤 : URA.URA M) (H : Wp.Heap 𝓤) (A : Atoms.Atoms 𝓤) → Kit.Given 𝓤 H A → KValue.ValuedLaws 𝓤 H A kind0
-kind0-laws = λ M 𝓤 H A W. record { copies = Laws'8.copy Where.the-type Laws'7.the-copy 𝓤 H A W; lawful = Laws'8.lawful Where.the-type Laws'7.the-laws 𝓤 H A W tt; makes = Laws'8.makes Where.the-type Laws'7.the-plain 𝓤 H A; in-mem = RLocal.mem-whole 𝓤 H A W (Declared.row Where.the-type); of-mem = RLocal.whole-mem 𝓤 H A W (Declared.row Where.the-type) }
+kind0-laws = λ M 𝓤 H A W. record { copies = Laws'8.copy Where.the-type Laws'6.the-copy 𝓤 H A W; lawful = Laws'8.lawful Where.the-type Laws'6.the-laws 𝓤 H A W tt; makes = Laws'8.makes Where.the-type Laws'6.the-plain 𝓤 H A; in-mem = RLocal.mem-whole 𝓤 H A W (Declared.row Where.the-type); of-mem = RLocal.whole-mem 𝓤 H A W (Declared.row Where.the-type) }
 
 abbrev kind1 : KValue.Valued
 kind1 = record { ty = Declared'.row Below.the-type; one = Path'.refl; val = Laws'10.val Below.the-type Laws.the-laws; tells = Laws'10.tells Below.the-type Laws.the-laws; still = Laws'10.still Below.the-type Laws.the-copy Exit.yes; row = Rows'.whole (Declared'.row Below.the-type); rd = λ x. x; mk = λ x. x }
@@ -130,28 +130,28 @@ abbrev kind1-laws : (M : Type 1) (𝓤 : URA.URA M) (H : Wp.Heap 𝓤) (A : Atom
 kind1-laws = λ M 𝓤 H A W. record { copies = Laws'10.copy Below.the-type Laws.the-copy 𝓤 H A W; lawful = Laws'10.lawful Below.the-type Laws.the-laws 𝓤 H A W; makes = Laws'10.makes Below.the-type Laws.the-plain 𝓤 H A; in-mem = RLocal.mem-whole 𝓤 H A W (Declared'.row Below.the-type); of-mem = RLocal.whole-mem 𝓤 H A W (Declared'.row Below.the-type) }
 
 abbrev kind2 : KValue.Valued
-kind2 = record { ty = Declared'.row Turn.the-type; one = Path'.refl; val = Laws'10.val Turn.the-type Laws'.the-laws; tells = Laws'10.tells Turn.the-type Laws'.the-laws; still = Laws'10.still Turn.the-type Laws'.the-copy Exit.yes; row = Rows'.whole (Declared'.row Turn.the-type); rd = λ x. x; mk = λ x. x }
+kind2 = record { ty = Declared'.row Turn.the-type; one = Path'.refl; val = Laws'10.val Turn.the-type Laws'7.the-laws; tells = Laws'10.tells Turn.the-type Laws'7.the-laws; still = Laws'10.still Turn.the-type Laws'7.the-copy Exit.yes; row = Rows'.whole (Declared'.row Turn.the-type); rd = λ x. x; mk = λ x. x }
 
 abbrev kind2-laws : (M : Type 1) (𝓤 : URA.URA M) (H : Wp.Heap 𝓤) (A : Atoms.Atoms 𝓤) → Kit.Given 𝓤 H A → KValue.ValuedLaws 𝓤 H A kind2
-kind2-laws = λ M 𝓤 H A W. record { copies = Laws'10.copy Turn.the-type Laws'.the-copy 𝓤 H A W; lawful = Laws'10.lawful Turn.the-type Laws'.the-laws 𝓤 H A W; makes = Laws'10.makes Turn.the-type Laws'.the-plain 𝓤 H A; in-mem = RLocal.mem-whole 𝓤 H A W (Declared'.row Turn.the-type); of-mem = RLocal.whole-mem 𝓤 H A W (Declared'.row Turn.the-type) }
+kind2-laws = λ M 𝓤 H A W. record { copies = Laws'10.copy Turn.the-type Laws'7.the-copy 𝓤 H A W; lawful = Laws'10.lawful Turn.the-type Laws'7.the-laws 𝓤 H A W; makes = Laws'10.makes Turn.the-type Laws'7.the-plain 𝓤 H A; in-mem = RLocal.mem-whole 𝓤 H A W (Declared'.row Turn.the-type); of-mem = RLocal.whole-mem 𝓤 H A W (Declared'.row Turn.the-type) }
 
 abbrev kind3 : KValue.Valued
-kind3 = record { ty = Declared.row Saying.the-type; one = Path'.refl; val = Laws'8.val Saying.the-type Laws'5.the-laws; tells = Laws'8.tells Saying.the-type Laws'5.the-laws; still = Laws'8.still Saying.the-type Laws'5.the-copy Exit.yes; row = Rows'.whole (Declared.row Saying.the-type); rd = λ x. x; mk = λ x. x }
+kind3 = record { ty = Declared.row Saying.the-type; one = Path'.refl; val = Laws'8.val Saying.the-type Laws'4.the-laws; tells = Laws'8.tells Saying.the-type Laws'4.the-laws; still = Laws'8.still Saying.the-type Laws'4.the-copy Exit.yes; row = Rows'.whole (Declared.row Saying.the-type); rd = λ x. x; mk = λ x. x }
 
 abbrev kind3-laws : (M : Type 1) (𝓤 : URA.URA M) (H : Wp.Heap 𝓤) (A : Atoms.Atoms 𝓤) → Kit.Given 𝓤 H A → KValue.ValuedLaws 𝓤 H A kind3
-kind3-laws = λ M 𝓤 H A W. record { copies = Laws'8.copy Saying.the-type Laws'5.the-copy 𝓤 H A W; lawful = Laws'8.lawful Saying.the-type Laws'5.the-laws 𝓤 H A W tt; makes = Laws'8.makes Saying.the-type Laws'5.the-plain 𝓤 H A; in-mem = RLocal.mem-whole 𝓤 H A W (Declared.row Saying.the-type); of-mem = RLocal.whole-mem 𝓤 H A W (Declared.row Saying.the-type) }
+kind3-laws = λ M 𝓤 H A W. record { copies = Laws'8.copy Saying.the-type Laws'4.the-copy 𝓤 H A W; lawful = Laws'8.lawful Saying.the-type Laws'4.the-laws 𝓤 H A W tt; makes = Laws'8.makes Saying.the-type Laws'4.the-plain 𝓤 H A; in-mem = RLocal.mem-whole 𝓤 H A W (Declared.row Saying.the-type); of-mem = RLocal.whole-mem 𝓤 H A W (Declared.row Saying.the-type) }
 
 abbrev kind4 : KValue.Valued
-kind4 = record { ty = Declared.row Expect.the-type; one = Path'.refl; val = Laws'8.val Expect.the-type Laws''.the-laws; tells = Laws'8.tells Expect.the-type Laws''.the-laws; still = Laws'8.still Expect.the-type Laws''.the-copy Exit.yes; row = Rows'.whole (Declared.row Expect.the-type); rd = λ x. x; mk = λ x. x }
+kind4 = record { ty = Declared.row Expect.the-type; one = Path'.refl; val = Laws'8.val Expect.the-type Laws'.the-laws; tells = Laws'8.tells Expect.the-type Laws'.the-laws; still = Laws'8.still Expect.the-type Laws'.the-copy Exit.yes; row = Rows'.whole (Declared.row Expect.the-type); rd = λ x. x; mk = λ x. x }
 
 abbrev kind4-laws : (M : Type 1) (𝓤 : URA.URA M) (H : Wp.Heap 𝓤) (A : Atoms.Atoms 𝓤) → Kit.Given 𝓤 H A → KValue.ValuedLaws 𝓤 H A kind4
-kind4-laws = λ M 𝓤 H A W. record { copies = Laws'8.copy Expect.the-type Laws''.the-copy 𝓤 H A W; lawful = Laws'8.lawful Expect.the-type Laws''.the-laws 𝓤 H A W tt; makes = Laws'8.makes Expect.the-type Laws''.the-plain 𝓤 H A; in-mem = RLocal.mem-whole 𝓤 H A W (Declared.row Expect.the-type); of-mem = RLocal.whole-mem 𝓤 H A W (Declared.row Expect.the-type) }
+kind4-laws = λ M 𝓤 H A W. record { copies = Laws'8.copy Expect.the-type Laws'.the-copy 𝓤 H A W; lawful = Laws'8.lawful Expect.the-type Laws'.the-laws 𝓤 H A W tt; makes = Laws'8.makes Expect.the-type Laws'.the-plain 𝓤 H A; in-mem = RLocal.mem-whole 𝓤 H A W (Declared.row Expect.the-type); of-mem = RLocal.whole-mem 𝓤 H A W (Declared.row Expect.the-type) }
 
 abbrev kind5 : KValue.Valued
-kind5 = record { ty = Declared'.row Opening.the-type; one = Path'.refl; val = Laws'10.val Opening.the-type Laws'3.the-laws; tells = Laws'10.tells Opening.the-type Laws'3.the-laws; still = Laws'10.still Opening.the-type Laws'3.the-copy Exit.yes; row = Rows'.whole (Declared'.row Opening.the-type); rd = λ x. x; mk = λ x. x }
+kind5 = record { ty = Declared'.row Opening.the-type; one = Path'.refl; val = Laws'10.val Opening.the-type Laws''.the-laws; tells = Laws'10.tells Opening.the-type Laws''.the-laws; still = Laws'10.still Opening.the-type Laws''.the-copy Exit.yes; row = Rows'.whole (Declared'.row Opening.the-type); rd = λ x. x; mk = λ x. x }
 
 abbrev kind5-laws : (M : Type 1) (𝓤 : URA.URA M) (H : Wp.Heap 𝓤) (A : Atoms.Atoms 𝓤) → Kit.Given 𝓤 H A → KValue.ValuedLaws 𝓤 H A kind5
-kind5-laws = λ M 𝓤 H A W. record { copies = Laws'10.copy Opening.the-type Laws'3.the-copy 𝓤 H A W; lawful = Laws'10.lawful Opening.the-type Laws'3.the-laws 𝓤 H A W; makes = Laws'10.makes Opening.the-type Laws'3.the-plain 𝓤 H A; in-mem = RLocal.mem-whole 𝓤 H A W (Declared'.row Opening.the-type); of-mem = RLocal.whole-mem 𝓤 H A W (Declared'.row Opening.the-type) }
+kind5-laws = λ M 𝓤 H A W. record { copies = Laws'10.copy Opening.the-type Laws''.the-copy 𝓤 H A W; lawful = Laws'10.lawful Opening.the-type Laws''.the-laws 𝓤 H A W; makes = Laws'10.makes Opening.the-type Laws''.the-plain 𝓤 H A; in-mem = RLocal.mem-whole 𝓤 H A W (Declared'.row Opening.the-type); of-mem = RLocal.whole-mem 𝓤 H A W (Declared'.row Opening.the-type) }
 
 abbrev pub ps : List.List (Kinds.PK 6)
 ps = List._∷_ (ShrSlice.pShrS (TReferent.rtF (TReferent.fInt Syntax.w8)) 0 tt) (List._∷_ (ShrSlice.pShrS KeptElem.R 1 tt) (List._∷_ (Num.pNum Syntax.w64) (List._∷_ (Num.pNum Syntax.w64) (List._∷_ (KValue.pVal kind0 kind0-laws) (List._∷_ (MutSlice.pMutS (TReferent.rtF (TReferent.fInt Syntax.w64)) 2 tt) (List._∷_ (MutSlice.pMutS (TReferent.rtF (TReferent.fInt Syntax.w64)) 3 tt) (List._∷_ Bool.pBool (List._∷_ (MutSlice.pMutS (DArray.Array (TReferent.rtF (TReferent.fInt Syntax.w64)) 2) 4 tt) (List._∷_ (Num.pNum Syntax.w64) (List._∷_ (MutSlice.pMutS ExpectationElem.R 5 tt) (List._∷_ (Num.pNum Syntax.w64) List.[])))))))))))
@@ -241,7 +241,7 @@ abbrev b9 : Syntax.Body
 b9 = Syntax.cond (Syntax.copy (Syntax.place 27 List.[])) b7 b8
 
 abbrev b10 : Syntax.Body
-b10 = Syntax.call "kept::look" (List._∷_ (Syntax.copy (Syntax.place 1 List.[])) (List._∷_ (Syntax.copy (Syntax.place 2 List.[])) (List._∷_ (Syntax.copy (Syntax.place 13 List.[])) (List._∷_ (Syntax.copy (Syntax.place 14 List.[])) (List._∷_ (Syntax.copy (Syntax.place 15 List.[])) List.[]))))) (Syntax.place 18 List.[])
+b10 = Syntax.call "turns::look" (List._∷_ (Syntax.copy (Syntax.place 1 List.[])) (List._∷_ (Syntax.copy (Syntax.place 2 List.[])) (List._∷_ (Syntax.copy (Syntax.place 13 List.[])) (List._∷_ (Syntax.copy (Syntax.place 14 List.[])) (List._∷_ (Syntax.copy (Syntax.place 15 List.[])) List.[]))))) (Syntax.place 18 List.[])
 
 abbrev b11 : Syntax.Body
 b11 = Syntax.assign (Syntax.place 19 List.[]) (Syntax.rvOpd (Syntax.copy (Syntax.place 18 (List._∷_ (Syntax.field 0) List.[]))))
@@ -1079,7 +1079,7 @@ module _ (claims· : Claims) where
   s24 = λ bs. Known.k-enum-known Role.enum 1 T25 20 λ x. x
 
   abbrev s25 : (bs : List.List Nat.ℕ) → Typed.Gives T29 T30
-  s25 = λ bs. Known.k-known-told Role.enum Laws'4.the-laws 1 T29 20 λ x. x
+  s25 = λ bs. Known.k-known-told Role.enum Laws'3.the-laws 1 T29 20 λ x. x
 
   abbrev s26 : (bs : List.List Nat.ℕ) → Typed.Mo T30 → Typed.Mo T31
   s26 = λ bs. RScalar.n-room T30 14 (Syntax.tyInt Syntax.w64)
@@ -1145,7 +1145,7 @@ module _ (claims· : Claims) where
   s55 = λ bs. Known.k-enum-known Role.enum 2 T25 20 λ x. x
 
   abbrev s56 : (bs : List.List Nat.ℕ) → Typed.Gives T60 T61
-  s56 = λ bs. Known.k-known-told Role.enum Laws'4.the-laws 2 T60 20 λ x. x
+  s56 = λ bs. Known.k-known-told Role.enum Laws'3.the-laws 2 T60 20 λ x. x
 
   abbrev s57 : (bs : List.List Nat.ℕ) → Typed.Mo T61 → Typed.Mo T62
   s57 = λ bs. RScalar.n-room T61 14 (Syntax.tyInt Syntax.w64)
@@ -1193,7 +1193,7 @@ module _ (claims· : Claims) where
   s74 = λ bs. Known.k-enum-known Role.enum 3 T25 20 λ x. x
 
   abbrev s75 : (bs : List.List Nat.ℕ) → Typed.Gives T79 T80
-  s75 = λ bs. Known.k-known-told Role.enum Laws'4.the-laws 3 T79 20 λ x. x
+  s75 = λ bs. Known.k-known-told Role.enum Laws'3.the-laws 3 T79 20 λ x. x
 
   abbrev s76 : (bs : List.List Nat.ℕ) → Typed.Mo T80 → Typed.Mo T81
   s76 = λ bs. Make.n-make (Declared'.row Opening.the-type) T80 25 λ m. m .1 .1 .1 .1 .1 .1 .1 .1 .1 .1 .1 .1 .1 .1 .1 .1 .1 .1 .1 .1 .0 .0
@@ -1256,7 +1256,7 @@ module _ (claims· : Claims) where
   s95 = λ bs. RScalar.n-room T99 21 τ0
 
   abbrev s96 : (bs : List.List Nat.ℕ) → Typed.Mo T100 → Typed.Mo T101
-  s96 = λ bs. RScalar.n-use T100 (RScalar.oFld 18 (List._∷_ (Syntax.field 1) List.[]) (Syntax.tyInt Syntax.w64) 72 (Reads.fieldV Turn.the-type Laws'.the-laws 1)) 14 (Rows'.sc-here (Row.sInt Syntax.w64)) (Row.sInt Syntax.w64 .of)
+  s96 = λ bs. RScalar.n-use T100 (RScalar.oFld 18 (List._∷_ (Syntax.field 1) List.[]) (Syntax.tyInt Syntax.w64) 72 (Reads.fieldV Turn.the-type Laws'7.the-laws 1)) 14 (Rows'.sc-here (Row.sInt Syntax.w64)) (Row.sInt Syntax.w64 .of)
 
   abbrev s97 : (bs : List.List Nat.ℕ) → Typed.Mo T101 → Typed.Mo T102
   s97 = λ bs. RScalar.n-room T101 18 τ1
@@ -1300,7 +1300,7 @@ module _ (claims· : Claims) where
   module _ (Pre· : (κs : Lifetimes.Lfts 6) → Kinds.Dens κs ps → Type 0) (Post· : (κs : Lifetimes.Lfts 6) → (a : Kinds.Dens κs ps) → Kinds.Plain 6 ps r κs) where
     module _ (M : Type 1) where
       abbrev pub Closed : Type 2
-      Closed = (𝓤 : URA.URA M) (H : Wp.Heap 𝓤) (A : Atoms.Atoms 𝓤) (W : Kit.Given 𝓤 H A) (𝓣 : Wp.Tables 𝓤 H) (known0 : Plain.Known 𝓤 H A W 𝓣 2 ps·0 r·0 (claims· .0) (claims· .1) "kept::look") (known1 : Plain.Known 𝓤 H A W 𝓣 3 ps·1 r·1 (claims· .2) (claims· .3) "says::say") (known2 : Plain.Known 𝓤 H A W 𝓣 0 ps·2 r·2 (claims· .4) (claims· .5) "below::lines::expectation_of") (known3 : Plain.Known 𝓤 H A W 𝓣 1 ps·3 r·3 (claims· .6) (claims· .7) "slots::put_expectation") (known4 : Plain.Known 𝓤 H A W 𝓣 0 ps·4 r·4 (claims· .8) (claims· .9) "below::lines::at_opening") (known5 : Plain.Known 𝓤 H A W 𝓣 0 ps·5 r·5 (claims· .10) (claims· .11) "roles::steps::same_place") (known6 : Plain.Known 𝓤 H A W 𝓣 0 ps·6 r·6 (claims· .12) (claims· .13) "below::lines::at_end") → Statement.Triple 𝓤 (Wp.WpFn 𝓤 H (𝓣 .C) (𝓣 .Λ) (Function.fnOf 6 ps r xs m hs body)) (Function.plainOf 𝓤 H A 6 ps r Pre· Post·)
+      Closed = (𝓤 : URA.URA M) (H : Wp.Heap 𝓤) (A : Atoms.Atoms 𝓤) (W : Kit.Given 𝓤 H A) (𝓣 : Wp.Tables 𝓤 H) (known0 : Plain.Known 𝓤 H A W 𝓣 2 ps·0 r·0 (claims· .0) (claims· .1) "turns::look") (known1 : Plain.Known 𝓤 H A W 𝓣 3 ps·1 r·1 (claims· .2) (claims· .3) "says::say") (known2 : Plain.Known 𝓤 H A W 𝓣 0 ps·2 r·2 (claims· .4) (claims· .5) "below::lines::expectation_of") (known3 : Plain.Known 𝓤 H A W 𝓣 1 ps·3 r·3 (claims· .6) (claims· .7) "slots::put_expectation") (known4 : Plain.Known 𝓤 H A W 𝓣 0 ps·4 r·4 (claims· .8) (claims· .9) "below::lines::at_opening") (known5 : Plain.Known 𝓤 H A W 𝓣 0 ps·5 r·5 (claims· .10) (claims· .11) "roles::steps::same_place") (known6 : Plain.Known 𝓤 H A W 𝓣 0 ps·6 r·6 (claims· .12) (claims· .13) "below::lines::at_end") → Statement.Triple 𝓤 (Wp.WpFn 𝓤 H (𝓣 .C) (𝓣 .Λ) (Function.fnOf 6 ps r xs m hs body)) (Function.plainOf 𝓤 H A 6 ps r Pre· Post·)
 
     module _ (Inv·0 : InvT-loop) (μ·0 : MeasureT-loop) where
       abbrev at0 : (bs : List.List Nat.ℕ) → Typed.TF T16 O4
@@ -1671,7 +1671,7 @@ module _ (claims· : Claims) where
 
       module _ {M : Type 1} (𝓤 : URA.URA M) (H : Wp.Heap 𝓤) (A : Atoms.Atoms 𝓤) (W : Kit.Given 𝓤 H A) (𝓣 : Wp.Tables 𝓤 H) where
         abbrev Knowns : Type 1
-        Knowns = Plain.Known 𝓤 H A W 𝓣 2 ps·0 r·0 (claims· .0) (claims· .1) "kept::look" × Plain.Known 𝓤 H A W 𝓣 3 ps·1 r·1 (claims· .2) (claims· .3) "says::say" × Plain.Known 𝓤 H A W 𝓣 0 ps·2 r·2 (claims· .4) (claims· .5) "below::lines::expectation_of" × Plain.Known 𝓤 H A W 𝓣 1 ps·3 r·3 (claims· .6) (claims· .7) "slots::put_expectation" × Plain.Known 𝓤 H A W 𝓣 0 ps·4 r·4 (claims· .8) (claims· .9) "below::lines::at_opening" × Plain.Known 𝓤 H A W 𝓣 0 ps·5 r·5 (claims· .10) (claims· .11) "roles::steps::same_place" × Plain.Known 𝓤 H A W 𝓣 0 ps·6 r·6 (claims· .12) (claims· .13) "below::lines::at_end"
+        Knowns = Plain.Known 𝓤 H A W 𝓣 2 ps·0 r·0 (claims· .0) (claims· .1) "turns::look" × Plain.Known 𝓤 H A W 𝓣 3 ps·1 r·1 (claims· .2) (claims· .3) "says::say" × Plain.Known 𝓤 H A W 𝓣 0 ps·2 r·2 (claims· .4) (claims· .5) "below::lines::expectation_of" × Plain.Known 𝓤 H A W 𝓣 1 ps·3 r·3 (claims· .6) (claims· .7) "slots::put_expectation" × Plain.Known 𝓤 H A W 𝓣 0 ps·4 r·4 (claims· .8) (claims· .9) "below::lines::at_opening" × Plain.Known 𝓤 H A W 𝓣 0 ps·5 r·5 (claims· .10) (claims· .11) "roles::steps::same_place" × Plain.Known 𝓤 H A W 𝓣 0 ps·6 r·6 (claims· .12) (claims· .13) "below::lines::at_end"
 
       module _ (κs : Lifetimes.Lfts 6) (qs : Lifetimes.Shares 6) where
         abbrev g24 : List.List Row.Entry
@@ -2132,7 +2132,7 @@ module _ (claims· : Claims) where
           d24 = Typed.g-pre 𝓤 H A W 𝓣 E G44 G45 b24 Δ5 (Typed.pass T44 T45 (s40 bs)) (at23 bs) (RScalar.g-room 𝓤 H A W E G44 22 τ4 (RLocal.room-whole 𝓤 H A W (Declared.row Saying.the-type) τ4 Path'.refl)) d23
 
           d25 : Typed.Typed 𝓤 H A 𝓣 E G43 b25 Δ5 (at25 bs)
-          d25 = Typed.s-seq 𝓤 H A W 𝓣 E G43 G44 b23 b24 Δ5 (Typed.both (s39 bs)) (at24 bs) (Plain.t-call-plain 𝓤 H A W 𝓣 3 ps·1 r·1 (claims· .2) (claims· .3) "says::say" (known .1) E (λ pos β. β) G43 (record { pos = 22; st = List.[]; d = 0; at = λ x. x }, (record { pos = 30; ty = Syntax.tyRef Syntax.erased Syntax.mut (Syntax.tyInt Syntax.w64); ref = λ x. x }, (record { pos = 32; ty = Syntax.tyRef Syntax.erased Syntax.mut (Syntax.tyInt Syntax.w64); ref = λ x. x }, (Bool.bAt 8 λ x. x, (record { pos = 34; ty = Syntax.tyRef Syntax.erased Syntax.mut (Syntax.tyArray (Syntax.tyInt Syntax.w64) 2); ref = λ x. x }, (Num.vAt 35 λ x. x, tt)))))) 28 (List._∷_ 6 (List._∷_ 7 (List._∷_ 8 List.[]))) (Call.sub-id 𝓤 H A W (G43 .slots)) ((Yields.yields-copy 𝓤 H A W (λ ρ. Unit) (Declared.row Saying.the-type) Path'.refl (TCopies.cEnum Saying.the-type Laws'5.the-laws Laws'5.the-copy .copy 𝓤 H A W) (Rows'.whole (Declared.row Saying.the-type)) (λ x. x) (λ x. x) (λ ρ told. RLocal.mem-whole 𝓤 H A W (Declared.row Saying.the-type) ρ) λ ρ told. RLocal.whole-mem 𝓤 H A W (Declared.row Saying.the-type) ρ, Path'.refl), (Reads'.as-is 𝓤 H A (Mut.mslice (TReferent.rtF (TReferent.fInt Syntax.w64)) (Syntax.tyRef Syntax.erased Syntax.mut (Syntax.tyInt Syntax.w64)) 6), Mut.reads-mslice 𝓤 H A W (TReferent.rtF (TReferent.fInt Syntax.w64)) (Syntax.tyRef Syntax.erased Syntax.mut (Syntax.tyInt Syntax.w64)) 6, Path'.refl, (Reads'.as-is 𝓤 H A (Mut.mslice (TReferent.rtF (TReferent.fInt Syntax.w64)) (Syntax.tyRef Syntax.erased Syntax.mut (Syntax.tyInt Syntax.w64)) 7), Mut.reads-mslice 𝓤 H A W (TReferent.rtF (TReferent.fInt Syntax.w64)) (Syntax.tyRef Syntax.erased Syntax.mut (Syntax.tyInt Syntax.w64)) 7, Path'.refl, ((RScalar.reads-sc 𝓤 H A W Row.sBool, Path'.refl), (Reads'.as-is 𝓤 H A (Mut.mslice (DArray.Array (TReferent.rtF (TReferent.fInt Syntax.w64)) 2) (Syntax.tyRef Syntax.erased Syntax.mut (Syntax.tyArray (Syntax.tyInt Syntax.w64) 2)) 8), Mut.reads-mslice 𝓤 H A W (DArray.Array (TReferent.rtF (TReferent.fInt Syntax.w64)) 2) (Syntax.tyRef Syntax.erased Syntax.mut (Syntax.tyArray (Syntax.tyInt Syntax.w64) 2)) 8, Path'.refl, ((RScalar.reads-sc 𝓤 H A W (Row.sInt Syntax.w64), Path'.refl), tt)))))) (Reads'.room-gone 𝓤 H A (Syntax.tyInt Syntax.w64)) (tt, (tt, (tt, tt))) Path'.refl) d24
+          d25 = Typed.s-seq 𝓤 H A W 𝓣 E G43 G44 b23 b24 Δ5 (Typed.both (s39 bs)) (at24 bs) (Plain.t-call-plain 𝓤 H A W 𝓣 3 ps·1 r·1 (claims· .2) (claims· .3) "says::say" (known .1) E (λ pos β. β) G43 (record { pos = 22; st = List.[]; d = 0; at = λ x. x }, (record { pos = 30; ty = Syntax.tyRef Syntax.erased Syntax.mut (Syntax.tyInt Syntax.w64); ref = λ x. x }, (record { pos = 32; ty = Syntax.tyRef Syntax.erased Syntax.mut (Syntax.tyInt Syntax.w64); ref = λ x. x }, (Bool.bAt 8 λ x. x, (record { pos = 34; ty = Syntax.tyRef Syntax.erased Syntax.mut (Syntax.tyArray (Syntax.tyInt Syntax.w64) 2); ref = λ x. x }, (Num.vAt 35 λ x. x, tt)))))) 28 (List._∷_ 6 (List._∷_ 7 (List._∷_ 8 List.[]))) (Call.sub-id 𝓤 H A W (G43 .slots)) ((Yields.yields-copy 𝓤 H A W (λ ρ. Unit) (Declared.row Saying.the-type) Path'.refl (TCopies.cEnum Saying.the-type Laws'4.the-laws Laws'4.the-copy .copy 𝓤 H A W) (Rows'.whole (Declared.row Saying.the-type)) (λ x. x) (λ x. x) (λ ρ told. RLocal.mem-whole 𝓤 H A W (Declared.row Saying.the-type) ρ) λ ρ told. RLocal.whole-mem 𝓤 H A W (Declared.row Saying.the-type) ρ, Path'.refl), (Reads'.as-is 𝓤 H A (Mut.mslice (TReferent.rtF (TReferent.fInt Syntax.w64)) (Syntax.tyRef Syntax.erased Syntax.mut (Syntax.tyInt Syntax.w64)) 6), Mut.reads-mslice 𝓤 H A W (TReferent.rtF (TReferent.fInt Syntax.w64)) (Syntax.tyRef Syntax.erased Syntax.mut (Syntax.tyInt Syntax.w64)) 6, Path'.refl, (Reads'.as-is 𝓤 H A (Mut.mslice (TReferent.rtF (TReferent.fInt Syntax.w64)) (Syntax.tyRef Syntax.erased Syntax.mut (Syntax.tyInt Syntax.w64)) 7), Mut.reads-mslice 𝓤 H A W (TReferent.rtF (TReferent.fInt Syntax.w64)) (Syntax.tyRef Syntax.erased Syntax.mut (Syntax.tyInt Syntax.w64)) 7, Path'.refl, ((RScalar.reads-sc 𝓤 H A W Row.sBool, Path'.refl), (Reads'.as-is 𝓤 H A (Mut.mslice (DArray.Array (TReferent.rtF (TReferent.fInt Syntax.w64)) 2) (Syntax.tyRef Syntax.erased Syntax.mut (Syntax.tyArray (Syntax.tyInt Syntax.w64) 2)) 8), Mut.reads-mslice 𝓤 H A W (DArray.Array (TReferent.rtF (TReferent.fInt Syntax.w64)) 2) (Syntax.tyRef Syntax.erased Syntax.mut (Syntax.tyArray (Syntax.tyInt Syntax.w64) 2)) 8, Path'.refl, ((RScalar.reads-sc 𝓤 H A W (Row.sInt Syntax.w64), Path'.refl), tt)))))) (Reads'.room-gone 𝓤 H A (Syntax.tyInt Syntax.w64)) (tt, (tt, (tt, tt))) Path'.refl) d24
 
           d26 : Typed.Typed 𝓤 H A 𝓣 E G42 b26 Δ5 (at26 bs)
           d26 = Typed.s-seq 𝓤 H A W 𝓣 E G42 G43 b22 b25 Δ5 (Typed.ask (s38 bs)) (at25 bs) (RScalar.t-op2 𝓤 H A W E 𝓣 G42 (Syntax.add Syntax.unsigned) (RScalar.oAt 10 (Syntax.tyInt Syntax.w64) (Row.valS (Row.sInt Syntax.w64))) (RScalar.oAt 16 (Syntax.tyInt Syntax.w64) (Row.valS (Row.sInt Syntax.w64))) 35 (Rows'.sc-here (Row.sInt Syntax.w64)) (Syntax.tyInt Syntax.w64) (Row.valS (Row.sInt Syntax.w64)) (Row.sInt Syntax.w64 .of) (RScalar.reads-sc 𝓤 H A W (Row.sInt Syntax.w64), Path'.refl) (RScalar.reads-sc 𝓤 H A W (Row.sInt Syntax.w64), Path'.refl) (Reads'.room-gone 𝓤 H A (Syntax.tyInt Syntax.w64)) (RScalar.holds-sc 𝓤 H A W (Row.sInt Syntax.w64)) Path'.refl (λ u. Path'.refl) λ u. tt) d25
@@ -2168,13 +2168,13 @@ module _ (claims· : Claims) where
           d36 = Typed.g-pre 𝓤 H A W 𝓣 E G32 G33 b32 Δ5 (Typed.pass T32 T33 (s28 bs)) (at35 bs) (RScalar.g-room 𝓤 H A W E G32 20 τ3 (RLocal.room-whole 𝓤 H A W (Known.Known Role.enum 1) τ3 Path'.refl)) d35
 
           d37 : Typed.Typed 𝓤 H A 𝓣 E G31 b33 Δ5 (at37 bs)
-          d37 = Typed.s-seq 𝓤 H A W 𝓣 E G31 G32 b15 b32 Δ5 (Typed.pass T31 T32 (s27 bs)) (at36 bs) (CopyOut.t-copy-told 𝓤 H A W E 𝓣 (Declared.row Saying.the-type) Path'.refl (Laws'8.val Saying.the-type Laws'5.the-laws) (Laws'8.lawful Saying.the-type Laws'5.the-laws 𝓤 H A W tt) (Laws'8.makes Saying.the-type Laws'5.the-plain 𝓤 H A) G31 22 (RScalar.oFld 20 (List._∷_ (Syntax.variant 1) (List._∷_ (Syntax.field 1) List.[])) τ4 8 λ v. Laws'8.val Saying.the-type Laws'5.the-laws (v .0)) (λ m. m .1 .1 .1 .1 .1 .1 .1 .1 .1 .1 .1 .1 .1 .1 .1 .1 .1 .1 .1 .1 .0 .0) (λ m. Laws'8.Fields (Declared.variants Role.the-type) (Laws'8.spellss (Role.enum .parts) Laws'4.the-laws) (Role.the-type .to (Known.at Role.enum 1 (m .1 .1 .1 .1 .1 .1 .1 .1 .1 .1 .1 .1 .1 .1 .1 .1 .1 .1 .1 .1 .0)))) (Reads'.room-gone 𝓤 H A τ4) (Match.reads-payload 𝓤 H A W Role.enum Laws'4.the-laws 1 Path'.refl Path'.refl (λ v. Val.vcons (Laws'8.val Saying.the-type Laws'5.the-laws (v .0)) Val.vnil) (λ v. Path'.refl) 0 τ4 8 Path'.refl, Path'.refl) Path'.refl (λ ρ m. Make.tells-row 𝓤 H A W E ρ (Row.out 22 (G31 .locals)) m 20 (Laws'8.Fields (Declared.variants Role.the-type) (Laws'8.spellss (Role.enum .parts) Laws'4.the-laws) (Role.the-type .to (Known.at Role.enum 1 (m .1 .1 .1 .1 .1 .1 .1 .1 .1 .1 .1 .1 .1 .1 .1 .1 .1 .1 .1 .1 .0)))) (Known.known-is 𝓤 H A W E Role.enum 1 Laws'4.the-laws ρ 20 (m .1 .1 .1 .1 .1 .1 .1 .1 .1 .1 .1 .1 .1 .1 .1 .1 .1 .1 .1 .1 .0))) (λ m k wa. Path'.refl) λ m k wa. k .0) d36
+          d37 = Typed.s-seq 𝓤 H A W 𝓣 E G31 G32 b15 b32 Δ5 (Typed.pass T31 T32 (s27 bs)) (at36 bs) (CopyOut.t-copy-told 𝓤 H A W E 𝓣 (Declared.row Saying.the-type) Path'.refl (Laws'8.val Saying.the-type Laws'4.the-laws) (Laws'8.lawful Saying.the-type Laws'4.the-laws 𝓤 H A W tt) (Laws'8.makes Saying.the-type Laws'4.the-plain 𝓤 H A) G31 22 (RScalar.oFld 20 (List._∷_ (Syntax.variant 1) (List._∷_ (Syntax.field 1) List.[])) τ4 8 λ v. Laws'8.val Saying.the-type Laws'4.the-laws (v .0)) (λ m. m .1 .1 .1 .1 .1 .1 .1 .1 .1 .1 .1 .1 .1 .1 .1 .1 .1 .1 .1 .1 .0 .0) (λ m. Laws'8.Fields (Declared.variants Role.the-type) (Laws'8.spellss (Role.enum .parts) Laws'3.the-laws) (Role.the-type .to (Known.at Role.enum 1 (m .1 .1 .1 .1 .1 .1 .1 .1 .1 .1 .1 .1 .1 .1 .1 .1 .1 .1 .1 .1 .0)))) (Reads'.room-gone 𝓤 H A τ4) (Match.reads-payload 𝓤 H A W Role.enum Laws'3.the-laws 1 Path'.refl Path'.refl (λ v. Val.vcons (Laws'8.val Saying.the-type Laws'4.the-laws (v .0)) Val.vnil) (λ v. Path'.refl) 0 τ4 8 Path'.refl, Path'.refl) Path'.refl (λ ρ m. Make.tells-row 𝓤 H A W E ρ (Row.out 22 (G31 .locals)) m 20 (Laws'8.Fields (Declared.variants Role.the-type) (Laws'8.spellss (Role.enum .parts) Laws'3.the-laws) (Role.the-type .to (Known.at Role.enum 1 (m .1 .1 .1 .1 .1 .1 .1 .1 .1 .1 .1 .1 .1 .1 .1 .1 .1 .1 .1 .1 .0)))) (Known.known-is 𝓤 H A W E Role.enum 1 Laws'3.the-laws ρ 20 (m .1 .1 .1 .1 .1 .1 .1 .1 .1 .1 .1 .1 .1 .1 .1 .1 .1 .1 .1 .1 .0))) (λ m k wa. Path'.refl) λ m k wa. k .0) d36
 
           d38 : Typed.Typed 𝓤 H A 𝓣 E G30 b33 Δ5 (at38 bs)
           d38 = Typed.g-pre 𝓤 H A W 𝓣 E G30 G31 b33 Δ5 (Typed.pass T30 T31 (s26 bs)) (at37 bs) (RScalar.g-room 𝓤 H A W E G30 14 (Syntax.tyInt Syntax.w64) (RScalar.room-sc 𝓤 H A W (Row.sInt Syntax.w64))) d37
 
           d39 : Typed.Typed 𝓤 H A 𝓣 E G29 b33 Δ5 (at39 bs)
-          d39 = Typed.g-pre 𝓤 H A W 𝓣 E G29 G30 b33 Δ5 (Typed.give (s25 bs)) (at38 bs) (Known.g-known-told 𝓤 H A W E Role.enum 1 G29 20 Laws'4.the-laws (λ x. x) (Reads'.as-is 𝓤 H A (Rows'.whole (Known.Known Role.enum 1)))) d38
+          d39 = Typed.g-pre 𝓤 H A W 𝓣 E G29 G30 b33 Δ5 (Typed.give (s25 bs)) (at38 bs) (Known.g-known-told 𝓤 H A W E Role.enum 1 G29 20 Laws'3.the-laws (λ x. x) (Reads'.as-is 𝓤 H A (Rows'.whole (Known.Known Role.enum 1)))) d38
 
           d40 : Typed.Typed 𝓤 H A 𝓣 E G25 b33 Δ5 (at40 bs)
           d40 = Typed.g-pre 𝓤 H A W 𝓣 E G25 G29 b33 Δ5 (Typed.both (s24 bs)) (at39 bs) (Known.g-enum-known 𝓤 H A W E Role.enum 1 G25 20 (λ x. x) (Reads'.as-is 𝓤 H A (Rows'.whole (Declared.row Role.the-type)))) d39
@@ -2219,19 +2219,19 @@ module _ (claims· : Claims) where
           d53 = Typed.g-pre 𝓤 H A W 𝓣 E G65 G66 b44 Δ5 (Typed.pass T65 T66 (s61 bs)) (at52 bs) (RScalar.g-room 𝓤 H A W E G65 23 τ5 (RLocal.room-whole 𝓤 H A W (Declared.row Expect.the-type) τ5 Path'.refl)) d52
 
           d54 : Typed.Typed 𝓤 H A 𝓣 E G64 b45 Δ5 (at54 bs)
-          d54 = Typed.s-seq 𝓤 H A W 𝓣 E G64 G65 b35 b44 Δ5 (Typed.both (s60 bs)) (at53 bs) (Plain.t-call-plain 𝓤 H A W 𝓣 0 ps·2 r·2 (claims· .4) (claims· .5) "below::lines::expectation_of" (known .2) E (λ pos β. β) G64 (Num.vAt 15 λ x. x, (record { pos = 23; st = List.[]; d = 0; at = λ x. x }, tt)) 24 List.[] (Call.sub-id 𝓤 H A W (G64 .slots)) ((RScalar.reads-sc 𝓤 H A W (Row.sInt Syntax.w64), Path'.refl), ((Yields.yields-copy 𝓤 H A W (λ ρ. Unit) (Declared.row Expect.the-type) Path'.refl (TCopies.cEnum Expect.the-type Laws''.the-laws Laws''.the-copy .copy 𝓤 H A W) (Rows'.whole (Declared.row Expect.the-type)) (λ x. x) (λ x. x) (λ ρ told. RLocal.mem-whole 𝓤 H A W (Declared.row Expect.the-type) ρ) λ ρ told. RLocal.whole-mem 𝓤 H A W (Declared.row Expect.the-type) ρ, Path'.refl), tt)) (Reads'.room-gone 𝓤 H A ExpectationElem.ty) tt Path'.refl) d53
+          d54 = Typed.s-seq 𝓤 H A W 𝓣 E G64 G65 b35 b44 Δ5 (Typed.both (s60 bs)) (at53 bs) (Plain.t-call-plain 𝓤 H A W 𝓣 0 ps·2 r·2 (claims· .4) (claims· .5) "below::lines::expectation_of" (known .2) E (λ pos β. β) G64 (Num.vAt 15 λ x. x, (record { pos = 23; st = List.[]; d = 0; at = λ x. x }, tt)) 24 List.[] (Call.sub-id 𝓤 H A W (G64 .slots)) ((RScalar.reads-sc 𝓤 H A W (Row.sInt Syntax.w64), Path'.refl), ((Yields.yields-copy 𝓤 H A W (λ ρ. Unit) (Declared.row Expect.the-type) Path'.refl (TCopies.cEnum Expect.the-type Laws'.the-laws Laws'.the-copy .copy 𝓤 H A W) (Rows'.whole (Declared.row Expect.the-type)) (λ x. x) (λ x. x) (λ ρ told. RLocal.mem-whole 𝓤 H A W (Declared.row Expect.the-type) ρ) λ ρ told. RLocal.whole-mem 𝓤 H A W (Declared.row Expect.the-type) ρ, Path'.refl), tt)) (Reads'.room-gone 𝓤 H A ExpectationElem.ty) tt Path'.refl) d53
 
           d55 : Typed.Typed 𝓤 H A 𝓣 E G63 b45 Δ5 (at55 bs)
           d55 = Typed.g-pre 𝓤 H A W 𝓣 E G63 G64 b45 Δ5 (Typed.pass T63 T64 (s59 bs)) (at54 bs) (RScalar.g-room 𝓤 H A W E G63 20 τ3 (RLocal.room-whole 𝓤 H A W (Known.Known Role.enum 2) τ3 Path'.refl)) d54
 
           d56 : Typed.Typed 𝓤 H A 𝓣 E G62 b46 Δ5 (at56 bs)
-          d56 = Typed.s-seq 𝓤 H A W 𝓣 E G62 G63 b34 b45 Δ5 (Typed.pass T62 T63 (s58 bs)) (at55 bs) (CopyOut.t-copy-told 𝓤 H A W E 𝓣 (Declared.row Expect.the-type) Path'.refl (Laws'8.val Expect.the-type Laws''.the-laws) (Laws'8.lawful Expect.the-type Laws''.the-laws 𝓤 H A W tt) (Laws'8.makes Expect.the-type Laws''.the-plain 𝓤 H A) G62 23 (RScalar.oFld 20 (List._∷_ (Syntax.variant 2) (List._∷_ (Syntax.field 1) List.[])) τ5 8 λ v. Laws'8.val Expect.the-type Laws''.the-laws (v .0)) (λ m. m .1 .1 .1 .1 .1 .1 .1 .1 .1 .1 .1 .1 .1 .1 .1 .1 .1 .1 .1 .1 .0 .0) (λ m. Laws'8.Fields (Declared.variants Role.the-type) (Laws'8.spellss (Role.enum .parts) Laws'4.the-laws) (Role.the-type .to (Known.at Role.enum 2 (m .1 .1 .1 .1 .1 .1 .1 .1 .1 .1 .1 .1 .1 .1 .1 .1 .1 .1 .1 .1 .0)))) (Reads'.room-gone 𝓤 H A τ5) (Match.reads-payload 𝓤 H A W Role.enum Laws'4.the-laws 2 Path'.refl Path'.refl (λ v. Val.vcons (Laws'8.val Expect.the-type Laws''.the-laws (v .0)) Val.vnil) (λ v. Path'.refl) 0 τ5 8 Path'.refl, Path'.refl) Path'.refl (λ ρ m. Make.tells-row 𝓤 H A W E ρ (Row.out 23 (G62 .locals)) m 20 (Laws'8.Fields (Declared.variants Role.the-type) (Laws'8.spellss (Role.enum .parts) Laws'4.the-laws) (Role.the-type .to (Known.at Role.enum 2 (m .1 .1 .1 .1 .1 .1 .1 .1 .1 .1 .1 .1 .1 .1 .1 .1 .1 .1 .1 .1 .0)))) (Known.known-is 𝓤 H A W E Role.enum 2 Laws'4.the-laws ρ 20 (m .1 .1 .1 .1 .1 .1 .1 .1 .1 .1 .1 .1 .1 .1 .1 .1 .1 .1 .1 .1 .0))) (λ m k wa. Path'.refl) λ m k wa. k .0) d55
+          d56 = Typed.s-seq 𝓤 H A W 𝓣 E G62 G63 b34 b45 Δ5 (Typed.pass T62 T63 (s58 bs)) (at55 bs) (CopyOut.t-copy-told 𝓤 H A W E 𝓣 (Declared.row Expect.the-type) Path'.refl (Laws'8.val Expect.the-type Laws'.the-laws) (Laws'8.lawful Expect.the-type Laws'.the-laws 𝓤 H A W tt) (Laws'8.makes Expect.the-type Laws'.the-plain 𝓤 H A) G62 23 (RScalar.oFld 20 (List._∷_ (Syntax.variant 2) (List._∷_ (Syntax.field 1) List.[])) τ5 8 λ v. Laws'8.val Expect.the-type Laws'.the-laws (v .0)) (λ m. m .1 .1 .1 .1 .1 .1 .1 .1 .1 .1 .1 .1 .1 .1 .1 .1 .1 .1 .1 .1 .0 .0) (λ m. Laws'8.Fields (Declared.variants Role.the-type) (Laws'8.spellss (Role.enum .parts) Laws'3.the-laws) (Role.the-type .to (Known.at Role.enum 2 (m .1 .1 .1 .1 .1 .1 .1 .1 .1 .1 .1 .1 .1 .1 .1 .1 .1 .1 .1 .1 .0)))) (Reads'.room-gone 𝓤 H A τ5) (Match.reads-payload 𝓤 H A W Role.enum Laws'3.the-laws 2 Path'.refl Path'.refl (λ v. Val.vcons (Laws'8.val Expect.the-type Laws'.the-laws (v .0)) Val.vnil) (λ v. Path'.refl) 0 τ5 8 Path'.refl, Path'.refl) Path'.refl (λ ρ m. Make.tells-row 𝓤 H A W E ρ (Row.out 23 (G62 .locals)) m 20 (Laws'8.Fields (Declared.variants Role.the-type) (Laws'8.spellss (Role.enum .parts) Laws'3.the-laws) (Role.the-type .to (Known.at Role.enum 2 (m .1 .1 .1 .1 .1 .1 .1 .1 .1 .1 .1 .1 .1 .1 .1 .1 .1 .1 .1 .1 .0)))) (Known.known-is 𝓤 H A W E Role.enum 2 Laws'3.the-laws ρ 20 (m .1 .1 .1 .1 .1 .1 .1 .1 .1 .1 .1 .1 .1 .1 .1 .1 .1 .1 .1 .1 .0))) (λ m k wa. Path'.refl) λ m k wa. k .0) d55
 
           d57 : Typed.Typed 𝓤 H A 𝓣 E G61 b46 Δ5 (at57 bs)
           d57 = Typed.g-pre 𝓤 H A W 𝓣 E G61 G62 b46 Δ5 (Typed.pass T61 T62 (s57 bs)) (at56 bs) (RScalar.g-room 𝓤 H A W E G61 14 (Syntax.tyInt Syntax.w64) (RScalar.room-sc 𝓤 H A W (Row.sInt Syntax.w64))) d56
 
           d58 : Typed.Typed 𝓤 H A 𝓣 E G60 b46 Δ5 (at58 bs)
-          d58 = Typed.g-pre 𝓤 H A W 𝓣 E G60 G61 b46 Δ5 (Typed.give (s56 bs)) (at57 bs) (Known.g-known-told 𝓤 H A W E Role.enum 2 G60 20 Laws'4.the-laws (λ x. x) (Reads'.as-is 𝓤 H A (Rows'.whole (Known.Known Role.enum 2)))) d57
+          d58 = Typed.g-pre 𝓤 H A W 𝓣 E G60 G61 b46 Δ5 (Typed.give (s56 bs)) (at57 bs) (Known.g-known-told 𝓤 H A W E Role.enum 2 G60 20 Laws'3.the-laws (λ x. x) (Reads'.as-is 𝓤 H A (Rows'.whole (Known.Known Role.enum 2)))) d57
 
           d59 : Typed.Typed 𝓤 H A 𝓣 E G25 b46 Δ5 (at59 bs)
           d59 = Typed.g-pre 𝓤 H A W 𝓣 E G25 G60 b46 Δ5 (Typed.both (s55 bs)) (at58 bs) (Known.g-enum-known 𝓤 H A W E Role.enum 2 G25 20 (λ x. x) (Reads'.as-is 𝓤 H A (Rows'.whole (Declared.row Role.the-type)))) d58
@@ -2276,16 +2276,16 @@ module _ (claims· : Claims) where
           d72 = Typed.g-pre 𝓤 H A W 𝓣 E G83 G84 b49 Δ5 (Typed.pass T83 T84 (s79 bs)) (at71 bs) (RScalar.g-room 𝓤 H A W E G83 18 τ1 (RLocal.room-whole 𝓤 H A W (Declared'.row Turn.the-type) τ1 Path'.refl)) d71
 
           d73 : Typed.Typed 𝓤 H A 𝓣 E G82 b50 Δ5 (at73 bs)
-          d73 = Typed.s-seq 𝓤 H A W 𝓣 E G82 G83 b48 b49 Δ5 (Typed.both (s78 bs)) (at72 bs) (Plain.t-call-plain 𝓤 H A W 𝓣 0 ps·4 r·4 (claims· .8) (claims· .9) "below::lines::at_opening" (known .4) E (λ pos β. β) G82 (Num.vAt 16 λ x. x, (Num.vAt 17 λ x. x, (Num.vAt 15 λ x. x, (record { pos = 25; st = List.[]; d = 0; at = λ x. x }, (Num.vFld 18 (List._∷_ (Syntax.field 1) List.[]) 72 λ x. Turn.struct .as-values x .1 .0, (record { pos = 21; st = List.[]; d = 0; at = λ x. x }, tt)))))) 0 List.[] (Call.sub-id 𝓤 H A W (G82 .slots)) ((RScalar.reads-sc 𝓤 H A W (Row.sInt Syntax.w64), Path'.refl), ((RScalar.reads-sc 𝓤 H A W (Row.sInt Syntax.w64), Path'.refl), ((RScalar.reads-sc 𝓤 H A W (Row.sInt Syntax.w64), Path'.refl), ((Yields.yields-copy 𝓤 H A W (λ ρ. Unit) (Declared'.row Opening.the-type) Path'.refl (TCopies.cStruct Opening.the-type Laws'3.the-laws Laws'3.the-copy .copy 𝓤 H A W) (Rows'.whole (Declared'.row Opening.the-type)) (λ x. x) (λ x. x) (λ ρ told. RLocal.mem-whole 𝓤 H A W (Declared'.row Opening.the-type) ρ) λ ρ told. RLocal.whole-mem 𝓤 H A W (Declared'.row Opening.the-type) ρ, Path'.refl), ((Reads.reads-field 𝓤 H A W Turn.the-type Laws'.the-laws 1 (Syntax.tyInt Syntax.w64) 72 Path'.refl, Path'.refl), ((Yields.yields-copy 𝓤 H A W (λ ρ. Unit) (Declared.row Where.the-type) Path'.refl (TCopies.cEnum Where.the-type Laws'7.the-laws Laws'7.the-copy .copy 𝓤 H A W) (Rows'.whole (Declared.row Where.the-type)) (λ x. x) (λ x. x) (λ ρ told. RLocal.mem-whole 𝓤 H A W (Declared.row Where.the-type) ρ) λ ρ told. RLocal.whole-mem 𝓤 H A W (Declared.row Where.the-type) ρ, Path'.refl), tt)))))) (Reads'.room-gone 𝓤 H A τ9) tt Path'.refl) d72
+          d73 = Typed.s-seq 𝓤 H A W 𝓣 E G82 G83 b48 b49 Δ5 (Typed.both (s78 bs)) (at72 bs) (Plain.t-call-plain 𝓤 H A W 𝓣 0 ps·4 r·4 (claims· .8) (claims· .9) "below::lines::at_opening" (known .4) E (λ pos β. β) G82 (Num.vAt 16 λ x. x, (Num.vAt 17 λ x. x, (Num.vAt 15 λ x. x, (record { pos = 25; st = List.[]; d = 0; at = λ x. x }, (Num.vFld 18 (List._∷_ (Syntax.field 1) List.[]) 72 λ x. Turn.struct .as-values x .1 .0, (record { pos = 21; st = List.[]; d = 0; at = λ x. x }, tt)))))) 0 List.[] (Call.sub-id 𝓤 H A W (G82 .slots)) ((RScalar.reads-sc 𝓤 H A W (Row.sInt Syntax.w64), Path'.refl), ((RScalar.reads-sc 𝓤 H A W (Row.sInt Syntax.w64), Path'.refl), ((RScalar.reads-sc 𝓤 H A W (Row.sInt Syntax.w64), Path'.refl), ((Yields.yields-copy 𝓤 H A W (λ ρ. Unit) (Declared'.row Opening.the-type) Path'.refl (TCopies.cStruct Opening.the-type Laws''.the-laws Laws''.the-copy .copy 𝓤 H A W) (Rows'.whole (Declared'.row Opening.the-type)) (λ x. x) (λ x. x) (λ ρ told. RLocal.mem-whole 𝓤 H A W (Declared'.row Opening.the-type) ρ) λ ρ told. RLocal.whole-mem 𝓤 H A W (Declared'.row Opening.the-type) ρ, Path'.refl), ((Reads.reads-field 𝓤 H A W Turn.the-type Laws'7.the-laws 1 (Syntax.tyInt Syntax.w64) 72 Path'.refl, Path'.refl), ((Yields.yields-copy 𝓤 H A W (λ ρ. Unit) (Declared.row Where.the-type) Path'.refl (TCopies.cEnum Where.the-type Laws'6.the-laws Laws'6.the-copy .copy 𝓤 H A W) (Rows'.whole (Declared.row Where.the-type)) (λ x. x) (λ x. x) (λ ρ told. RLocal.mem-whole 𝓤 H A W (Declared.row Where.the-type) ρ) λ ρ told. RLocal.whole-mem 𝓤 H A W (Declared.row Where.the-type) ρ, Path'.refl), tt)))))) (Reads'.room-gone 𝓤 H A τ9) tt Path'.refl) d72
 
           d74 : Typed.Typed 𝓤 H A 𝓣 E G81 b50 Δ5 (at74 bs)
           d74 = Typed.g-pre 𝓤 H A W 𝓣 E G81 G82 b50 Δ5 (Typed.pass T81 T82 (s77 bs)) (at73 bs) (RScalar.g-room 𝓤 H A W E G81 20 τ3 (RLocal.room-whole 𝓤 H A W (Known.Known Role.enum 3) τ3 Path'.refl)) d73
 
           d75 : Typed.Typed 𝓤 H A 𝓣 E G80 b51 Δ5 (at75 bs)
-          d75 = Typed.s-seq 𝓤 H A W 𝓣 E G80 G81 b47 b50 Δ5 (Typed.pass T80 T81 (s76 bs)) (at74 bs) (CopyOut.t-copy-told 𝓤 H A W E 𝓣 (Declared'.row Opening.the-type) Path'.refl (Laws'10.val Opening.the-type Laws'3.the-laws) (Laws'10.lawful Opening.the-type Laws'3.the-laws 𝓤 H A W) (Laws'10.makes Opening.the-type Laws'3.the-plain 𝓤 H A) G80 25 (RScalar.oFld 20 (List._∷_ (Syntax.variant 3) (List._∷_ (Syntax.field 1) List.[])) τ6 8 λ v. Laws'10.val Opening.the-type Laws'3.the-laws (v .0)) (λ m. m .1 .1 .1 .1 .1 .1 .1 .1 .1 .1 .1 .1 .1 .1 .1 .1 .1 .1 .1 .1 .0 .0) (λ m. Laws'8.Fields (Declared.variants Role.the-type) (Laws'8.spellss (Role.enum .parts) Laws'4.the-laws) (Role.the-type .to (Known.at Role.enum 3 (m .1 .1 .1 .1 .1 .1 .1 .1 .1 .1 .1 .1 .1 .1 .1 .1 .1 .1 .1 .1 .0)))) (Reads'.room-gone 𝓤 H A τ6) (Match.reads-payload 𝓤 H A W Role.enum Laws'4.the-laws 3 Path'.refl Path'.refl (λ v. Val.vcons (Laws'10.val Opening.the-type Laws'3.the-laws (v .0)) Val.vnil) (λ v. Path'.refl) 0 τ6 8 Path'.refl, Path'.refl) Path'.refl (λ ρ m. Make.tells-row 𝓤 H A W E ρ (Row.out 25 (G80 .locals)) m 20 (Laws'8.Fields (Declared.variants Role.the-type) (Laws'8.spellss (Role.enum .parts) Laws'4.the-laws) (Role.the-type .to (Known.at Role.enum 3 (m .1 .1 .1 .1 .1 .1 .1 .1 .1 .1 .1 .1 .1 .1 .1 .1 .1 .1 .1 .1 .0)))) (Known.known-is 𝓤 H A W E Role.enum 3 Laws'4.the-laws ρ 20 (m .1 .1 .1 .1 .1 .1 .1 .1 .1 .1 .1 .1 .1 .1 .1 .1 .1 .1 .1 .1 .0))) (λ m k wa. Path'.refl) λ m k wa. k .0) d74
+          d75 = Typed.s-seq 𝓤 H A W 𝓣 E G80 G81 b47 b50 Δ5 (Typed.pass T80 T81 (s76 bs)) (at74 bs) (CopyOut.t-copy-told 𝓤 H A W E 𝓣 (Declared'.row Opening.the-type) Path'.refl (Laws'10.val Opening.the-type Laws''.the-laws) (Laws'10.lawful Opening.the-type Laws''.the-laws 𝓤 H A W) (Laws'10.makes Opening.the-type Laws''.the-plain 𝓤 H A) G80 25 (RScalar.oFld 20 (List._∷_ (Syntax.variant 3) (List._∷_ (Syntax.field 1) List.[])) τ6 8 λ v. Laws'10.val Opening.the-type Laws''.the-laws (v .0)) (λ m. m .1 .1 .1 .1 .1 .1 .1 .1 .1 .1 .1 .1 .1 .1 .1 .1 .1 .1 .1 .1 .0 .0) (λ m. Laws'8.Fields (Declared.variants Role.the-type) (Laws'8.spellss (Role.enum .parts) Laws'3.the-laws) (Role.the-type .to (Known.at Role.enum 3 (m .1 .1 .1 .1 .1 .1 .1 .1 .1 .1 .1 .1 .1 .1 .1 .1 .1 .1 .1 .1 .0)))) (Reads'.room-gone 𝓤 H A τ6) (Match.reads-payload 𝓤 H A W Role.enum Laws'3.the-laws 3 Path'.refl Path'.refl (λ v. Val.vcons (Laws'10.val Opening.the-type Laws''.the-laws (v .0)) Val.vnil) (λ v. Path'.refl) 0 τ6 8 Path'.refl, Path'.refl) Path'.refl (λ ρ m. Make.tells-row 𝓤 H A W E ρ (Row.out 25 (G80 .locals)) m 20 (Laws'8.Fields (Declared.variants Role.the-type) (Laws'8.spellss (Role.enum .parts) Laws'3.the-laws) (Role.the-type .to (Known.at Role.enum 3 (m .1 .1 .1 .1 .1 .1 .1 .1 .1 .1 .1 .1 .1 .1 .1 .1 .1 .1 .1 .1 .0)))) (Known.known-is 𝓤 H A W E Role.enum 3 Laws'3.the-laws ρ 20 (m .1 .1 .1 .1 .1 .1 .1 .1 .1 .1 .1 .1 .1 .1 .1 .1 .1 .1 .1 .1 .0))) (λ m k wa. Path'.refl) λ m k wa. k .0) d74
 
           d76 : Typed.Typed 𝓤 H A 𝓣 E G79 b51 Δ5 (at76 bs)
-          d76 = Typed.g-pre 𝓤 H A W 𝓣 E G79 G80 b51 Δ5 (Typed.give (s75 bs)) (at75 bs) (Known.g-known-told 𝓤 H A W E Role.enum 3 G79 20 Laws'4.the-laws (λ x. x) (Reads'.as-is 𝓤 H A (Rows'.whole (Known.Known Role.enum 3)))) d75
+          d76 = Typed.g-pre 𝓤 H A W 𝓣 E G79 G80 b51 Δ5 (Typed.give (s75 bs)) (at75 bs) (Known.g-known-told 𝓤 H A W E Role.enum 3 G79 20 Laws'3.the-laws (λ x. x) (Reads'.as-is 𝓤 H A (Rows'.whole (Known.Known Role.enum 3)))) d75
 
           d77 : Typed.Typed 𝓤 H A 𝓣 E G25 b51 Δ5 (at77 bs)
           d77 = Typed.g-pre 𝓤 H A W 𝓣 E G25 G79 b51 Δ5 (Typed.both (s74 bs)) (at76 bs) (Known.g-enum-known 𝓤 H A W E Role.enum 3 G25 20 (λ x. x) (Reads'.as-is 𝓤 H A (Rows'.whole (Declared.row Role.the-type)))) d76
@@ -2303,7 +2303,7 @@ module _ (claims· : Claims) where
           d81 = Typed.g-pre 𝓤 H A W 𝓣 E G25 G96 b52 Δ5 (Typed.both (s91 bs)) (at80 bs) (Known.g-enum-told 𝓤 H A W E Role.enum 4 G25 20 λ x. x) d80
 
           d82 : Typed.Typed 𝓤 H A 𝓣 E G25 b53 Δ5 (at82 bs)
-          d82 = Switch.t-switch-on 𝓤 H A W E 𝓣 G25 (RScalar.oFld 20 (List._∷_ (Syntax.variant 0) (List._∷_ (Syntax.field 0) List.[])) (Syntax.tyInt Syntax.w8) 0 λ x. Val.vint Syntax.w8 (Declared.tagOf Role.the-type x)) Syntax.w8 (λ u. Declared.tagOf Role.the-type (u .1 .1 .1 .1 .1 .1 .1 .1 .1 .1 .1 .1 .1 .1 .1 .1 .1 .1 .1 .1 .0)) (Syntax.arm (List._∷_ 0 List.[]) b14 (Syntax.arm (List._∷_ 1 List.[]) b33 (Syntax.arm (List._∷_ 2 List.[]) b46 (Syntax.arm (List._∷_ 3 List.[]) b51 (Syntax.arm (List._∷_ 4 List.[]) b52 Syntax.noDefault))))) Δ5 (at10 bs, (at40 bs, (at59 bs, (at77 bs, (at81 bs, tt))))) (Match.reads-tag 𝓤 H A W Role.the-type Laws'4.the-laws (Rows'.whole (Declared.row Role.the-type)) 0 (λ x. x) (Whole.reads-enum 𝓤 H A W Role.the-type Laws'4.the-laws), Path'.refl) (λ u. Path'.refl) (d10, (d40, (d59, (d77, (d81, tt)))))
+          d82 = Switch.t-switch-on 𝓤 H A W E 𝓣 G25 (RScalar.oFld 20 (List._∷_ (Syntax.variant 0) (List._∷_ (Syntax.field 0) List.[])) (Syntax.tyInt Syntax.w8) 0 λ x. Val.vint Syntax.w8 (Declared.tagOf Role.the-type x)) Syntax.w8 (λ u. Declared.tagOf Role.the-type (u .1 .1 .1 .1 .1 .1 .1 .1 .1 .1 .1 .1 .1 .1 .1 .1 .1 .1 .1 .1 .0)) (Syntax.arm (List._∷_ 0 List.[]) b14 (Syntax.arm (List._∷_ 1 List.[]) b33 (Syntax.arm (List._∷_ 2 List.[]) b46 (Syntax.arm (List._∷_ 3 List.[]) b51 (Syntax.arm (List._∷_ 4 List.[]) b52 Syntax.noDefault))))) Δ5 (at10 bs, (at40 bs, (at59 bs, (at77 bs, (at81 bs, tt))))) (Match.reads-tag 𝓤 H A W Role.the-type Laws'3.the-laws (Rows'.whole (Declared.row Role.the-type)) 0 (λ x. x) (Whole.reads-enum 𝓤 H A W Role.the-type Laws'3.the-laws), Path'.refl) (λ u. Path'.refl) (d10, (d40, (d59, (d77, (d81, tt)))))
 
           d83 : Typed.Typed 𝓤 H A 𝓣 E G23 b53 Δ5 (at83 bs)
           d83 = Typed.g-pre 𝓤 H A W 𝓣 E G23 G25 b53 Δ5 (Typed.pass T23 T25 (s20 bs)) (at82 bs) (RScalar.g-room 𝓤 H A W E G23 19 τ2 (RLocal.room-whole 𝓤 H A W (Declared'.row Step.the-type) τ2 Path'.refl)) d82
@@ -2315,32 +2315,32 @@ module _ (claims· : Claims) where
           d85 = Typed.g-pre 𝓤 H A W 𝓣 E G101 G102 b56 Δ3 (Typed.pass T101 T102 (s97 bs)) (at84 bs) (RScalar.g-room 𝓤 H A W E G101 18 τ1 (RLocal.room-whole 𝓤 H A W (Declared'.row Turn.the-type) τ1 Path'.refl)) d84
 
           d86 : Typed.Typed 𝓤 H A 𝓣 E G100 b57 Δ3 (at86 bs)
-          d86 = Typed.s-seq 𝓤 H A W 𝓣 E G100 G101 b55 b56 Δ3 (Typed.pass T100 T101 (s96 bs)) (at85 bs) (RScalar.t-use 𝓤 H A W E 𝓣 G100 (RScalar.oFld 18 (List._∷_ (Syntax.field 1) List.[]) (Syntax.tyInt Syntax.w64) 72 (Reads.fieldV Turn.the-type Laws'.the-laws 1)) 14 (Rows'.sc-here (Row.sInt Syntax.w64)) (Syntax.tyInt Syntax.w64) (Row.valS (Row.sInt Syntax.w64)) (Row.sInt Syntax.w64 .of) (Reads.reads-field 𝓤 H A W Turn.the-type Laws'.the-laws 1 (Syntax.tyInt Syntax.w64) 72 Path'.refl, Path'.refl) (Reads'.room-gone 𝓤 H A (Syntax.tyInt Syntax.w64)) (RScalar.holds-sc 𝓤 H A W (Row.sInt Syntax.w64)) Path'.refl (λ u. Path'.refl) λ u. tt) d85
+          d86 = Typed.s-seq 𝓤 H A W 𝓣 E G100 G101 b55 b56 Δ3 (Typed.pass T100 T101 (s96 bs)) (at85 bs) (RScalar.t-use 𝓤 H A W E 𝓣 G100 (RScalar.oFld 18 (List._∷_ (Syntax.field 1) List.[]) (Syntax.tyInt Syntax.w64) 72 (Reads.fieldV Turn.the-type Laws'7.the-laws 1)) 14 (Rows'.sc-here (Row.sInt Syntax.w64)) (Syntax.tyInt Syntax.w64) (Row.valS (Row.sInt Syntax.w64)) (Row.sInt Syntax.w64 .of) (Reads.reads-field 𝓤 H A W Turn.the-type Laws'7.the-laws 1 (Syntax.tyInt Syntax.w64) 72 Path'.refl, Path'.refl) (Reads'.room-gone 𝓤 H A (Syntax.tyInt Syntax.w64)) (RScalar.holds-sc 𝓤 H A W (Row.sInt Syntax.w64)) Path'.refl (λ u. Path'.refl) λ u. tt) d85
 
           d87 : Typed.Typed 𝓤 H A 𝓣 E G99 b57 Δ3 (at87 bs)
           d87 = Typed.g-pre 𝓤 H A W 𝓣 E G99 G100 b57 Δ3 (Typed.pass T99 T100 (s95 bs)) (at86 bs) (RScalar.g-room 𝓤 H A W E G99 21 τ0 (RLocal.room-whole 𝓤 H A W (Declared.row Where.the-type) τ0 Path'.refl)) d86
 
           d88 : Typed.Typed 𝓤 H A 𝓣 E G24 b58 Δ3 (at88 bs)
           unfolding at88
-          d88 = Typed.s-seq 𝓤 H A W 𝓣 E G24 G99 b54 b57 Δ3 (Typed.both (s94 bs)) (at87 bs) (Plain.t-call-plain 𝓤 H A W 𝓣 0 ps·5 r·5 (claims· .10) (claims· .11) "roles::steps::same_place" (known .5) E (λ pos β. β) G24 (record { pos = 21; st = List.[]; d = 0; at = λ x. x }, tt) 13 List.[] (Call.sub-id 𝓤 H A W (G24 .slots)) ((Yields.yields-copy 𝓤 H A W (λ ρ. Unit) (Declared.row Where.the-type) Path'.refl (TCopies.cEnum Where.the-type Laws'7.the-laws Laws'7.the-copy .copy 𝓤 H A W) (Rows'.whole (Declared.row Where.the-type)) (λ x. x) (λ x. x) (λ ρ told. RLocal.mem-whole 𝓤 H A W (Declared.row Where.the-type) ρ) λ ρ told. RLocal.whole-mem 𝓤 H A W (Declared.row Where.the-type) ρ, Path'.refl), tt) (Reads'.room-gone 𝓤 H A τ0) tt Path'.refl) d87
+          d88 = Typed.s-seq 𝓤 H A W 𝓣 E G24 G99 b54 b57 Δ3 (Typed.both (s94 bs)) (at87 bs) (Plain.t-call-plain 𝓤 H A W 𝓣 0 ps·5 r·5 (claims· .10) (claims· .11) "roles::steps::same_place" (known .5) E (λ pos β. β) G24 (record { pos = 21; st = List.[]; d = 0; at = λ x. x }, tt) 13 List.[] (Call.sub-id 𝓤 H A W (G24 .slots)) ((Yields.yields-copy 𝓤 H A W (λ ρ. Unit) (Declared.row Where.the-type) Path'.refl (TCopies.cEnum Where.the-type Laws'6.the-laws Laws'6.the-copy .copy 𝓤 H A W) (Rows'.whole (Declared.row Where.the-type)) (λ x. x) (λ x. x) (λ ρ told. RLocal.mem-whole 𝓤 H A W (Declared.row Where.the-type) ρ) λ ρ told. RLocal.whole-mem 𝓤 H A W (Declared.row Where.the-type) ρ, Path'.refl), tt) (Reads'.room-gone 𝓤 H A τ0) tt Path'.refl) d87
 
           d89 : Typed.Typed 𝓤 H A 𝓣 E G23 b59 Δ3 (at89 bs)
           d89 = Typed.t-seq 𝓤 H A W 𝓣 E G23 G24 b53 b58 Δ3 (at83 bs) (at88 bs) d83 d88
 
           d90 : Typed.Typed 𝓤 H A 𝓣 E G22 b60 Δ3 (at90 bs)
-          d90 = Typed.s-seq 𝓤 H A W 𝓣 E G22 G23 b13 b59 Δ3 (Typed.pass T22 T23 (s19 bs)) (at89 bs) (CopyOut.t-copy-told 𝓤 H A W E 𝓣 (Declared.row Where.the-type) Path'.refl (Laws'8.val Where.the-type Laws'7.the-laws) (Laws'8.lawful Where.the-type Laws'7.the-laws 𝓤 H A W tt) (Laws'8.makes Where.the-type Laws'7.the-plain 𝓤 H A) G22 21 (RScalar.oFld 19 (List._∷_ (Syntax.field 1) List.[]) τ0 64 λ x. Laws'8.val Where.the-type Laws'7.the-laws (Step.struct .as-values x .1 .0)) (λ m. Step.struct .as-values (m .1 .1 .1 .1 .1 .1 .1 .1 .1 .1 .1 .1 .1 .1 .1 .1 .1 .1 .1 .0) .1 .0) (λ m. Laws'9.Is (Declared'.row Step.the-type) (m .1 .1 .1 .1 .1 .1 .1 .1 .1 .1 .1 .1 .1 .1 .1 .1 .1 .1 .1 .0) (Laws'10.vals Step.the-type Laws'6.the-laws (m .1 .1 .1 .1 .1 .1 .1 .1 .1 .1 .1 .1 .1 .1 .1 .1 .1 .1 .1 .0))) (Reads'.room-gone 𝓤 H A τ0) (Reads.reads-field 𝓤 H A W Step.the-type Laws'6.the-laws 1 τ0 64 Path'.refl, Path'.refl) Path'.refl (λ ρ m. Make.tells-row 𝓤 H A W E ρ (Row.out 21 (G22 .locals)) m 19 (Laws'9.Is (Declared'.row Step.the-type) (m .1 .1 .1 .1 .1 .1 .1 .1 .1 .1 .1 .1 .1 .1 .1 .1 .1 .1 .1 .0) (Laws'10.vals Step.the-type Laws'6.the-laws (m .1 .1 .1 .1 .1 .1 .1 .1 .1 .1 .1 .1 .1 .1 .1 .1 .1 .1 .1 .0))) (Make.whole-is 𝓤 H A W E (Declared'.row Step.the-type) Path'.refl (Laws'10.val Step.the-type Laws'6.the-laws) (Laws'10.tells Step.the-type Laws'6.the-laws) ρ 19 (m .1 .1 .1 .1 .1 .1 .1 .1 .1 .1 .1 .1 .1 .1 .1 .1 .1 .1 .1 .0))) (λ m k wa. Path'.refl) λ m k wa. Laws'10.owed Step.the-type Laws'6.the-laws (m .1 .1 .1 .1 .1 .1 .1 .1 .1 .1 .1 .1 .1 .1 .1 .1 .1 .1 .1 .0) (Laws'10.vals Step.the-type Laws'6.the-laws (m .1 .1 .1 .1 .1 .1 .1 .1 .1 .1 .1 .1 .1 .1 .1 .1 .1 .1 .1 .0)) k .1 .0) d89
+          d90 = Typed.s-seq 𝓤 H A W 𝓣 E G22 G23 b13 b59 Δ3 (Typed.pass T22 T23 (s19 bs)) (at89 bs) (CopyOut.t-copy-told 𝓤 H A W E 𝓣 (Declared.row Where.the-type) Path'.refl (Laws'8.val Where.the-type Laws'6.the-laws) (Laws'8.lawful Where.the-type Laws'6.the-laws 𝓤 H A W tt) (Laws'8.makes Where.the-type Laws'6.the-plain 𝓤 H A) G22 21 (RScalar.oFld 19 (List._∷_ (Syntax.field 1) List.[]) τ0 64 λ x. Laws'8.val Where.the-type Laws'6.the-laws (Step.struct .as-values x .1 .0)) (λ m. Step.struct .as-values (m .1 .1 .1 .1 .1 .1 .1 .1 .1 .1 .1 .1 .1 .1 .1 .1 .1 .1 .1 .0) .1 .0) (λ m. Laws'9.Is (Declared'.row Step.the-type) (m .1 .1 .1 .1 .1 .1 .1 .1 .1 .1 .1 .1 .1 .1 .1 .1 .1 .1 .1 .0) (Laws'10.vals Step.the-type Laws'5.the-laws (m .1 .1 .1 .1 .1 .1 .1 .1 .1 .1 .1 .1 .1 .1 .1 .1 .1 .1 .1 .0))) (Reads'.room-gone 𝓤 H A τ0) (Reads.reads-field 𝓤 H A W Step.the-type Laws'5.the-laws 1 τ0 64 Path'.refl, Path'.refl) Path'.refl (λ ρ m. Make.tells-row 𝓤 H A W E ρ (Row.out 21 (G22 .locals)) m 19 (Laws'9.Is (Declared'.row Step.the-type) (m .1 .1 .1 .1 .1 .1 .1 .1 .1 .1 .1 .1 .1 .1 .1 .1 .1 .1 .1 .0) (Laws'10.vals Step.the-type Laws'5.the-laws (m .1 .1 .1 .1 .1 .1 .1 .1 .1 .1 .1 .1 .1 .1 .1 .1 .1 .1 .1 .0))) (Make.whole-is 𝓤 H A W E (Declared'.row Step.the-type) Path'.refl (Laws'10.val Step.the-type Laws'5.the-laws) (Laws'10.tells Step.the-type Laws'5.the-laws) ρ 19 (m .1 .1 .1 .1 .1 .1 .1 .1 .1 .1 .1 .1 .1 .1 .1 .1 .1 .1 .1 .0))) (λ m k wa. Path'.refl) λ m k wa. Laws'10.owed Step.the-type Laws'5.the-laws (m .1 .1 .1 .1 .1 .1 .1 .1 .1 .1 .1 .1 .1 .1 .1 .1 .1 .1 .1 .0) (Laws'10.vals Step.the-type Laws'5.the-laws (m .1 .1 .1 .1 .1 .1 .1 .1 .1 .1 .1 .1 .1 .1 .1 .1 .1 .1 .1 .0)) k .1 .0) d89
 
           d91 : Typed.Typed 𝓤 H A 𝓣 E G21 b61 Δ3 (at91 bs)
-          d91 = Typed.s-seq 𝓤 H A W 𝓣 E G21 G22 b12 b60 Δ3 (Typed.pass T21 T22 (s18 bs)) (at90 bs) (CopyOut.t-copy-told 𝓤 H A W E 𝓣 (Declared.row Role.the-type) Path'.refl (Laws'8.val Role.the-type Laws'4.the-laws) (Laws'8.lawful Role.the-type Laws'4.the-laws 𝓤 H A W tt) (Laws'8.makes Role.the-type Laws'4.the-plain 𝓤 H A) G21 20 (RScalar.oFld 19 (List._∷_ (Syntax.field 0) List.[]) τ3 0 λ x. Laws'8.val Role.the-type Laws'4.the-laws (Step.struct .as-values x .0)) (λ m. Step.struct .as-values (m .1 .1 .1 .1 .1 .1 .1 .1 .1 .1 .1 .1 .1 .1 .1 .1 .1 .1 .1 .0) .0) (λ m. Laws'9.Is (Declared'.row Step.the-type) (m .1 .1 .1 .1 .1 .1 .1 .1 .1 .1 .1 .1 .1 .1 .1 .1 .1 .1 .1 .0) (Laws'10.vals Step.the-type Laws'6.the-laws (m .1 .1 .1 .1 .1 .1 .1 .1 .1 .1 .1 .1 .1 .1 .1 .1 .1 .1 .1 .0))) (Reads'.room-gone 𝓤 H A τ3) (Reads.reads-field 𝓤 H A W Step.the-type Laws'6.the-laws 0 τ3 0 Path'.refl, Path'.refl) Path'.refl (λ ρ m. Make.tells-row 𝓤 H A W E ρ (Row.out 20 (G21 .locals)) m 19 (Laws'9.Is (Declared'.row Step.the-type) (m .1 .1 .1 .1 .1 .1 .1 .1 .1 .1 .1 .1 .1 .1 .1 .1 .1 .1 .1 .0) (Laws'10.vals Step.the-type Laws'6.the-laws (m .1 .1 .1 .1 .1 .1 .1 .1 .1 .1 .1 .1 .1 .1 .1 .1 .1 .1 .1 .0))) (Make.whole-is 𝓤 H A W E (Declared'.row Step.the-type) Path'.refl (Laws'10.val Step.the-type Laws'6.the-laws) (Laws'10.tells Step.the-type Laws'6.the-laws) ρ 19 (m .1 .1 .1 .1 .1 .1 .1 .1 .1 .1 .1 .1 .1 .1 .1 .1 .1 .1 .1 .0))) (λ m k wa. Path'.refl) λ m k wa. Laws'10.owed Step.the-type Laws'6.the-laws (m .1 .1 .1 .1 .1 .1 .1 .1 .1 .1 .1 .1 .1 .1 .1 .1 .1 .1 .1 .0) (Laws'10.vals Step.the-type Laws'6.the-laws (m .1 .1 .1 .1 .1 .1 .1 .1 .1 .1 .1 .1 .1 .1 .1 .1 .1 .1 .1 .0)) k .0) d90
+          d91 = Typed.s-seq 𝓤 H A W 𝓣 E G21 G22 b12 b60 Δ3 (Typed.pass T21 T22 (s18 bs)) (at90 bs) (CopyOut.t-copy-told 𝓤 H A W E 𝓣 (Declared.row Role.the-type) Path'.refl (Laws'8.val Role.the-type Laws'3.the-laws) (Laws'8.lawful Role.the-type Laws'3.the-laws 𝓤 H A W tt) (Laws'8.makes Role.the-type Laws'3.the-plain 𝓤 H A) G21 20 (RScalar.oFld 19 (List._∷_ (Syntax.field 0) List.[]) τ3 0 λ x. Laws'8.val Role.the-type Laws'3.the-laws (Step.struct .as-values x .0)) (λ m. Step.struct .as-values (m .1 .1 .1 .1 .1 .1 .1 .1 .1 .1 .1 .1 .1 .1 .1 .1 .1 .1 .1 .0) .0) (λ m. Laws'9.Is (Declared'.row Step.the-type) (m .1 .1 .1 .1 .1 .1 .1 .1 .1 .1 .1 .1 .1 .1 .1 .1 .1 .1 .1 .0) (Laws'10.vals Step.the-type Laws'5.the-laws (m .1 .1 .1 .1 .1 .1 .1 .1 .1 .1 .1 .1 .1 .1 .1 .1 .1 .1 .1 .0))) (Reads'.room-gone 𝓤 H A τ3) (Reads.reads-field 𝓤 H A W Step.the-type Laws'5.the-laws 0 τ3 0 Path'.refl, Path'.refl) Path'.refl (λ ρ m. Make.tells-row 𝓤 H A W E ρ (Row.out 20 (G21 .locals)) m 19 (Laws'9.Is (Declared'.row Step.the-type) (m .1 .1 .1 .1 .1 .1 .1 .1 .1 .1 .1 .1 .1 .1 .1 .1 .1 .1 .1 .0) (Laws'10.vals Step.the-type Laws'5.the-laws (m .1 .1 .1 .1 .1 .1 .1 .1 .1 .1 .1 .1 .1 .1 .1 .1 .1 .1 .1 .0))) (Make.whole-is 𝓤 H A W E (Declared'.row Step.the-type) Path'.refl (Laws'10.val Step.the-type Laws'5.the-laws) (Laws'10.tells Step.the-type Laws'5.the-laws) ρ 19 (m .1 .1 .1 .1 .1 .1 .1 .1 .1 .1 .1 .1 .1 .1 .1 .1 .1 .1 .1 .0))) (λ m k wa. Path'.refl) λ m k wa. Laws'10.owed Step.the-type Laws'5.the-laws (m .1 .1 .1 .1 .1 .1 .1 .1 .1 .1 .1 .1 .1 .1 .1 .1 .1 .1 .1 .0) (Laws'10.vals Step.the-type Laws'5.the-laws (m .1 .1 .1 .1 .1 .1 .1 .1 .1 .1 .1 .1 .1 .1 .1 .1 .1 .1 .1 .0)) k .0) d90
 
           d92 : Typed.Typed 𝓤 H A 𝓣 E G20 b62 Δ3 (at92 bs)
-          d92 = Typed.s-seq 𝓤 H A W 𝓣 E G20 G21 b11 b61 Δ3 (Typed.both (s17 bs)) (at91 bs) (WayStmt.t-way-copy-out 𝓤 H A W E 𝓣 (Declared'.row Step.the-type) Path'.refl (TCopies.cStruct Step.the-type Laws'6.the-laws Laws'6.the-copy .copy 𝓤 H A W) (λ ρ. Unit) G20 (Row.out 18 (G20 .locals)) (λ u. Row.drop 18 (G20 .locals) u) (G20 .slots) 18 (λ t. List._∷_ (Syntax.field 0) t) τ2 τ2 19 (Rows'.whole (Declared'.row Step.the-type)) (λ x. x) (λ u. At.getAt (Turn.the-type .parts) 0 (Turn.struct .as-values (u .1 .1 .1 .1 .1 .1 .1 .1 .1 .1 .1 .1 .1 .1 .1 .1 .1 .1 .0))) (λ u. (Row.hd 0 (Row.tl (Row.tl (Row.tl (Row.tl (Row.tl (Row.tl (Row.tl (Row.tl (Row.tl (Row.tl (Row.tl (Row.tl (Row.tl (Row.tl (Row.tl (Row.tl (Row.tl (Row.tl bs)))))))))))))))))), Nat._+_ 0 0)) (λ T′. record { locals = Row.setRow 18 (18, Rows'.whole (Declared'.row Turn.the-type)) T′; slots = G20 .slots }) (λ u T′ m′. Row.set 18 (18, Rows'.whole (Declared'.row Turn.the-type)) (u .1 .1 .1 .1 .1 .1 .1 .1 .1 .1 .1 .1 .1 .1 .1 .1 .1 .1 .0) T′ m′) (λ u. Unit) (λ x. Unit) (Own.told-none 𝓤 H A (G20 .slots)) (DerefMove.learns-nothing 𝓤 H A (Declared'.row Step.the-type)) (λ ρ told u asked. Way'.w-partˢ 𝓤 H A W E (Declared'.row Turn.the-type) (Declared'.row Step.the-type) τ1 τ2 0 0 (u .1 .1 .1 .1 .1 .1 .1 .1 .1 .1 .1 .1 .1 .1 .1 .1 .1 .1 .0) (At.getAt (Turn.the-type .parts) 0 (Turn.struct .as-values (u .1 .1 .1 .1 .1 .1 .1 .1 .1 .1 .1 .1 .1 .1 .1 .1 .1 .1 .0))) (Row.hd 0 (Row.tl (Row.tl (Row.tl (Row.tl (Row.tl (Row.tl (Row.tl (Row.tl (Row.tl (Row.tl (Row.tl (Row.tl (Row.tl (Row.tl (Row.tl (Row.tl (Row.tl (Row.tl bs)))))))))))))))))), 0) (Way.w-look 𝓤 H A W E (Way.w-local 𝓤 H A W E G20 ρ u (G20 .slots) 18 (Declared'.row Turn.the-type) (Rows'.whole (Declared'.row Turn.the-type)) (λ x. x) (λ x. x) (u .1 .1 .1 .1 .1 .1 .1 .1 .1 .1 .1 .1 .1 .1 .1 .1 .1 .1 .0) (RLocal.mem-whole 𝓤 H A W (Declared'.row Turn.the-type) ρ (u .1 .1 .1 .1 .1 .1 .1 .1 .1 .1 .1 .1 .1 .1 .1 .1 .1 .1 .0) (Row.hd 0 (Row.tl (Row.tl (Row.tl (Row.tl (Row.tl (Row.tl (Row.tl (Row.tl (Row.tl (Row.tl (Row.tl (Row.tl (Row.tl (Row.tl (Row.tl (Row.tl (Row.tl (Row.tl bs)))))))))))))))))))) (RLocal.whole-mem 𝓤 H A W (Declared'.row Turn.the-type) ρ (u .1 .1 .1 .1 .1 .1 .1 .1 .1 .1 .1 .1 .1 .1 .1 .1 .1 .1 .0) (Row.hd 0 (Row.tl (Row.tl (Row.tl (Row.tl (Row.tl (Row.tl (Row.tl (Row.tl (Row.tl (Row.tl (Row.tl (Row.tl (Row.tl (Row.tl (Row.tl (Row.tl (Row.tl (Row.tl bs)))))))))))))))))))))) Path'.refl λ q. Inner.cut-record 𝓤 H A q (Declared'.row Turn.the-type) Step.the-type 0 (u .1 .1 .1 .1 .1 .1 .1 .1 .1 .1 .1 .1 .1 .1 .1 .1 .1 .1 .0) (u .1 .1 .1 .1 .1 .1 .1 .1 .1 .1 .1 .1 .1 .1 .1 .1 .1 .1 .0) (At.getAt (Turn.the-type .parts) 0 (Turn.struct .as-values (u .1 .1 .1 .1 .1 .1 .1 .1 .1 .1 .1 .1 .1 .1 .1 .1 .1 .1 .0))) (At.getAt (Turn.the-type .parts) 0 (Turn.struct .as-values (u .1 .1 .1 .1 .1 .1 .1 .1 .1 .1 .1 .1 .1 .1 .1 .1 .1 .1 .0))) (Row.hd 0 (Row.tl (Row.tl (Row.tl (Row.tl (Row.tl (Row.tl (Row.tl (Row.tl (Row.tl (Row.tl (Row.tl (Row.tl (Row.tl (Row.tl (Row.tl (Row.tl (Row.tl (Row.tl bs)))))))))))))))))), 0) (Behind.look-at 𝓤 H A W q Turn.the-type Laws'.the-laws 0 0 Path'.refl Path'.refl (Row.hd 0 (Row.tl (Row.tl (Row.tl (Row.tl (Row.tl (Row.tl (Row.tl (Row.tl (Row.tl (Row.tl (Row.tl (Row.tl (Row.tl (Row.tl (Row.tl (Row.tl (Row.tl (Row.tl bs)))))))))))))))))), 0) (u .1 .1 .1 .1 .1 .1 .1 .1 .1 .1 .1 .1 .1 .1 .1 .1 .1 .1 .0) (Turn.struct .as-values (u .1 .1 .1 .1 .1 .1 .1 .1 .1 .1 .1 .1 .1 .1 .1 .1 .1 .1 .0)) Path'.refl)) (Reads'.room-gone 𝓤 H A τ2) (Yields.makes-mem 𝓤 H A W (λ ρ. Unit) (Declared'.row Step.the-type) Path'.refl (Rows'.whole (Declared'.row Step.the-type)) (λ x. x) λ ρ told. RLocal.whole-mem 𝓤 H A W (Declared'.row Step.the-type) ρ) Path'.refl Path'.refl Path'.refl) d91
+          d92 = Typed.s-seq 𝓤 H A W 𝓣 E G20 G21 b11 b61 Δ3 (Typed.both (s17 bs)) (at91 bs) (WayStmt.t-way-copy-out 𝓤 H A W E 𝓣 (Declared'.row Step.the-type) Path'.refl (TCopies.cStruct Step.the-type Laws'5.the-laws Laws'5.the-copy .copy 𝓤 H A W) (λ ρ. Unit) G20 (Row.out 18 (G20 .locals)) (λ u. Row.drop 18 (G20 .locals) u) (G20 .slots) 18 (λ t. List._∷_ (Syntax.field 0) t) τ2 τ2 19 (Rows'.whole (Declared'.row Step.the-type)) (λ x. x) (λ u. At.getAt (Turn.the-type .parts) 0 (Turn.struct .as-values (u .1 .1 .1 .1 .1 .1 .1 .1 .1 .1 .1 .1 .1 .1 .1 .1 .1 .1 .0))) (λ u. (Row.hd 0 (Row.tl (Row.tl (Row.tl (Row.tl (Row.tl (Row.tl (Row.tl (Row.tl (Row.tl (Row.tl (Row.tl (Row.tl (Row.tl (Row.tl (Row.tl (Row.tl (Row.tl (Row.tl bs)))))))))))))))))), Nat._+_ 0 0)) (λ T′. record { locals = Row.setRow 18 (18, Rows'.whole (Declared'.row Turn.the-type)) T′; slots = G20 .slots }) (λ u T′ m′. Row.set 18 (18, Rows'.whole (Declared'.row Turn.the-type)) (u .1 .1 .1 .1 .1 .1 .1 .1 .1 .1 .1 .1 .1 .1 .1 .1 .1 .1 .0) T′ m′) (λ u. Unit) (λ x. Unit) (Own.told-none 𝓤 H A (G20 .slots)) (DerefMove.learns-nothing 𝓤 H A (Declared'.row Step.the-type)) (λ ρ told u asked. Way'.w-partˢ 𝓤 H A W E (Declared'.row Turn.the-type) (Declared'.row Step.the-type) τ1 τ2 0 0 (u .1 .1 .1 .1 .1 .1 .1 .1 .1 .1 .1 .1 .1 .1 .1 .1 .1 .1 .0) (At.getAt (Turn.the-type .parts) 0 (Turn.struct .as-values (u .1 .1 .1 .1 .1 .1 .1 .1 .1 .1 .1 .1 .1 .1 .1 .1 .1 .1 .0))) (Row.hd 0 (Row.tl (Row.tl (Row.tl (Row.tl (Row.tl (Row.tl (Row.tl (Row.tl (Row.tl (Row.tl (Row.tl (Row.tl (Row.tl (Row.tl (Row.tl (Row.tl (Row.tl (Row.tl bs)))))))))))))))))), 0) (Way.w-look 𝓤 H A W E (Way.w-local 𝓤 H A W E G20 ρ u (G20 .slots) 18 (Declared'.row Turn.the-type) (Rows'.whole (Declared'.row Turn.the-type)) (λ x. x) (λ x. x) (u .1 .1 .1 .1 .1 .1 .1 .1 .1 .1 .1 .1 .1 .1 .1 .1 .1 .1 .0) (RLocal.mem-whole 𝓤 H A W (Declared'.row Turn.the-type) ρ (u .1 .1 .1 .1 .1 .1 .1 .1 .1 .1 .1 .1 .1 .1 .1 .1 .1 .1 .0) (Row.hd 0 (Row.tl (Row.tl (Row.tl (Row.tl (Row.tl (Row.tl (Row.tl (Row.tl (Row.tl (Row.tl (Row.tl (Row.tl (Row.tl (Row.tl (Row.tl (Row.tl (Row.tl (Row.tl bs)))))))))))))))))))) (RLocal.whole-mem 𝓤 H A W (Declared'.row Turn.the-type) ρ (u .1 .1 .1 .1 .1 .1 .1 .1 .1 .1 .1 .1 .1 .1 .1 .1 .1 .1 .0) (Row.hd 0 (Row.tl (Row.tl (Row.tl (Row.tl (Row.tl (Row.tl (Row.tl (Row.tl (Row.tl (Row.tl (Row.tl (Row.tl (Row.tl (Row.tl (Row.tl (Row.tl (Row.tl (Row.tl bs)))))))))))))))))))))) Path'.refl λ q. Inner.cut-record 𝓤 H A q (Declared'.row Turn.the-type) Step.the-type 0 (u .1 .1 .1 .1 .1 .1 .1 .1 .1 .1 .1 .1 .1 .1 .1 .1 .1 .1 .0) (u .1 .1 .1 .1 .1 .1 .1 .1 .1 .1 .1 .1 .1 .1 .1 .1 .1 .1 .0) (At.getAt (Turn.the-type .parts) 0 (Turn.struct .as-values (u .1 .1 .1 .1 .1 .1 .1 .1 .1 .1 .1 .1 .1 .1 .1 .1 .1 .1 .0))) (At.getAt (Turn.the-type .parts) 0 (Turn.struct .as-values (u .1 .1 .1 .1 .1 .1 .1 .1 .1 .1 .1 .1 .1 .1 .1 .1 .1 .1 .0))) (Row.hd 0 (Row.tl (Row.tl (Row.tl (Row.tl (Row.tl (Row.tl (Row.tl (Row.tl (Row.tl (Row.tl (Row.tl (Row.tl (Row.tl (Row.tl (Row.tl (Row.tl (Row.tl (Row.tl bs)))))))))))))))))), 0) (Behind.look-at 𝓤 H A W q Turn.the-type Laws'7.the-laws 0 0 Path'.refl Path'.refl (Row.hd 0 (Row.tl (Row.tl (Row.tl (Row.tl (Row.tl (Row.tl (Row.tl (Row.tl (Row.tl (Row.tl (Row.tl (Row.tl (Row.tl (Row.tl (Row.tl (Row.tl (Row.tl (Row.tl bs)))))))))))))))))), 0) (u .1 .1 .1 .1 .1 .1 .1 .1 .1 .1 .1 .1 .1 .1 .1 .1 .1 .1 .0) (Turn.struct .as-values (u .1 .1 .1 .1 .1 .1 .1 .1 .1 .1 .1 .1 .1 .1 .1 .1 .1 .1 .0)) Path'.refl)) (Reads'.room-gone 𝓤 H A τ2) (Yields.makes-mem 𝓤 H A W (λ ρ. Unit) (Declared'.row Step.the-type) Path'.refl (Rows'.whole (Declared'.row Step.the-type)) (λ x. x) λ ρ told. RLocal.whole-mem 𝓤 H A W (Declared'.row Step.the-type) ρ) Path'.refl Path'.refl Path'.refl) d91
 
           d93 : Typed.Typed 𝓤 H A 𝓣 E G19 b62 Δ3 (at93 bs)
           d93 = Typed.g-pre 𝓤 H A W 𝓣 E G19 G20 b62 Δ3 (Typed.pass T19 T20 (s16 bs)) (at92 bs) (RScalar.g-room 𝓤 H A W E G19 13 τ0 (RLocal.room-whole 𝓤 H A W (Declared.row Where.the-type) τ0 Path'.refl)) d92
 
           d94 : Typed.Typed 𝓤 H A 𝓣 E G14 b63 Δ3 (at94 bs)
-          d94 = Typed.s-seq 𝓤 H A W 𝓣 E G14 G19 b10 b62 Δ3 (Typed.both (s15 bs)) (at93 bs) (Plain.t-call-plain 𝓤 H A W 𝓣 2 ps·0 r·0 (claims· .0) (claims· .1) "kept::look" (known .0) E (λ pos β. β) G14 (record { pos = 1; ty = Syntax.tyRef (Syntax.named 0) Syntax.imm (Syntax.tyInt Syntax.w8); ref = λ x. x }, (record { pos = 2; ty = Syntax.tyRef (Syntax.named 1) Syntax.imm KeptElem.behind; ref = λ x. x }, (record { pos = 13; st = List.[]; d = 0; at = λ x. x }, (Num.vAt 14 λ x. x, (Num.vAt 15 λ x. x, tt))))) 18 (List._∷_ 0 (List._∷_ 1 List.[])) (Call.sub-id 𝓤 H A W (G14 .slots)) (ShrSlice.spares-sslice 𝓤 H A W (TReferent.rtF (TReferent.fInt Syntax.w8)) (Syntax.tyRef (Syntax.named 0) Syntax.imm (Syntax.tyInt Syntax.w8)) 0, SShared.reads-sslice 𝓤 H A W (TReferent.rtF (TReferent.fInt Syntax.w8)) (Syntax.tyRef (Syntax.named 0) Syntax.imm (Syntax.tyInt Syntax.w8)) 0, Path'.refl, (ShrSlice.spares-sslice 𝓤 H A W KeptElem.R (Syntax.tyRef (Syntax.named 1) Syntax.imm KeptElem.behind) 1, SShared.reads-sslice 𝓤 H A W KeptElem.R (Syntax.tyRef (Syntax.named 1) Syntax.imm KeptElem.behind) 1, Path'.refl, ((Yields.yields-copy 𝓤 H A W (λ ρ. Unit) (Declared.row Where.the-type) Path'.refl (TCopies.cEnum Where.the-type Laws'7.the-laws Laws'7.the-copy .copy 𝓤 H A W) (Rows'.whole (Declared.row Where.the-type)) (λ x. x) (λ x. x) (λ ρ told. RLocal.mem-whole 𝓤 H A W (Declared.row Where.the-type) ρ) λ ρ told. RLocal.whole-mem 𝓤 H A W (Declared.row Where.the-type) ρ, Path'.refl), ((RScalar.reads-sc 𝓤 H A W (Row.sInt Syntax.w64), Path'.refl), ((RScalar.reads-sc 𝓤 H A W (Row.sInt Syntax.w64), Path'.refl), tt))))) (Reads'.room-gone 𝓤 H A τ1) (tt, (tt, tt)) Path'.refl) d93
+          d94 = Typed.s-seq 𝓤 H A W 𝓣 E G14 G19 b10 b62 Δ3 (Typed.both (s15 bs)) (at93 bs) (Plain.t-call-plain 𝓤 H A W 𝓣 2 ps·0 r·0 (claims· .0) (claims· .1) "turns::look" (known .0) E (λ pos β. β) G14 (record { pos = 1; ty = Syntax.tyRef (Syntax.named 0) Syntax.imm (Syntax.tyInt Syntax.w8); ref = λ x. x }, (record { pos = 2; ty = Syntax.tyRef (Syntax.named 1) Syntax.imm KeptElem.behind; ref = λ x. x }, (record { pos = 13; st = List.[]; d = 0; at = λ x. x }, (Num.vAt 14 λ x. x, (Num.vAt 15 λ x. x, tt))))) 18 (List._∷_ 0 (List._∷_ 1 List.[])) (Call.sub-id 𝓤 H A W (G14 .slots)) (ShrSlice.spares-sslice 𝓤 H A W (TReferent.rtF (TReferent.fInt Syntax.w8)) (Syntax.tyRef (Syntax.named 0) Syntax.imm (Syntax.tyInt Syntax.w8)) 0, SShared.reads-sslice 𝓤 H A W (TReferent.rtF (TReferent.fInt Syntax.w8)) (Syntax.tyRef (Syntax.named 0) Syntax.imm (Syntax.tyInt Syntax.w8)) 0, Path'.refl, (ShrSlice.spares-sslice 𝓤 H A W KeptElem.R (Syntax.tyRef (Syntax.named 1) Syntax.imm KeptElem.behind) 1, SShared.reads-sslice 𝓤 H A W KeptElem.R (Syntax.tyRef (Syntax.named 1) Syntax.imm KeptElem.behind) 1, Path'.refl, ((Yields.yields-copy 𝓤 H A W (λ ρ. Unit) (Declared.row Where.the-type) Path'.refl (TCopies.cEnum Where.the-type Laws'6.the-laws Laws'6.the-copy .copy 𝓤 H A W) (Rows'.whole (Declared.row Where.the-type)) (λ x. x) (λ x. x) (λ ρ told. RLocal.mem-whole 𝓤 H A W (Declared.row Where.the-type) ρ) λ ρ told. RLocal.whole-mem 𝓤 H A W (Declared.row Where.the-type) ρ, Path'.refl), ((RScalar.reads-sc 𝓤 H A W (Row.sInt Syntax.w64), Path'.refl), ((RScalar.reads-sc 𝓤 H A W (Row.sInt Syntax.w64), Path'.refl), tt))))) (Reads'.room-gone 𝓤 H A τ1) (tt, (tt, tt)) Path'.refl) d93
 
           d95 : Typed.Typed 𝓤 H A 𝓣 E G13 b64 Δ3 (at95 bs)
           d95 = Typed.t-seq 𝓤 H A W 𝓣 E G13 G14 b9 b63 Δ3 (at6 bs) (at94 bs) d6 d94
@@ -2409,7 +2409,7 @@ module _ (claims· : Claims) where
           d116 = Typed.g-pre 𝓤 H A W 𝓣 E G5 G6 b76 Δ0 (Typed.pass T5 T6 (s4 bs)) (at115 bs) (RScalar.g-room 𝓤 H A W E G5 5 τ0 (RLocal.room-whole 𝓤 H A W (Declared.row Where.the-type) τ0 Path'.refl)) d115
 
           d117 : Typed.Typed 𝓤 H A 𝓣 E G4 b77 Δ0 (at117 bs)
-          d117 = Typed.s-seq 𝓤 H A W 𝓣 E G4 G5 b0 b76 Δ0 (Typed.pass T4 T5 (s3 bs)) (at116 bs) (LocalCopy.t-val-copy 𝓤 H A W E 𝓣 (λ ρ. Unit) G4 5 13 (Declared.row Where.the-type) τ0 τ0 (Rows'.whole (Declared.row Where.the-type)) (Rows'.whole (Declared.row Where.the-type)) (λ x. x) (λ x. x) (λ x. x) Path'.refl (Own.told-none 𝓤 H A (G4 .slots)) (Yields.yields-copy 𝓤 H A W (λ ρ. Unit) (Declared.row Where.the-type) Path'.refl (TCopies.cEnum Where.the-type Laws'7.the-laws Laws'7.the-copy .copy 𝓤 H A W) (Rows'.whole (Declared.row Where.the-type)) (λ x. x) (λ x. x) (λ ρ told. RLocal.mem-whole 𝓤 H A W (Declared.row Where.the-type) ρ) λ ρ told. RLocal.whole-mem 𝓤 H A W (Declared.row Where.the-type) ρ) (Reads'.room-gone 𝓤 H A τ0) (Yields.makes-mem 𝓤 H A W (λ ρ. Unit) (Declared.row Where.the-type) Path'.refl (Rows'.whole (Declared.row Where.the-type)) (λ x. x) λ ρ told. RLocal.whole-mem 𝓤 H A W (Declared.row Where.the-type) ρ) Path'.refl Path'.refl) d116
+          d117 = Typed.s-seq 𝓤 H A W 𝓣 E G4 G5 b0 b76 Δ0 (Typed.pass T4 T5 (s3 bs)) (at116 bs) (LocalCopy.t-val-copy 𝓤 H A W E 𝓣 (λ ρ. Unit) G4 5 13 (Declared.row Where.the-type) τ0 τ0 (Rows'.whole (Declared.row Where.the-type)) (Rows'.whole (Declared.row Where.the-type)) (λ x. x) (λ x. x) (λ x. x) Path'.refl (Own.told-none 𝓤 H A (G4 .slots)) (Yields.yields-copy 𝓤 H A W (λ ρ. Unit) (Declared.row Where.the-type) Path'.refl (TCopies.cEnum Where.the-type Laws'6.the-laws Laws'6.the-copy .copy 𝓤 H A W) (Rows'.whole (Declared.row Where.the-type)) (λ x. x) (λ x. x) (λ ρ told. RLocal.mem-whole 𝓤 H A W (Declared.row Where.the-type) ρ) λ ρ told. RLocal.whole-mem 𝓤 H A W (Declared.row Where.the-type) ρ) (Reads'.room-gone 𝓤 H A τ0) (Yields.makes-mem 𝓤 H A W (λ ρ. Unit) (Declared.row Where.the-type) Path'.refl (Rows'.whole (Declared.row Where.the-type)) (λ x. x) λ ρ told. RLocal.whole-mem 𝓤 H A W (Declared.row Where.the-type) ρ) Path'.refl Path'.refl) d116
 
           d118 : Typed.Typed 𝓤 H A 𝓣 E G3 b77 Δ0 (at118 bs)
           d118 = Typed.g-pre 𝓤 H A W 𝓣 E G3 G4 b77 Δ0 (Typed.give (s2 bs)) (at117 bs) (Know.g-sl-known 𝓤 H A W (TReferent.fInt Syntax.w64) E G3 7 3 (Syntax.tyRef (Syntax.named 3) Syntax.mut (Syntax.tyInt Syntax.w64)) (Row.lease (κs .1 .1 .1 .0) (qs .1 .1 .1 .0)) 0 (λ x. x) record { fits = Dec'.lit< tt } (Reads'.as-is 𝓤 H A (Mut.mslice (TReferent.rtF (TReferent.fInt Syntax.w64)) (Syntax.tyRef (Syntax.named 3) Syntax.mut (Syntax.tyInt Syntax.w64)) 3)) Path'.refl tt) d117
@@ -3249,6 +3249,6 @@ module _ (claims· : Claims) where
           pub asked : (a : Kinds.Dens κs ps) → (good : Kinds.GoodsP κs ps a) → (pre : Pre· κs a) → (bs : List.List Nat.ℕ) → Φ bs (Any.wantQ 6 ps r xs m κs qs a (Post· κs a)) (Function.init 6 ps r xs m κs qs a)
           asked = λ a good pre bs. laid record { κs = κs; args = record { text = a .0; kept = a .1 .0; from = a .1 .1 .0; first = a .1 .1 .1 .0; stands = a .1 .1 .1 .1 .0; starts = a .1 .1 .1 .1 .1 .0; ends = a .1 .1 .1 .1 .1 .1 .0; options = a .1 .1 .1 .1 .1 .1 .1 .0; items = a .1 .1 .1 .1 .1 .1 .1 .1 .0; i = a .1 .1 .1 .1 .1 .1 .1 .1 .1 .0; expectations = a .1 .1 .1 .1 .1 .1 .1 .1 .1 .1 .0; x = a .1 .1 .1 .1 .1 .1 .1 .1 .1 .1 .1 .0 }; blocks = bs; good = good; fits = record { from = record { fits = good .1 .1 .0 .1 }; first = record { fits = good .1 .1 .1 .0 .1 }; i = record { fits = good .1 .1 .1 .1 .1 .1 .1 .1 .1 .0 .1 }; x = record { fits = good .1 .1 .1 .1 .1 .1 .1 .1 .1 .1 .1 .0 .1 } }; pre = pre }
 
-        module _ {M : Type 1} (𝓤 : URA.URA M) (H : Wp.Heap 𝓤) (A : Atoms.Atoms 𝓤) (W : Kit.Given 𝓤 H A) (𝓣 : Wp.Tables 𝓤 H) (known0 : Plain.Known 𝓤 H A W 𝓣 2 ps·0 r·0 (claims· .0) (claims· .1) "kept::look") (known1 : Plain.Known 𝓤 H A W 𝓣 3 ps·1 r·1 (claims· .2) (claims· .3) "says::say") (known2 : Plain.Known 𝓤 H A W 𝓣 0 ps·2 r·2 (claims· .4) (claims· .5) "below::lines::expectation_of") (known3 : Plain.Known 𝓤 H A W 𝓣 1 ps·3 r·3 (claims· .6) (claims· .7) "slots::put_expectation") (known4 : Plain.Known 𝓤 H A W 𝓣 0 ps·4 r·4 (claims· .8) (claims· .9) "below::lines::at_opening") (known5 : Plain.Known 𝓤 H A W 𝓣 0 ps·5 r·5 (claims· .10) (claims· .11) "roles::steps::same_place") (known6 : Plain.Known 𝓤 H A W 𝓣 0 ps·6 r·6 (claims· .12) (claims· .13) "below::lines::at_end") where
+        module _ {M : Type 1} (𝓤 : URA.URA M) (H : Wp.Heap 𝓤) (A : Atoms.Atoms 𝓤) (W : Kit.Given 𝓤 H A) (𝓣 : Wp.Tables 𝓤 H) (known0 : Plain.Known 𝓤 H A W 𝓣 2 ps·0 r·0 (claims· .0) (claims· .1) "turns::look") (known1 : Plain.Known 𝓤 H A W 𝓣 3 ps·1 r·1 (claims· .2) (claims· .3) "says::say") (known2 : Plain.Known 𝓤 H A W 𝓣 0 ps·2 r·2 (claims· .4) (claims· .5) "below::lines::expectation_of") (known3 : Plain.Known 𝓤 H A W 𝓣 1 ps·3 r·3 (claims· .6) (claims· .7) "slots::put_expectation") (known4 : Plain.Known 𝓤 H A W 𝓣 0 ps·4 r·4 (claims· .8) (claims· .9) "below::lines::at_opening") (known5 : Plain.Known 𝓤 H A W 𝓣 0 ps·5 r·5 (claims· .10) (claims· .11) "roles::steps::same_place") (known6 : Plain.Known 𝓤 H A W 𝓣 0 ps·6 r·6 (claims· .12) (claims· .13) "below::lines::at_end") where
           pub spec : Statement.Triple 𝓤 (Wp.WpFn 𝓤 H (𝓣 .C) (𝓣 .Λ) (Function.fnOf 6 ps r xs m hs body)) (Function.plainOf 𝓤 H A 6 ps r Pre· Post·)
           spec = Plain.t-fn-plain 𝓤 H A W 𝓣 6 ps r xs m hs body (λ κs qs bs. Φ bs) (λ κs qs bs bd. typed κs qs 𝓤 H A W 𝓣 (known0, known1, known2, known3, known4, known5, known6) bs bd) Pre· Post· asked

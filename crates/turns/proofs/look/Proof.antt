@@ -1,10 +1,10 @@
--- `kept::look` meets its contract. Assumes nothing.
+-- `turns::look` meets its contract. Assumes nothing.
 mod Tie
 use mathlib.Core.Path.{refl}
-use Rattle.kept.proofs.KeptLaws.{told}
+use Rattle.turns.proofs.TurnLaws.{told}
 use borrow.Author.Needs.{needs}
-use Rattle.kept.proofs.look.Statement.{statement}
-use Rattle.kept.proofs.look.Proof.Tie as tie
+use Rattle.turns.proofs.look.Statement.{statement}
+use Rattle.turns.proofs.look.Proof.Tie as tie
 
 mul-e : tie.Need-mul-e
 mul-e c = search needs

@@ -1,11 +1,11 @@
 -- The derivation of `look`, with a need for each thing that is left. Made by tools/walk.py, from what Rattle makes for a twin in which the elements are arrays.
 -- Assumes nothing.
 use Prim.Native.Nat
 use Rattle.kept.proofs.Made.KeptElem
-use Rattle.kept.proofs.Turn
-use Rattle.kept.proofs.Turn.Laws
 use Rattle.script.proofs.roles.Where
-use Rattle.script.proofs.roles.Where.Laws as Laws'
+use Rattle.script.proofs.roles.Where.Laws
+use Rattle.turns.proofs.Turn
+use Rattle.turns.proofs.Turn.Laws as Laws'
 use borrow.Author.Called
 use borrow.Author.Tests
 use borrow.Fn.Any
@@ -57,22 +57,22 @@ use prog.Wp
 use types.Kit
 
 abbrev τ0 : Syntax.Ty
-τ0 = Syntax.tyStruct (List._∷_ 107 (List._∷_ 101 (List._∷_ 112 (List._∷_ 116 (List._∷_ 58 (List._∷_ 58 (List._∷_ 84 (List._∷_ 117 (List._∷_ 114 (List._∷_ 110 List.[])))))))))) (Syntax.tcons (Syntax.tyStruct (List._∷_ 115 (List._∷_ 99 (List._∷_ 114 (List._∷_ 105 (List._∷_ 112 (List._∷_ 116 (List._∷_ 58 (List._∷_ 58 (List._∷_ 114 (List._∷_ 111 (List._∷_ 108 (List._∷_ 101 (List._∷_ 115 (List._∷_ 58 (List._∷_ 58 (List._∷_ 83 (List._∷_ 116 (List._∷_ 101 (List._∷_ 112 List.[]))))))))))))))))))) (Syntax.tcons (Syntax.tyEnum (List._∷_ 115 (List._∷_ 99 (List._∷_ 114 (List._∷_ 105 (List._∷_ 112 (List._∷_ 116 (List._∷_ 58 (List._∷_ 58 (List._∷_ 114 (List._∷_ 111 (List._∷_ 108 (List._∷_ 101 (List._∷_ 115 (List._∷_ 58 (List._∷_ 58 (List._∷_ 82 (List._∷_ 111 (List._∷_ 108 (List._∷_ 101 List.[]))))))))))))))))))) (Syntax.ttcons Syntax.tnil (Syntax.ttcons (Syntax.tcons (Syntax.tyEnum (List._∷_ 115 (List._∷_ 99 (List._∷_ 114 (List._∷_ 105 (List._∷_ 112 (List._∷_ 116 (List._∷_ 58 (List._∷_ 58 (List._∷_ 114 (List._∷_ 111 (List._∷_ 108 (List._∷_ 101 (List._∷_ 115 (List._∷_ 58 (List._∷_ 58 (List._∷_ 83 (List._∷_ 97 (List._∷_ 121 (List._∷_ 105 (List._∷_ 110 (List._∷_ 103 List.[]))))))))))))))))))))) (Syntax.ttcons (Syntax.tcons (Syntax.tyEnum (List._∷_ 115 (List._∷_ 99 (List._∷_ 114 (List._∷_ 105 (List._∷_ 112 (List._∷_ 116 (List._∷_ 58 (List._∷_ 58 (List._∷_ 114 (List._∷_ 111 (List._∷_ 108 (List._∷_ 101 (List._∷_ 115 (List._∷_ 58 (List._∷_ 58 (List._∷_ 75 (List._∷_ 101 (List._∷_ 121 List.[])))))))))))))))))) (Syntax.ttcons Syntax.tnil (Syntax.ttcons Syntax.tnil (Syntax.ttcons Syntax.tnil (Syntax.ttcons Syntax.tnil (Syntax.ttcons Syntax.tnil (Syntax.ttcons Syntax.tnil (Syntax.ttcons Syntax.tnil (Syntax.ttcons Syntax.tnil (Syntax.ttcons Syntax.tnil (Syntax.ttcons Syntax.tnil (Syntax.ttcons Syntax.tnil (Syntax.ttcons Syntax.tnil (Syntax.ttcons Syntax.tnil (Syntax.ttcons Syntax.tnil (Syntax.ttcons Syntax.tnil (Syntax.ttcons Syntax.tnil (Syntax.ttcons Syntax.tnil (Syntax.ttcons Syntax.tnil (Syntax.ttcons Syntax.tnil (Syntax.ttcons Syntax.tnil (Syntax.ttcons Syntax.tnil (Syntax.ttcons Syntax.tnil (Syntax.ttcons Syntax.tnil (Syntax.ttcons Syntax.tnil (Syntax.ttcons Syntax.tnil (Syntax.ttcons Syntax.tnil (Syntax.ttcons Syntax.tnil (Syntax.ttcons Syntax.tnil (Syntax.ttcons Syntax.tnil (Syntax.ttcons Syntax.tnil (Syntax.ttcons Syntax.tnil (Syntax.ttcons Syntax.tnil Syntax.ttnil))))))))))))))))))))))))))))))))) (Syntax.tcons (Syntax.tyStruct (List._∷_ 116 (List._∷_ 101 (List._∷_ 120 (List._∷_ 116 (List._∷_ 58 (List._∷_ 58 (List._∷_ 112 (List._∷_ 97 (List._∷_ 114 (List._∷_ 116 (List._∷_ 115 (List._∷_ 58 (List._∷_ 58 (List._∷_ 83 (List._∷_ 112 (List._∷_ 97 (List._∷_ 110 List.[]))))))))))))))))) (Syntax.tcons (Syntax.tyInt Syntax.w64) (Syntax.tcons (Syntax.tyInt Syntax.w64) Syntax.tnil))) Syntax.tnil)) (Syntax.ttcons (Syntax.tcons (Syntax.tyStruct (List._∷_ 116 (List._∷_ 101 (List._∷_ 120 (List._∷_ 116 (List._∷_ 58 (List._∷_ 58 (List._∷_ 112 (List._∷_ 97 (List._∷_ 114 (List._∷_ 116 (List._∷_ 115 (List._∷_ 58 (List._∷_ 58 (List._∷_ 83 (List._∷_ 112 (List._∷_ 97 (List._∷_ 110 List.[]))))))))))))))))) (Syntax.tcons (Syntax.tyInt Syntax.w64) (Syntax.tcons (Syntax.tyInt Syntax.w64) Syntax.tnil))) (Syntax.tcons (Syntax.tyStruct (List._∷_ 116 (List._∷_ 101 (List._∷_ 120 (List._∷_ 116 (List._∷_ 58 (List._∷_ 58 (List._∷_ 112 (List._∷_ 97 (List._∷_ 114 (List._∷_ 116 (List._∷_ 115 (List._∷_ 58 (List._∷_ 58 (List._∷_ 83 (List._∷_ 112 (List._∷_ 97 (List._∷_ 110 List.[]))))))))))))))))) (Syntax.tcons (Syntax.tyInt Syntax.w64) (Syntax.tcons (Syntax.tyInt Syntax.w64) Syntax.tnil))) Syntax.tnil)) (Syntax.ttcons Syntax.tnil (Syntax.ttcons (Syntax.tcons (Syntax.tyStruct (List._∷_ 116 (List._∷_ 101 (List._∷_ 120 (List._∷_ 116 (List._∷_ 58 (List._∷_ 58 (List._∷_ 112 (List._∷_ 97 (List._∷_ 114 (List._∷_ 116 (List._∷_ 115 (List._∷_ 58 (List._∷_ 58 (List._∷_ 83 (List._∷_ 112 (List._∷_ 97 (List._∷_ 110 List.[]))))))))))))))))) (Syntax.tcons (Syntax.tyInt Syntax.w64) (Syntax.tcons (Syntax.tyInt Syntax.w64) Syntax.tnil))) (Syntax.tcons (Syntax.tyStruct (List._∷_ 116 (List._∷_ 101 (List._∷_ 120 (List._∷_ 116 (List._∷_ 58 (List._∷_ 58 (List._∷_ 112 (List._∷_ 97 (List._∷_ 114 (List._∷_ 116 (List._∷_ 115 (List._∷_ 58 (List._∷_ 58 (List._∷_ 83 (List._∷_ 112 (List._∷_ 97 (List._∷_ 110 List.[]))))))))))))))))) (Syntax.tcons (Syntax.tyInt Syntax.w64) (Syntax.tcons (Syntax.tyInt Syntax.w64) Syntax.tnil))) Syntax.tnil)) (Syntax.ttcons Syntax.tnil (Syntax.ttcons Syntax.tnil Syntax.ttnil))))))) Syntax.tnil) (Syntax.ttcons (Syntax.tcons (Syntax.tyEnum (List._∷_ 115 (List._∷_ 99 (List._∷_ 114 (List._∷_ 105 (List._∷_ 112 (List._∷_ 116 (List._∷_ 58 (List._∷_ 58 (List._∷_ 114 (List._∷_ 101 (List._∷_ 99 (List._∷_ 111 (List._∷_ 114 (List._∷_ 100 (List._∷_ 115 (List._∷_ 58 (List._∷_ 58 (List._∷_ 69 (List._∷_ 120 (List._∷_ 112 (List._∷_ 101 (List._∷_ 99 (List._∷_ 116 List.[]))))))))))))))))))))))) (Syntax.ttcons (Syntax.tcons (Syntax.tyStruct (List._∷_ 115 (List._∷_ 99 (List._∷_ 114 (List._∷_ 105 (List._∷_ 112 (List._∷_ 116 (List._∷_ 58 (List._∷_ 58 (List._∷_ 114 (List._∷_ 101 (List._∷_ 99 (List._∷_ 111 (List._∷_ 114 (List._∷_ 100 (List._∷_ 115 (List._∷_ 58 (List._∷_ 58 (List._∷_ 80 (List._∷_ 108 (List._∷_ 97 (List._∷_ 99 (List._∷_ 101 List.[])))))))))))))))))))))) (Syntax.tcons (Syntax.tyInt Syntax.w64) (Syntax.tcons (Syntax.tyInt Syntax.w64) Syntax.tnil))) Syntax.tnil) (Syntax.ttcons (Syntax.tcons (Syntax.tyEnum (List._∷_ 115 (List._∷_ 99 (List._∷_ 114 (List._∷_ 105 (List._∷_ 112 (List._∷_ 116 (List._∷_ 58 (List._∷_ 58 (List._∷_ 114 (List._∷_ 101 (List._∷_ 99 (List._∷_ 111 (List._∷_ 114 (List._∷_ 100 (List._∷_ 115 (List._∷_ 58 (List._∷_ 58 (List._∷_ 77 (List._∷_ 97 (List._∷_ 116 (List._∷_ 99 (List._∷_ 104 (List._∷_ 101 (List._∷_ 114 List.[])))))))))))))))))))))))) (Syntax.ttcons (Syntax.tcons (Syntax.tyStruct (List._∷_ 115 (List._∷_ 99 (List._∷_ 114 (List._∷_ 105 (List._∷_ 112 (List._∷_ 116 (List._∷_ 58 (List._∷_ 58 (List._∷_ 114 (List._∷_ 101 (List._∷_ 99 (List._∷_ 111 (List._∷_ 114 (List._∷_ 100 (List._∷_ 115 (List._∷_ 58 (List._∷_ 58 (List._∷_ 80 (List._∷_ 108 (List._∷_ 97 (List._∷_ 99 (List._∷_ 101 List.[])))))))))))))))))))))) (Syntax.tcons (Syntax.tyInt Syntax.w64) (Syntax.tcons (Syntax.tyInt Syntax.w64) Syntax.tnil))) Syntax.tnil) (Syntax.ttcons (Syntax.tcons (Syntax.tyStruct (List._∷_ 115 (List._∷_ 99 (List._∷_ 114 (List._∷_ 105 (List._∷_ 112 (List._∷_ 116 (List._∷_ 58 (List._∷_ 58 (List._∷_ 114 (List._∷_ 101 (List._∷_ 99 (List._∷_ 111 (List._∷_ 114 (List._∷_ 100 (List._∷_ 115 (List._∷_ 58 (List._∷_ 58 (List._∷_ 80 (List._∷_ 108 (List._∷_ 97 (List._∷_ 99 (List._∷_ 101 List.[])))))))))))))))))))))) (Syntax.tcons (Syntax.tyInt Syntax.w64) (Syntax.tcons (Syntax.tyInt Syntax.w64) Syntax.tnil))) Syntax.tnil) (Syntax.ttcons (Syntax.tcons (Syntax.tyInt Syntax.w64) Syntax.tnil) (Syntax.ttcons (Syntax.tcons (Syntax.tyInt Syntax.w64) Syntax.tnil) (Syntax.ttcons (Syntax.tcons (Syntax.tyInt Syntax.w64) Syntax.tnil) (Syntax.ttcons (Syntax.tcons (Syntax.tyInt Syntax.w64) Syntax.tnil) Syntax.ttnil))))))) Syntax.tnil) (Syntax.ttcons (Syntax.tcons (Syntax.tyStruct (List._∷_ 115 (List._∷_ 99 (List._∷_ 114 (List._∷_ 105 (List._∷_ 112 (List._∷_ 116 (List._∷_ 58 (List._∷_ 58 (List._∷_ 114 (List._∷_ 101 (List._∷_ 99 (List._∷_ 111 (List._∷_ 114 (List._∷_ 100 (List._∷_ 115 (List._∷_ 58 (List._∷_ 58 (List._∷_ 80 (List._∷_ 108 (List._∷_ 97 (List._∷_ 99 (List._∷_ 101 List.[])))))))))))))))))))))) (Syntax.tcons (Syntax.tyInt Syntax.w64) (Syntax.tcons (Syntax.tyInt Syntax.w64) Syntax.tnil))) (Syntax.tcons (Syntax.tyEnum (List._∷_ 115 (List._∷_ 99 (List._∷_ 114 (List._∷_ 105 (List._∷_ 112 (List._∷_ 116 (List._∷_ 58 (List._∷_ 58 (List._∷_ 114 (List._∷_ 101 (List._∷_ 99 (List._∷_ 111 (List._∷_ 114 (List._∷_ 100 (List._∷_ 115 (List._∷_ 58 (List._∷_ 58 (List._∷_ 77 (List._∷_ 97 (List._∷_ 116 (List._∷_ 99 (List._∷_ 104 (List._∷_ 101 (List._∷_ 114 List.[])))))))))))))))))))))))) (Syntax.ttcons (Syntax.tcons (Syntax.tyStruct (List._∷_ 115 (List._∷_ 99 (List._∷_ 114 (List._∷_ 105 (List._∷_ 112 (List._∷_ 116 (List._∷_ 58 (List._∷_ 58 (List._∷_ 114 (List._∷_ 101 (List._∷_ 99 (List._∷_ 111 (List._∷_ 114 (List._∷_ 100 (List._∷_ 115 (List._∷_ 58 (List._∷_ 58 (List._∷_ 80 (List._∷_ 108 (List._∷_ 97 (List._∷_ 99 (List._∷_ 101 List.[])))))))))))))))))))))) (Syntax.tcons (Syntax.tyInt Syntax.w64) (Syntax.tcons (Syntax.tyInt Syntax.w64) Syntax.tnil))) Syntax.tnil) (Syntax.ttcons (Syntax.tcons (Syntax.tyStruct (List._∷_ 115 (List._∷_ 99 (List._∷_ 114 (List._∷_ 105 (List._∷_ 112 (List._∷_ 116 (List._∷_ 58 (List._∷_ 58 (List._∷_ 114 (List._∷_ 101 (List._∷_ 99 (List._∷_ 111 (List._∷_ 114 (List._∷_ 100 (List._∷_ 115 (List._∷_ 58 (List._∷_ 58 (List._∷_ 80 (List._∷_ 108 (List._∷_ 97 (List._∷_ 99 (List._∷_ 101 List.[])))))))))))))))))))))) (Syntax.tcons (Syntax.tyInt Syntax.w64) (Syntax.tcons (Syntax.tyInt Syntax.w64) Syntax.tnil))) Syntax.tnil) (Syntax.ttcons (Syntax.tcons (Syntax.tyInt Syntax.w64) Syntax.tnil) (Syntax.ttcons (Syntax.tcons (Syntax.tyInt Syntax.w64) Syntax.tnil) (Syntax.ttcons (Syntax.tcons (Syntax.tyInt Syntax.w64) Syntax.tnil) (Syntax.ttcons (Syntax.tcons (Syntax.tyInt Syntax.w64) Syntax.tnil) Syntax.ttnil))))))) Syntax.tnil)) (Syntax.ttcons (Syntax.tcons (Syntax.tyEnum (List._∷_ 115 (List._∷_ 99 (List._∷_ 114 (List._∷_ 105 (List._∷_ 112 (List._∷_ 116 (List._∷_ 58 (List._∷_ 58 (List._∷_ 114 (List._∷_ 101 (List._∷_ 99 (List._∷_ 111 (List._∷_ 114 (List._∷_ 100 (List._∷_ 115 (List._∷_ 58 (List._∷_ 58 (List._∷_ 77 (List._∷_ 97 (List._∷_ 116 (List._∷_ 99 (List._∷_ 104 (List._∷_ 101 (List._∷_ 114 List.[])))))))))))))))))))))))) (Syntax.ttcons (Syntax.tcons (Syntax.tyStruct (List._∷_ 115 (List._∷_ 99 (List._∷_ 114 (List._∷_ 105 (List._∷_ 112 (List._∷_ 116 (List._∷_ 58 (List._∷_ 58 (List._∷_ 114 (List._∷_ 101 (List._∷_ 99 (List._∷_ 111 (List._∷_ 114 (List._∷_ 100 (List._∷_ 115 (List._∷_ 58 (List._∷_ 58 (List._∷_ 80 (List._∷_ 108 (List._∷_ 97 (List._∷_ 99 (List._∷_ 101 List.[])))))))))))))))))))))) (Syntax.tcons (Syntax.tyInt Syntax.w64) (Syntax.tcons (Syntax.tyInt Syntax.w64) Syntax.tnil))) Syntax.tnil) (Syntax.ttcons (Syntax.tcons (Syntax.tyStruct (List._∷_ 115 (List._∷_ 99 (List._∷_ 114 (List._∷_ 105 (List._∷_ 112 (List._∷_ 116 (List._∷_ 58 (List._∷_ 58 (List._∷_ 114 (List._∷_ 101 (List._∷_ 99 (List._∷_ 111 (List._∷_ 114 (List._∷_ 100 (List._∷_ 115 (List._∷_ 58 (List._∷_ 58 (List._∷_ 80 (List._∷_ 108 (List._∷_ 97 (List._∷_ 99 (List._∷_ 101 List.[])))))))))))))))))))))) (Syntax.tcons (Syntax.tyInt Syntax.w64) (Syntax.tcons (Syntax.tyInt Syntax.w64) Syntax.tnil))) Syntax.tnil) (Syntax.ttcons (Syntax.tcons (Syntax.tyInt Syntax.w64) Syntax.tnil) (Syntax.ttcons (Syntax.tcons (Syntax.tyInt Syntax.w64) Syntax.tnil) (Syntax.ttcons (Syntax.tcons (Syntax.tyInt Syntax.w64) Syntax.tnil) (Syntax.ttcons (Syntax.tcons (Syntax.tyInt Syntax.w64) Syntax.tnil) Syntax.ttnil))))))) Syntax.tnil) (Syntax.ttcons (Syntax.tcons (Syntax.tyEnum (List._∷_ 115 (List._∷_ 99 (List._∷_ 114 (List._∷_ 105 (List._∷_ 112 (List._∷_ 116 (List._∷_ 58 (List._∷_ 58 (List._∷_ 114 (List._∷_ 101 (List._∷_ 99 (List._∷_ 111 (List._∷_ 114 (List._∷_ 100 (List._∷_ 115 (List._∷_ 58 (List._∷_ 58 (List._∷_ 77 (List._∷_ 97 (List._∷_ 116 (List._∷_ 99 (List._∷_ 104 (List._∷_ 101 (List._∷_ 114 List.[])))))))))))))))))))))))) (Syntax.ttcons (Syntax.tcons (Syntax.tyStruct (List._∷_ 115 (List._∷_ 99 (List._∷_ 114 (List._∷_ 105 (List._∷_ 112 (List._∷_ 116 (List._∷_ 58 (List._∷_ 58 (List._∷_ 114 (List._∷_ 101 (List._∷_ 99 (List._∷_ 111 (List._∷_ 114 (List._∷_ 100 (List._∷_ 115 (List._∷_ 58 (List._∷_ 58 (List._∷_ 80 (List._∷_ 108 (List._∷_ 97 (List._∷_ 99 (List._∷_ 101 List.[])))))))))))))))))))))) (Syntax.tcons (Syntax.tyInt Syntax.w64) (Syntax.tcons (Syntax.tyInt Syntax.w64) Syntax.tnil))) Syntax.tnil) (Syntax.ttcons (Syntax.tcons (Syntax.tyStruct (List._∷_ 115 (List._∷_ 99 (List._∷_ 114 (List._∷_ 105 (List._∷_ 112 (List._∷_ 116 (List._∷_ 58 (List._∷_ 58 (List._∷_ 114 (List._∷_ 101 (List._∷_ 99 (List._∷_ 111 (List._∷_ 114 (List._∷_ 100 (List._∷_ 115 (List._∷_ 58 (List._∷_ 58 (List._∷_ 80 (List._∷_ 108 (List._∷_ 97 (List._∷_ 99 (List._∷_ 101 List.[])))))))))))))))))))))) (Syntax.tcons (Syntax.tyInt Syntax.w64) (Syntax.tcons (Syntax.tyInt Syntax.w64) Syntax.tnil))) Syntax.tnil) (Syntax.ttcons (Syntax.tcons (Syntax.tyInt Syntax.w64) Syntax.tnil) (Syntax.ttcons (Syntax.tcons (Syntax.tyInt Syntax.w64) Syntax.tnil) (Syntax.ttcons (Syntax.tcons (Syntax.tyInt Syntax.w64) Syntax.tnil) (Syntax.ttcons (Syntax.tcons (Syntax.tyInt Syntax.w64) Syntax.tnil) Syntax.ttnil))))))) Syntax.tnil) (Syntax.ttcons (Syntax.tcons (Syntax.tyEnum (List._∷_ 115 (List._∷_ 99 (List._∷_ 114 (List._∷_ 105 (List._∷_ 112 (List._∷_ 116 (List._∷_ 58 (List._∷_ 58 (List._∷_ 114 (List._∷_ 101 (List._∷_ 99 (List._∷_ 111 (List._∷_ 114 (List._∷_ 100 (List._∷_ 115 (List._∷_ 58 (List._∷_ 58 (List._∷_ 77 (List._∷_ 97 (List._∷_ 116 (List._∷_ 99 (List._∷_ 104 (List._∷_ 101 (List._∷_ 114 List.[])))))))))))))))))))))))) (Syntax.ttcons (Syntax.tcons (Syntax.tyStruct (List._∷_ 115 (List._∷_ 99 (List._∷_ 114 (List._∷_ 105 (List._∷_ 112 (List._∷_ 116 (List._∷_ 58 (List._∷_ 58 (List._∷_ 114 (List._∷_ 101 (List._∷_ 99 (List._∷_ 111 (List._∷_ 114 (List._∷_ 100 (List._∷_ 115 (List._∷_ 58 (List._∷_ 58 (List._∷_ 80 (List._∷_ 108 (List._∷_ 97 (List._∷_ 99 (List._∷_ 101 List.[])))))))))))))))))))))) (Syntax.tcons (Syntax.tyInt Syntax.w64) (Syntax.tcons (Syntax.tyInt Syntax.w64) Syntax.tnil))) Syntax.tnil) (Syntax.ttcons (Syntax.tcons (Syntax.tyStruct (List._∷_ 115 (List._∷_ 99 (List._∷_ 114 (List._∷_ 105 (List._∷_ 112 (List._∷_ 116 (List._∷_ 58 (List._∷_ 58 (List._∷_ 114 (List._∷_ 101 (List._∷_ 99 (List._∷_ 111 (List._∷_ 114 (List._∷_ 100 (List._∷_ 115 (List._∷_ 58 (List._∷_ 58 (List._∷_ 80 (List._∷_ 108 (List._∷_ 97 (List._∷_ 99 (List._∷_ 101 List.[])))))))))))))))))))))) (Syntax.tcons (Syntax.tyInt Syntax.w64) (Syntax.tcons (Syntax.tyInt Syntax.w64) Syntax.tnil))) Syntax.tnil) (Syntax.ttcons (Syntax.tcons (Syntax.tyInt Syntax.w64) Syntax.tnil) (Syntax.ttcons (Syntax.tcons (Syntax.tyInt Syntax.w64) Syntax.tnil) (Syntax.ttcons (Syntax.tcons (Syntax.tyInt Syntax.w64) Syntax.tnil) (Syntax.ttcons (Syntax.tcons (Syntax.tyInt Syntax.w64) Syntax.tnil) Syntax.ttnil))))))) Syntax.tnil) (Syntax.ttcons (Syntax.tcons (Syntax.tyEnum (List._∷_ 115 (List._∷_ 99 (List._∷_ 114 (List._∷_ 105 (List._∷_ 112 (List._∷_ 116 (List._∷_ 58 (List._∷_ 58 (List._∷_ 114 (List._∷_ 101 (List._∷_ 99 (List._∷_ 111 (List._∷_ 114 (List._∷_ 100 (List._∷_ 115 (List._∷_ 58 (List._∷_ 58 (List._∷_ 77 (List._∷_ 97 (List._∷_ 116 (List._∷_ 99 (List._∷_ 104 (List._∷_ 101 (List._∷_ 114 List.[])))))))))))))))))))))))) (Syntax.ttcons (Syntax.tcons (Syntax.tyStruct (List._∷_ 115 (List._∷_ 99 (List._∷_ 114 (List._∷_ 105 (List._∷_ 112 (List._∷_ 116 (List._∷_ 58 (List._∷_ 58 (List._∷_ 114 (List._∷_ 101 (List._∷_ 99 (List._∷_ 111 (List._∷_ 114 (List._∷_ 100 (List._∷_ 115 (List._∷_ 58 (List._∷_ 58 (List._∷_ 80 (List._∷_ 108 (List._∷_ 97 (List._∷_ 99 (List._∷_ 101 List.[])))))))))))))))))))))) (Syntax.tcons (Syntax.tyInt Syntax.w64) (Syntax.tcons (Syntax.tyInt Syntax.w64) Syntax.tnil))) Syntax.tnil) (Syntax.ttcons (Syntax.tcons (Syntax.tyStruct (List._∷_ 115 (List._∷_ 99 (List._∷_ 114 (List._∷_ 105 (List._∷_ 112 (List._∷_ 116 (List._∷_ 58 (List._∷_ 58 (List._∷_ 114 (List._∷_ 101 (List._∷_ 99 (List._∷_ 111 (List._∷_ 114 (List._∷_ 100 (List._∷_ 115 (List._∷_ 58 (List._∷_ 58 (List._∷_ 80 (List._∷_ 108 (List._∷_ 97 (List._∷_ 99 (List._∷_ 101 List.[])))))))))))))))))))))) (Syntax.tcons (Syntax.tyInt Syntax.w64) (Syntax.tcons (Syntax.tyInt Syntax.w64) Syntax.tnil))) Syntax.tnil) (Syntax.ttcons (Syntax.tcons (Syntax.tyInt Syntax.w64) Syntax.tnil) (Syntax.ttcons (Syntax.tcons (Syntax.tyInt Syntax.w64) Syntax.tnil) (Syntax.ttcons (Syntax.tcons (Syntax.tyInt Syntax.w64) Syntax.tnil) (Syntax.ttcons (Syntax.tcons (Syntax.tyInt Syntax.w64) Syntax.tnil) Syntax.ttnil))))))) Syntax.tnil) (Syntax.ttcons (Syntax.tcons (Syntax.tyEnum (List._∷_ 115 (List._∷_ 99 (List._∷_ 114 (List._∷_ 105 (List._∷_ 112 (List._∷_ 116 (List._∷_ 58 (List._∷_ 58 (List._∷_ 114 (List._∷_ 101 (List._∷_ 99 (List._∷_ 111 (List._∷_ 114 (List._∷_ 100 (List._∷_ 115 (List._∷_ 58 (List._∷_ 58 (List._∷_ 77 (List._∷_ 97 (List._∷_ 116 (List._∷_ 99 (List._∷_ 104 (List._∷_ 101 (List._∷_ 114 List.[])))))))))))))))))))))))) (Syntax.ttcons (Syntax.tcons (Syntax.tyStruct (List._∷_ 115 (List._∷_ 99 (List._∷_ 114 (List._∷_ 105 (List._∷_ 112 (List._∷_ 116 (List._∷_ 58 (List._∷_ 58 (List._∷_ 114 (List._∷_ 101 (List._∷_ 99 (List._∷_ 111 (List._∷_ 114 (List._∷_ 100 (List._∷_ 115 (List._∷_ 58 (List._∷_ 58 (List._∷_ 80 (List._∷_ 108 (List._∷_ 97 (List._∷_ 99 (List._∷_ 101 List.[])))))))))))))))))))))) (Syntax.tcons (Syntax.tyInt Syntax.w64) (Syntax.tcons (Syntax.tyInt Syntax.w64) Syntax.tnil))) Syntax.tnil) (Syntax.ttcons (Syntax.tcons (Syntax.tyStruct (List._∷_ 115 (List._∷_ 99 (List._∷_ 114 (List._∷_ 105 (List._∷_ 112 (List._∷_ 116 (List._∷_ 58 (List._∷_ 58 (List._∷_ 114 (List._∷_ 101 (List._∷_ 99 (List._∷_ 111 (List._∷_ 114 (List._∷_ 100 (List._∷_ 115 (List._∷_ 58 (List._∷_ 58 (List._∷_ 80 (List._∷_ 108 (List._∷_ 97 (List._∷_ 99 (List._∷_ 101 List.[])))))))))))))))))))))) (Syntax.tcons (Syntax.tyInt Syntax.w64) (Syntax.tcons (Syntax.tyInt Syntax.w64) Syntax.tnil))) Syntax.tnil) (Syntax.ttcons (Syntax.tcons (Syntax.tyInt Syntax.w64) Syntax.tnil) (Syntax.ttcons (Syntax.tcons (Syntax.tyInt Syntax.w64) Syntax.tnil) (Syntax.ttcons (Syntax.tcons (Syntax.tyInt Syntax.w64) Syntax.tnil) (Syntax.ttcons (Syntax.tcons (Syntax.tyInt Syntax.w64) Syntax.tnil) Syntax.ttnil))))))) Syntax.tnil) Syntax.ttnil))))))))) Syntax.tnil) (Syntax.ttcons (Syntax.tcons (Syntax.tyStruct (List._∷_ 115 (List._∷_ 99 (List._∷_ 114 (List._∷_ 105 (List._∷_ 112 (List._∷_ 116 (List._∷_ 58 (List._∷_ 58 (List._∷_ 114 (List._∷_ 111 (List._∷_ 108 (List._∷_ 101 (List._∷_ 115 (List._∷_ 58 (List._∷_ 58 (List._∷_ 79 (List._∷_ 112 (List._∷_ 101 (List._∷_ 110 (List._∷_ 105 (List._∷_ 110 (List._∷_ 103 List.[])))))))))))))))))))))) (Syntax.tcons (Syntax.tyEnum (List._∷_ 115 (List._∷_ 99 (List._∷_ 114 (List._∷_ 105 (List._∷_ 112 (List._∷_ 116 (List._∷_ 58 (List._∷_ 58 (List._∷_ 114 (List._∷_ 101 (List._∷_ 99 (List._∷_ 111 (List._∷_ 114 (List._∷_ 100 (List._∷_ 115 (List._∷_ 58 (List._∷_ 58 (List._∷_ 83 (List._∷_ 116 (List._∷_ 97 (List._∷_ 109 (List._∷_ 112 List.[])))))))))))))))))))))) (Syntax.ttcons Syntax.tnil (Syntax.ttcons (Syntax.tcons (Syntax.tyStruct (List._∷_ 115 (List._∷_ 99 (List._∷_ 114 (List._∷_ 105 (List._∷_ 112 (List._∷_ 116 (List._∷_ 58 (List._∷_ 58 (List._∷_ 114 (List._∷_ 101 (List._∷_ 99 (List._∷_ 111 (List._∷_ 114 (List._∷_ 100 (List._∷_ 115 (List._∷_ 58 (List._∷_ 58 (List._∷_ 84 (List._∷_ 105 (List._∷_ 109 (List._∷_ 101 List.[]))))))))))))))))))))) (Syntax.tcons Syntax.tyBool (Syntax.tcons (Syntax.tyInt Syntax.w64) (Syntax.tcons (Syntax.tyInt Syntax.w64) Syntax.tnil)))) Syntax.tnil) Syntax.ttnil))) (Syntax.tcons (Syntax.tyEnum (List._∷_ 119 (List._∷_ 105 (List._∷_ 114 (List._∷_ 101 (List._∷_ 58 (List._∷_ 58 (List._∷_ 111 (List._∷_ 112 (List._∷_ 115 (List._∷_ 58 (List._∷_ 58 (List._∷_ 79 (List._∷_ 112 List.[]))))))))))))) (Syntax.ttcons Syntax.tnil (Syntax.ttcons Syntax.tnil (Syntax.ttcons Syntax.tnil (Syntax.ttcons Syntax.tnil (Syntax.ttcons Syntax.tnil (Syntax.ttcons Syntax.tnil (Syntax.ttcons Syntax.tnil (Syntax.ttcons Syntax.tnil (Syntax.ttcons Syntax.tnil (Syntax.ttcons Syntax.tnil (Syntax.ttcons Syntax.tnil (Syntax.ttcons Syntax.tnil (Syntax.ttcons Syntax.tnil (Syntax.ttcons Syntax.tnil (Syntax.ttcons Syntax.tnil (Syntax.ttcons Syntax.tnil (Syntax.ttcons Syntax.tnil (Syntax.ttcons Syntax.tnil (Syntax.ttcons Syntax.tnil (Syntax.ttcons Syntax.tnil (Syntax.ttcons Syntax.tnil (Syntax.ttcons Syntax.tnil (Syntax.ttcons Syntax.tnil (Syntax.ttcons Syntax.tnil (Syntax.ttcons Syntax.tnil (Syntax.ttcons Syntax.tnil (Syntax.ttcons Syntax.tnil (Syntax.ttcons Syntax.tnil (Syntax.ttcons Syntax.tnil (Syntax.ttcons Syntax.tnil (Syntax.ttcons Syntax.tnil (Syntax.ttcons Syntax.tnil (Syntax.ttcons Syntax.tnil (Syntax.ttcons Syntax.tnil (Syntax.ttcons Syntax.tnil (Syntax.ttcons Syntax.tnil (Syntax.ttcons Syntax.tnil Syntax.ttnil)))))))))))))))))))))))))))))))))))))) (Syntax.tcons (Syntax.tyStruct (List._∷_ 116 (List._∷_ 101 (List._∷_ 120 (List._∷_ 116 (List._∷_ 58 (List._∷_ 58 (List._∷_ 112 (List._∷_ 97 (List._∷_ 114 (List._∷_ 116 (List._∷_ 115 (List._∷_ 58 (List._∷_ 58 (List._∷_ 83 (List._∷_ 112 (List._∷_ 97 (List._∷_ 110 List.[]))))))))))))))))) (Syntax.tcons (Syntax.tyInt Syntax.w64) (Syntax.tcons (Syntax.tyInt Syntax.w64) Syntax.tnil))) Syntax.tnil)))) Syntax.tnil) (Syntax.ttcons (Syntax.tcons (Syntax.tyInt Syntax.w64) Syntax.tnil) Syntax.ttnil)))))) (Syntax.tcons (Syntax.tyEnum (List._∷_ 115 (List._∷_ 99 (List._∷_ 114 (List._∷_ 105 (List._∷_ 112 (List._∷_ 116 (List._∷_ 58 (List._∷_ 58 (List._∷_ 114 (List._∷_ 111 (List._∷_ 108 (List._∷_ 101 (List._∷_ 115 (List._∷_ 58 (List._∷_ 58 (List._∷_ 87 (List._∷_ 104 (List._∷_ 101 (List._∷_ 114 (List._∷_ 101 List.[])))))))))))))))))))) (Syntax.ttcons Syntax.tnil (Syntax.ttcons Syntax.tnil (Syntax.ttcons (Syntax.tcons (Syntax.tyEnum (List._∷_ 115 (List._∷_ 99 (List._∷_ 114 (List._∷_ 105 (List._∷_ 112 (List._∷_ 116 (List._∷_ 58 (List._∷_ 58 (List._∷_ 114 (List._∷_ 111 (List._∷_ 108 (List._∷_ 101 (List._∷_ 115 (List._∷_ 58 (List._∷_ 58 (List._∷_ 84 (List._∷_ 97 (List._∷_ 107 (List._∷_ 101 (List._∷_ 115 List.[])))))))))))))))))))) (Syntax.ttcons Syntax.tnil (Syntax.ttcons Syntax.tnil (Syntax.ttcons Syntax.tnil (Syntax.ttcons Syntax.tnil (Syntax.ttcons Syntax.tnil (Syntax.ttcons Syntax.tnil (Syntax.ttcons Syntax.tnil (Syntax.ttcons Syntax.tnil (Syntax.ttcons Syntax.tnil Syntax.ttnil)))))))))) (Syntax.tcons Syntax.tyBool Syntax.tnil)) (Syntax.ttcons Syntax.tnil Syntax.ttnil))))) Syntax.tnil))) (Syntax.tcons (Syntax.tyInt Syntax.w64) Syntax.tnil))
+τ0 = Syntax.tyStruct (List._∷_ 116 (List._∷_ 117 (List._∷_ 114 (List._∷_ 110 (List._∷_ 115 (List._∷_ 58 (List._∷_ 58 (List._∷_ 84 (List._∷_ 117 (List._∷_ 114 (List._∷_ 110 List.[]))))))))))) (Syntax.tcons (Syntax.tyStruct (List._∷_ 115 (List._∷_ 99 (List._∷_ 114 (List._∷_ 105 (List._∷_ 112 (List._∷_ 116 (List._∷_ 58 (List._∷_ 58 (List._∷_ 114 (List._∷_ 111 (List._∷_ 108 (List._∷_ 101 (List._∷_ 115 (List._∷_ 58 (List._∷_ 58 (List._∷_ 83 (List._∷_ 116 (List._∷_ 101 (List._∷_ 112 List.[]))))))))))))))))))) (Syntax.tcons (Syntax.tyEnum (List._∷_ 115 (List._∷_ 99 (List._∷_ 114 (List._∷_ 105 (List._∷_ 112 (List._∷_ 116 (List._∷_ 58 (List._∷_ 58 (List._∷_ 114 (List._∷_ 111 (List._∷_ 108 (List._∷_ 101 (List._∷_ 115 (List._∷_ 58 (List._∷_ 58 (List._∷_ 82 (List._∷_ 111 (List._∷_ 108 (List._∷_ 101 List.[]))))))))))))))))))) (Syntax.ttcons Syntax.tnil (Syntax.ttcons (Syntax.tcons (Syntax.tyEnum (List._∷_ 115 (List._∷_ 99 (List._∷_ 114 (List._∷_ 105 (List._∷_ 112 (List._∷_ 116 (List._∷_ 58 (List._∷_ 58 (List._∷_ 114 (List._∷_ 111 (List._∷_ 108 (List._∷_ 101 (List._∷_ 115 (List._∷_ 58 (List._∷_ 58 (List._∷_ 83 (List._∷_ 97 (List._∷_ 121 (List._∷_ 105 (List._∷_ 110 (List._∷_ 103 List.[]))))))))))))))))))))) (Syntax.ttcons (Syntax.tcons (Syntax.tyEnum (List._∷_ 115 (List._∷_ 99 (List._∷_ 114 (List._∷_ 105 (List._∷_ 112 (List._∷_ 116 (List._∷_ 58 (List._∷_ 58 (List._∷_ 114 (List._∷_ 111 (List._∷_ 108 (List._∷_ 101 (List._∷_ 115 (List._∷_ 58 (List._∷_ 58 (List._∷_ 75 (List._∷_ 101 (List._∷_ 121 List.[])))))))))))))))))) (Syntax.ttcons Syntax.tnil (Syntax.ttcons Syntax.tnil (Syntax.ttcons Syntax.tnil (Syntax.ttcons Syntax.tnil (Syntax.ttcons Syntax.tnil (Syntax.ttcons Syntax.tnil (Syntax.ttcons Syntax.tnil (Syntax.ttcons Syntax.tnil (Syntax.ttcons Syntax.tnil (Syntax.ttcons Syntax.tnil (Syntax.ttcons Syntax.tnil (Syntax.ttcons Syntax.tnil (Syntax.ttcons Syntax.tnil (Syntax.ttcons Syntax.tnil (Syntax.ttcons Syntax.tnil (Syntax.ttcons Syntax.tnil (Syntax.ttcons Syntax.tnil (Syntax.ttcons Syntax.tnil (Syntax.ttcons Syntax.tnil (Syntax.ttcons Syntax.tnil (Syntax.ttcons Syntax.tnil (Syntax.ttcons Syntax.tnil (Syntax.ttcons Syntax.tnil (Syntax.ttcons Syntax.tnil (Syntax.ttcons Syntax.tnil (Syntax.ttcons Syntax.tnil (Syntax.ttcons Syntax.tnil (Syntax.ttcons Syntax.tnil (Syntax.ttcons Syntax.tnil (Syntax.ttcons Syntax.tnil (Syntax.ttcons Syntax.tnil (Syntax.ttcons Syntax.tnil Syntax.ttnil))))))))))))))))))))))))))))))))) (Syntax.tcons (Syntax.tyStruct (List._∷_ 116 (List._∷_ 101 (List._∷_ 120 (List._∷_ 116 (List._∷_ 58 (List._∷_ 58 (List._∷_ 112 (List._∷_ 97 (List._∷_ 114 (List._∷_ 116 (List._∷_ 115 (List._∷_ 58 (List._∷_ 58 (List._∷_ 83 (List._∷_ 112 (List._∷_ 97 (List._∷_ 110 List.[]))))))))))))))))) (Syntax.tcons (Syntax.tyInt Syntax.w64) (Syntax.tcons (Syntax.tyInt Syntax.w64) Syntax.tnil))) Syntax.tnil)) (Syntax.ttcons (Syntax.tcons (Syntax.tyStruct (List._∷_ 116 (List._∷_ 101 (List._∷_ 120 (List._∷_ 116 (List._∷_ 58 (List._∷_ 58 (List._∷_ 112 (List._∷_ 97 (List._∷_ 114 (List._∷_ 116 (List._∷_ 115 (List._∷_ 58 (List._∷_ 58 (List._∷_ 83 (List._∷_ 112 (List._∷_ 97 (List._∷_ 110 List.[]))))))))))))))))) (Syntax.tcons (Syntax.tyInt Syntax.w64) (Syntax.tcons (Syntax.tyInt Syntax.w64) Syntax.tnil))) (Syntax.tcons (Syntax.tyStruct (List._∷_ 116 (List._∷_ 101 (List._∷_ 120 (List._∷_ 116 (List._∷_ 58 (List._∷_ 58 (List._∷_ 112 (List._∷_ 97 (List._∷_ 114 (List._∷_ 116 (List._∷_ 115 (List._∷_ 58 (List._∷_ 58 (List._∷_ 83 (List._∷_ 112 (List._∷_ 97 (List._∷_ 110 List.[]))))))))))))))))) (Syntax.tcons (Syntax.tyInt Syntax.w64) (Syntax.tcons (Syntax.tyInt Syntax.w64) Syntax.tnil))) Syntax.tnil)) (Syntax.ttcons Syntax.tnil (Syntax.ttcons (Syntax.tcons (Syntax.tyStruct (List._∷_ 116 (List._∷_ 101 (List._∷_ 120 (List._∷_ 116 (List._∷_ 58 (List._∷_ 58 (List._∷_ 112 (List._∷_ 97 (List._∷_ 114 (List._∷_ 116 (List._∷_ 115 (List._∷_ 58 (List._∷_ 58 (List._∷_ 83 (List._∷_ 112 (List._∷_ 97 (List._∷_ 110 List.[]))))))))))))))))) (Syntax.tcons (Syntax.tyInt Syntax.w64) (Syntax.tcons (Syntax.tyInt Syntax.w64) Syntax.tnil))) (Syntax.tcons (Syntax.tyStruct (List._∷_ 116 (List._∷_ 101 (List._∷_ 120 (List._∷_ 116 (List._∷_ 58 (List._∷_ 58 (List._∷_ 112 (List._∷_ 97 (List._∷_ 114 (List._∷_ 116 (List._∷_ 115 (List._∷_ 58 (List._∷_ 58 (List._∷_ 83 (List._∷_ 112 (List._∷_ 97 (List._∷_ 110 List.[]))))))))))))))))) (Syntax.tcons (Syntax.tyInt Syntax.w64) (Syntax.tcons (Syntax.tyInt Syntax.w64) Syntax.tnil))) Syntax.tnil)) (Syntax.ttcons Syntax.tnil (Syntax.ttcons Syntax.tnil Syntax.ttnil))))))) Syntax.tnil) (Syntax.ttcons (Syntax.tcons (Syntax.tyEnum (List._∷_ 115 (List._∷_ 99 (List._∷_ 114 (List._∷_ 105 (List._∷_ 112 (List._∷_ 116 (List._∷_ 58 (List._∷_ 58 (List._∷_ 114 (List._∷_ 101 (List._∷_ 99 (List._∷_ 111 (List._∷_ 114 (List._∷_ 100 (List._∷_ 115 (List._∷_ 58 (List._∷_ 58 (List._∷_ 69 (List._∷_ 120 (List._∷_ 112 (List._∷_ 101 (List._∷_ 99 (List._∷_ 116 List.[]))))))))))))))))))))))) (Syntax.ttcons (Syntax.tcons (Syntax.tyStruct (List._∷_ 115 (List._∷_ 99 (List._∷_ 114 (List._∷_ 105 (List._∷_ 112 (List._∷_ 116 (List._∷_ 58 (List._∷_ 58 (List._∷_ 114 (List._∷_ 101 (List._∷_ 99 (List._∷_ 111 (List._∷_ 114 (List._∷_ 100 (List._∷_ 115 (List._∷_ 58 (List._∷_ 58 (List._∷_ 80 (List._∷_ 108 (List._∷_ 97 (List._∷_ 99 (List._∷_ 101 List.[])))))))))))))))))))))) (Syntax.tcons (Syntax.tyInt Syntax.w64) (Syntax.tcons (Syntax.tyInt Syntax.w64) Syntax.tnil))) Syntax.tnil) (Syntax.ttcons (Syntax.tcons (Syntax.tyEnum (List._∷_ 115 (List._∷_ 99 (List._∷_ 114 (List._∷_ 105 (List._∷_ 112 (List._∷_ 116 (List._∷_ 58 (List._∷_ 58 (List._∷_ 114 (List._∷_ 101 (List._∷_ 99 (List._∷_ 111 (List._∷_ 114 (List._∷_ 100 (List._∷_ 115 (List._∷_ 58 (List._∷_ 58 (List._∷_ 77 (List._∷_ 97 (List._∷_ 116 (List._∷_ 99 (List._∷_ 104 (List._∷_ 101 (List._∷_ 114 List.[])))))))))))))))))))))))) (Syntax.ttcons (Syntax.tcons (Syntax.tyStruct (List._∷_ 115 (List._∷_ 99 (List._∷_ 114 (List._∷_ 105 (List._∷_ 112 (List._∷_ 116 (List._∷_ 58 (List._∷_ 58 (List._∷_ 114 (List._∷_ 101 (List._∷_ 99 (List._∷_ 111 (List._∷_ 114 (List._∷_ 100 (List._∷_ 115 (List._∷_ 58 (List._∷_ 58 (List._∷_ 80 (List._∷_ 108 (List._∷_ 97 (List._∷_ 99 (List._∷_ 101 List.[])))))))))))))))))))))) (Syntax.tcons (Syntax.tyInt Syntax.w64) (Syntax.tcons (Syntax.tyInt Syntax.w64) Syntax.tnil))) Syntax.tnil) (Syntax.ttcons (Syntax.tcons (Syntax.tyStruct (List._∷_ 115 (List._∷_ 99 (List._∷_ 114 (List._∷_ 105 (List._∷_ 112 (List._∷_ 116 (List._∷_ 58 (List._∷_ 58 (List._∷_ 114 (List._∷_ 101 (List._∷_ 99 (List._∷_ 111 (List._∷_ 114 (List._∷_ 100 (List._∷_ 115 (List._∷_ 58 (List._∷_ 58 (List._∷_ 80 (List._∷_ 108 (List._∷_ 97 (List._∷_ 99 (List._∷_ 101 List.[])))))))))))))))))))))) (Syntax.tcons (Syntax.tyInt Syntax.w64) (Syntax.tcons (Syntax.tyInt Syntax.w64) Syntax.tnil))) Syntax.tnil) (Syntax.ttcons (Syntax.tcons (Syntax.tyInt Syntax.w64) Syntax.tnil) (Syntax.ttcons (Syntax.tcons (Syntax.tyInt Syntax.w64) Syntax.tnil) (Syntax.ttcons (Syntax.tcons (Syntax.tyInt Syntax.w64) Syntax.tnil) (Syntax.ttcons (Syntax.tcons (Syntax.tyInt Syntax.w64) Syntax.tnil) Syntax.ttnil))))))) Syntax.tnil) (Syntax.ttcons (Syntax.tcons (Syntax.tyStruct (List._∷_ 115 (List._∷_ 99 (List._∷_ 114 (List._∷_ 105 (List._∷_ 112 (List._∷_ 116 (List._∷_ 58 (List._∷_ 58 (List._∷_ 114 (List._∷_ 101 (List._∷_ 99 (List._∷_ 111 (List._∷_ 114 (List._∷_ 100 (List._∷_ 115 (List._∷_ 58 (List._∷_ 58 (List._∷_ 80 (List._∷_ 108 (List._∷_ 97 (List._∷_ 99 (List._∷_ 101 List.[])))))))))))))))))))))) (Syntax.tcons (Syntax.tyInt Syntax.w64) (Syntax.tcons (Syntax.tyInt Syntax.w64) Syntax.tnil))) (Syntax.tcons (Syntax.tyEnum (List._∷_ 115 (List._∷_ 99 (List._∷_ 114 (List._∷_ 105 (List._∷_ 112 (List._∷_ 116 (List._∷_ 58 (List._∷_ 58 (List._∷_ 114 (List._∷_ 101 (List._∷_ 99 (List._∷_ 111 (List._∷_ 114 (List._∷_ 100 (List._∷_ 115 (List._∷_ 58 (List._∷_ 58 (List._∷_ 77 (List._∷_ 97 (List._∷_ 116 (List._∷_ 99 (List._∷_ 104 (List._∷_ 101 (List._∷_ 114 List.[])))))))))))))))))))))))) (Syntax.ttcons (Syntax.tcons (Syntax.tyStruct (List._∷_ 115 (List._∷_ 99 (List._∷_ 114 (List._∷_ 105 (List._∷_ 112 (List._∷_ 116 (List._∷_ 58 (List._∷_ 58 (List._∷_ 114 (List._∷_ 101 (List._∷_ 99 (List._∷_ 111 (List._∷_ 114 (List._∷_ 100 (List._∷_ 115 (List._∷_ 58 (List._∷_ 58 (List._∷_ 80 (List._∷_ 108 (List._∷_ 97 (List._∷_ 99 (List._∷_ 101 List.[])))))))))))))))))))))) (Syntax.tcons (Syntax.tyInt Syntax.w64) (Syntax.tcons (Syntax.tyInt Syntax.w64) Syntax.tnil))) Syntax.tnil) (Syntax.ttcons (Syntax.tcons (Syntax.tyStruct (List._∷_ 115 (List._∷_ 99 (List._∷_ 114 (List._∷_ 105 (List._∷_ 112 (List._∷_ 116 (List._∷_ 58 (List._∷_ 58 (List._∷_ 114 (List._∷_ 101 (List._∷_ 99 (List._∷_ 111 (List._∷_ 114 (List._∷_ 100 (List._∷_ 115 (List._∷_ 58 (List._∷_ 58 (List._∷_ 80 (List._∷_ 108 (List._∷_ 97 (List._∷_ 99 (List._∷_ 101 List.[])))))))))))))))))))))) (Syntax.tcons (Syntax.tyInt Syntax.w64) (Syntax.tcons (Syntax.tyInt Syntax.w64) Syntax.tnil))) Syntax.tnil) (Syntax.ttcons (Syntax.tcons (Syntax.tyInt Syntax.w64) Syntax.tnil) (Syntax.ttcons (Syntax.tcons (Syntax.tyInt Syntax.w64) Syntax.tnil) (Syntax.ttcons (Syntax.tcons (Syntax.tyInt Syntax.w64) Syntax.tnil) (Syntax.ttcons (Syntax.tcons (Syntax.tyInt Syntax.w64) Syntax.tnil) Syntax.ttnil))))))) Syntax.tnil)) (Syntax.ttcons (Syntax.tcons (Syntax.tyEnum (List._∷_ 115 (List._∷_ 99 (List._∷_ 114 (List._∷_ 105 (List._∷_ 112 (List._∷_ 116 (List._∷_ 58 (List._∷_ 58 (List._∷_ 114 (List._∷_ 101 (List._∷_ 99 (List._∷_ 111 (List._∷_ 114 (List._∷_ 100 (List._∷_ 115 (List._∷_ 58 (List._∷_ 58 (List._∷_ 77 (List._∷_ 97 (List._∷_ 116 (List._∷_ 99 (List._∷_ 104 (List._∷_ 101 (List._∷_ 114 List.[])))))))))))))))))))))))) (Syntax.ttcons (Syntax.tcons (Syntax.tyStruct (List._∷_ 115 (List._∷_ 99 (List._∷_ 114 (List._∷_ 105 (List._∷_ 112 (List._∷_ 116 (List._∷_ 58 (List._∷_ 58 (List._∷_ 114 (List._∷_ 101 (List._∷_ 99 (List._∷_ 111 (List._∷_ 114 (List._∷_ 100 (List._∷_ 115 (List._∷_ 58 (List._∷_ 58 (List._∷_ 80 (List._∷_ 108 (List._∷_ 97 (List._∷_ 99 (List._∷_ 101 List.[])))))))))))))))))))))) (Syntax.tcons (Syntax.tyInt Syntax.w64) (Syntax.tcons (Syntax.tyInt Syntax.w64) Syntax.tnil))) Syntax.tnil) (Syntax.ttcons (Syntax.tcons (Syntax.tyStruct (List._∷_ 115 (List._∷_ 99 (List._∷_ 114 (List._∷_ 105 (List._∷_ 112 (List._∷_ 116 (List._∷_ 58 (List._∷_ 58 (List._∷_ 114 (List._∷_ 101 (List._∷_ 99 (List._∷_ 111 (List._∷_ 114 (List._∷_ 100 (List._∷_ 115 (List._∷_ 58 (List._∷_ 58 (List._∷_ 80 (List._∷_ 108 (List._∷_ 97 (List._∷_ 99 (List._∷_ 101 List.[])))))))))))))))))))))) (Syntax.tcons (Syntax.tyInt Syntax.w64) (Syntax.tcons (Syntax.tyInt Syntax.w64) Syntax.tnil))) Syntax.tnil) (Syntax.ttcons (Syntax.tcons (Syntax.tyInt Syntax.w64) Syntax.tnil) (Syntax.ttcons (Syntax.tcons (Syntax.tyInt Syntax.w64) Syntax.tnil) (Syntax.ttcons (Syntax.tcons (Syntax.tyInt Syntax.w64) Syntax.tnil) (Syntax.ttcons (Syntax.tcons (Syntax.tyInt Syntax.w64) Syntax.tnil) Syntax.ttnil))))))) Syntax.tnil) (Syntax.ttcons (Syntax.tcons (Syntax.tyEnum (List._∷_ 115 (List._∷_ 99 (List._∷_ 114 (List._∷_ 105 (List._∷_ 112 (List._∷_ 116 (List._∷_ 58 (List._∷_ 58 (List._∷_ 114 (List._∷_ 101 (List._∷_ 99 (List._∷_ 111 (List._∷_ 114 (List._∷_ 100 (List._∷_ 115 (List._∷_ 58 (List._∷_ 58 (List._∷_ 77 (List._∷_ 97 (List._∷_ 116 (List._∷_ 99 (List._∷_ 104 (List._∷_ 101 (List._∷_ 114 List.[])))))))))))))))))))))))) (Syntax.ttcons (Syntax.tcons (Syntax.tyStruct (List._∷_ 115 (List._∷_ 99 (List._∷_ 114 (List._∷_ 105 (List._∷_ 112 (List._∷_ 116 (List._∷_ 58 (List._∷_ 58 (List._∷_ 114 (List._∷_ 101 (List._∷_ 99 (List._∷_ 111 (List._∷_ 114 (List._∷_ 100 (List._∷_ 115 (List._∷_ 58 (List._∷_ 58 (List._∷_ 80 (List._∷_ 108 (List._∷_ 97 (List._∷_ 99 (List._∷_ 101 List.[])))))))))))))))))))))) (Syntax.tcons (Syntax.tyInt Syntax.w64) (Syntax.tcons (Syntax.tyInt Syntax.w64) Syntax.tnil))) Syntax.tnil) (Syntax.ttcons (Syntax.tcons (Syntax.tyStruct (List._∷_ 115 (List._∷_ 99 (List._∷_ 114 (List._∷_ 105 (List._∷_ 112 (List._∷_ 116 (List._∷_ 58 (List._∷_ 58 (List._∷_ 114 (List._∷_ 101 (List._∷_ 99 (List._∷_ 111 (List._∷_ 114 (List._∷_ 100 (List._∷_ 115 (List._∷_ 58 (List._∷_ 58 (List._∷_ 80 (List._∷_ 108 (List._∷_ 97 (List._∷_ 99 (List._∷_ 101 List.[])))))))))))))))))))))) (Syntax.tcons (Syntax.tyInt Syntax.w64) (Syntax.tcons (Syntax.tyInt Syntax.w64) Syntax.tnil))) Syntax.tnil) (Syntax.ttcons (Syntax.tcons (Syntax.tyInt Syntax.w64) Syntax.tnil) (Syntax.ttcons (Syntax.tcons (Syntax.tyInt Syntax.w64) Syntax.tnil) (Syntax.ttcons (Syntax.tcons (Syntax.tyInt Syntax.w64) Syntax.tnil) (Syntax.ttcons (Syntax.tcons (Syntax.tyInt Syntax.w64) Syntax.tnil) Syntax.ttnil))))))) Syntax.tnil) (Syntax.ttcons (Syntax.tcons (Syntax.tyEnum (List._∷_ 115 (List._∷_ 99 (List._∷_ 114 (List._∷_ 105 (List._∷_ 112 (List._∷_ 116 (List._∷_ 58 (List._∷_ 58 (List._∷_ 114 (List._∷_ 101 (List._∷_ 99 (List._∷_ 111 (List._∷_ 114 (List._∷_ 100 (List._∷_ 115 (List._∷_ 58 (List._∷_ 58 (List._∷_ 77 (List._∷_ 97 (List._∷_ 116 (List._∷_ 99 (List._∷_ 104 (List._∷_ 101 (List._∷_ 114 List.[])))))))))))))))))))))))) (Syntax.ttcons (Syntax.tcons (Syntax.tyStruct (List._∷_ 115 (List._∷_ 99 (List._∷_ 114 (List._∷_ 105 (List._∷_ 112 (List._∷_ 116 (List._∷_ 58 (List._∷_ 58 (List._∷_ 114 (List._∷_ 101 (List._∷_ 99 (List._∷_ 111 (List._∷_ 114 (List._∷_ 100 (List._∷_ 115 (List._∷_ 58 (List._∷_ 58 (List._∷_ 80 (List._∷_ 108 (List._∷_ 97 (List._∷_ 99 (List._∷_ 101 List.[])))))))))))))))))))))) (Syntax.tcons (Syntax.tyInt Syntax.w64) (Syntax.tcons (Syntax.tyInt Syntax.w64) Syntax.tnil))) Syntax.tnil) (Syntax.ttcons (Syntax.tcons (Syntax.tyStruct (List._∷_ 115 (List._∷_ 99 (List._∷_ 114 (List._∷_ 105 (List._∷_ 112 (List._∷_ 116 (List._∷_ 58 (List._∷_ 58 (List._∷_ 114 (List._∷_ 101 (List._∷_ 99 (List._∷_ 111 (List._∷_ 114 (List._∷_ 100 (List._∷_ 115 (List._∷_ 58 (List._∷_ 58 (List._∷_ 80 (List._∷_ 108 (List._∷_ 97 (List._∷_ 99 (List._∷_ 101 List.[])))))))))))))))))))))) (Syntax.tcons (Syntax.tyInt Syntax.w64) (Syntax.tcons (Syntax.tyInt Syntax.w64) Syntax.tnil))) Syntax.tnil) (Syntax.ttcons (Syntax.tcons (Syntax.tyInt Syntax.w64) Syntax.tnil) (Syntax.ttcons (Syntax.tcons (Syntax.tyInt Syntax.w64) Syntax.tnil) (Syntax.ttcons (Syntax.tcons (Syntax.tyInt Syntax.w64) Syntax.tnil) (Syntax.ttcons (Syntax.tcons (Syntax.tyInt Syntax.w64) Syntax.tnil) Syntax.ttnil))))))) Syntax.tnil) (Syntax.ttcons (Syntax.tcons (Syntax.tyEnum (List._∷_ 115 (List._∷_ 99 (List._∷_ 114 (List._∷_ 105 (List._∷_ 112 (List._∷_ 116 (List._∷_ 58 (List._∷_ 58 (List._∷_ 114 (List._∷_ 101 (List._∷_ 99 (List._∷_ 111 (List._∷_ 114 (List._∷_ 100 (List._∷_ 115 (List._∷_ 58 (List._∷_ 58 (List._∷_ 77 (List._∷_ 97 (List._∷_ 116 (List._∷_ 99 (List._∷_ 104 (List._∷_ 101 (List._∷_ 114 List.[])))))))))))))))))))))))) (Syntax.ttcons (Syntax.tcons (Syntax.tyStruct (List._∷_ 115 (List._∷_ 99 (List._∷_ 114 (List._∷_ 105 (List._∷_ 112 (List._∷_ 116 (List._∷_ 58 (List._∷_ 58 (List._∷_ 114 (List._∷_ 101 (List._∷_ 99 (List._∷_ 111 (List._∷_ 114 (List._∷_ 100 (List._∷_ 115 (List._∷_ 58 (List._∷_ 58 (List._∷_ 80 (List._∷_ 108 (List._∷_ 97 (List._∷_ 99 (List._∷_ 101 List.[])))))))))))))))))))))) (Syntax.tcons (Syntax.tyInt Syntax.w64) (Syntax.tcons (Syntax.tyInt Syntax.w64) Syntax.tnil))) Syntax.tnil) (Syntax.ttcons (Syntax.tcons (Syntax.tyStruct (List._∷_ 115 (List._∷_ 99 (List._∷_ 114 (List._∷_ 105 (List._∷_ 112 (List._∷_ 116 (List._∷_ 58 (List._∷_ 58 (List._∷_ 114 (List._∷_ 101 (List._∷_ 99 (List._∷_ 111 (List._∷_ 114 (List._∷_ 100 (List._∷_ 115 (List._∷_ 58 (List._∷_ 58 (List._∷_ 80 (List._∷_ 108 (List._∷_ 97 (List._∷_ 99 (List._∷_ 101 List.[])))))))))))))))))))))) (Syntax.tcons (Syntax.tyInt Syntax.w64) (Syntax.tcons (Syntax.tyInt Syntax.w64) Syntax.tnil))) Syntax.tnil) (Syntax.ttcons (Syntax.tcons (Syntax.tyInt Syntax.w64) Syntax.tnil) (Syntax.ttcons (Syntax.tcons (Syntax.tyInt Syntax.w64) Syntax.tnil) (Syntax.ttcons (Syntax.tcons (Syntax.tyInt Syntax.w64) Syntax.tnil) (Syntax.ttcons (Syntax.tcons (Syntax.tyInt Syntax.w64) Syntax.tnil) Syntax.ttnil))))))) Syntax.tnil) (Syntax.ttcons (Syntax.tcons (Syntax.tyEnum (List._∷_ 115 (List._∷_ 99 (List._∷_ 114 (List._∷_ 105 (List._∷_ 112 (List._∷_ 116 (List._∷_ 58 (List._∷_ 58 (List._∷_ 114 (List._∷_ 101 (List._∷_ 99 (List._∷_ 111 (List._∷_ 114 (List._∷_ 100 (List._∷_ 115 (List._∷_ 58 (List._∷_ 58 (List._∷_ 77 (List._∷_ 97 (List._∷_ 116 (List._∷_ 99 (List._∷_ 104 (List._∷_ 101 (List._∷_ 114 List.[])))))))))))))))))))))))) (Syntax.ttcons (Syntax.tcons (Syntax.tyStruct (List._∷_ 115 (List._∷_ 99 (List._∷_ 114 (List._∷_ 105 (List._∷_ 112 (List._∷_ 116 (List._∷_ 58 (List._∷_ 58 (List._∷_ 114 (List._∷_ 101 (List._∷_ 99 (List._∷_ 111 (List._∷_ 114 (List._∷_ 100 (List._∷_ 115 (List._∷_ 58 (List._∷_ 58 (List._∷_ 80 (List._∷_ 108 (List._∷_ 97 (List._∷_ 99 (List._∷_ 101 List.[])))))))))))))))))))))) (Syntax.tcons (Syntax.tyInt Syntax.w64) (Syntax.tcons (Syntax.tyInt Syntax.w64) Syntax.tnil))) Syntax.tnil) (Syntax.ttcons (Syntax.tcons (Syntax.tyStruct (List._∷_ 115 (List._∷_ 99 (List._∷_ 114 (List._∷_ 105 (List._∷_ 112 (List._∷_ 116 (List._∷_ 58 (List._∷_ 58 (List._∷_ 114 (List._∷_ 101 (List._∷_ 99 (List._∷_ 111 (List._∷_ 114 (List._∷_ 100 (List._∷_ 115 (List._∷_ 58 (List._∷_ 58 (List._∷_ 80 (List._∷_ 108 (List._∷_ 97 (List._∷_ 99 (List._∷_ 101 List.[])))))))))))))))))))))) (Syntax.tcons (Syntax.tyInt Syntax.w64) (Syntax.tcons (Syntax.tyInt Syntax.w64) Syntax.tnil))) Syntax.tnil) (Syntax.ttcons (Syntax.tcons (Syntax.tyInt Syntax.w64) Syntax.tnil) (Syntax.ttcons (Syntax.tcons (Syntax.tyInt Syntax.w64) Syntax.tnil) (Syntax.ttcons (Syntax.tcons (Syntax.tyInt Syntax.w64) Syntax.tnil) (Syntax.ttcons (Syntax.tcons (Syntax.tyInt Syntax.w64) Syntax.tnil) Syntax.ttnil))))))) Syntax.tnil) Syntax.ttnil))))))))) Syntax.tnil) (Syntax.ttcons (Syntax.tcons (Syntax.tyStruct (List._∷_ 115 (List._∷_ 99 (List._∷_ 114 (List._∷_ 105 (List._∷_ 112 (List._∷_ 116 (List._∷_ 58 (List._∷_ 58 (List._∷_ 114 (List._∷_ 111 (List._∷_ 108 (List._∷_ 101 (List._∷_ 115 (List._∷_ 58 (List._∷_ 58 (List._∷_ 79 (List._∷_ 112 (List._∷_ 101 (List._∷_ 110 (List._∷_ 105 (List._∷_ 110 (List._∷_ 103 List.[])))))))))))))))))))))) (Syntax.tcons (Syntax.tyEnum (List._∷_ 115 (List._∷_ 99 (List._∷_ 114 (List._∷_ 105 (List._∷_ 112 (List._∷_ 116 (List._∷_ 58 (List._∷_ 58 (List._∷_ 114 (List._∷_ 101 (List._∷_ 99 (List._∷_ 111 (List._∷_ 114 (List._∷_ 100 (List._∷_ 115 (List._∷_ 58 (List._∷_ 58 (List._∷_ 83 (List._∷_ 116 (List._∷_ 97 (List._∷_ 109 (List._∷_ 112 List.[])))))))))))))))))))))) (Syntax.ttcons Syntax.tnil (Syntax.ttcons (Syntax.tcons (Syntax.tyStruct (List._∷_ 115 (List._∷_ 99 (List._∷_ 114 (List._∷_ 105 (List._∷_ 112 (List._∷_ 116 (List._∷_ 58 (List._∷_ 58 (List._∷_ 114 (List._∷_ 101 (List._∷_ 99 (List._∷_ 111 (List._∷_ 114 (List._∷_ 100 (List._∷_ 115 (List._∷_ 58 (List._∷_ 58 (List._∷_ 84 (List._∷_ 105 (List._∷_ 109 (List._∷_ 101 List.[]))))))))))))))))))))) (Syntax.tcons Syntax.tyBool (Syntax.tcons (Syntax.tyInt Syntax.w64) (Syntax.tcons (Syntax.tyInt Syntax.w64) Syntax.tnil)))) Syntax.tnil) Syntax.ttnil))) (Syntax.tcons (Syntax.tyEnum (List._∷_ 119 (List._∷_ 105 (List._∷_ 114 (List._∷_ 101 (List._∷_ 58 (List._∷_ 58 (List._∷_ 111 (List._∷_ 112 (List._∷_ 115 (List._∷_ 58 (List._∷_ 58 (List._∷_ 79 (List._∷_ 112 List.[]))))))))))))) (Syntax.ttcons Syntax.tnil (Syntax.ttcons Syntax.tnil (Syntax.ttcons Syntax.tnil (Syntax.ttcons Syntax.tnil (Syntax.ttcons Syntax.tnil (Syntax.ttcons Syntax.tnil (Syntax.ttcons Syntax.tnil (Syntax.ttcons Syntax.tnil (Syntax.ttcons Syntax.tnil (Syntax.ttcons Syntax.tnil (Syntax.ttcons Syntax.tnil (Syntax.ttcons Syntax.tnil (Syntax.ttcons Syntax.tnil (Syntax.ttcons Syntax.tnil (Syntax.ttcons Syntax.tnil (Syntax.ttcons Syntax.tnil (Syntax.ttcons Syntax.tnil (Syntax.ttcons Syntax.tnil (Syntax.ttcons Syntax.tnil (Syntax.ttcons Syntax.tnil (Syntax.ttcons Syntax.tnil (Syntax.ttcons Syntax.tnil (Syntax.ttcons Syntax.tnil (Syntax.ttcons Syntax.tnil (Syntax.ttcons Syntax.tnil (Syntax.ttcons Syntax.tnil (Syntax.ttcons Syntax.tnil (Syntax.ttcons Syntax.tnil (Syntax.ttcons Syntax.tnil (Syntax.ttcons Syntax.tnil (Syntax.ttcons Syntax.tnil (Syntax.ttcons Syntax.tnil (Syntax.ttcons Syntax.tnil (Syntax.ttcons Syntax.tnil (Syntax.ttcons Syntax.tnil (Syntax.ttcons Syntax.tnil (Syntax.ttcons Syntax.tnil Syntax.ttnil)))))))))))))))))))))))))))))))))))))) (Syntax.tcons (Syntax.tyStruct (List._∷_ 116 (List._∷_ 101 (List._∷_ 120 (List._∷_ 116 (List._∷_ 58 (List._∷_ 58 (List._∷_ 112 (List._∷_ 97 (List._∷_ 114 (List._∷_ 116 (List._∷_ 115 (List._∷_ 58 (List._∷_ 58 (List._∷_ 83 (List._∷_ 112 (List._∷_ 97 (List._∷_ 110 List.[]))))))))))))))))) (Syntax.tcons (Syntax.tyInt Syntax.w64) (Syntax.tcons (Syntax.tyInt Syntax.w64) Syntax.tnil))) Syntax.tnil)))) Syntax.tnil) (Syntax.ttcons (Syntax.tcons (Syntax.tyInt Syntax.w64) Syntax.tnil) Syntax.ttnil)))))) (Syntax.tcons (Syntax.tyEnum (List._∷_ 115 (List._∷_ 99 (List._∷_ 114 (List._∷_ 105 (List._∷_ 112 (List._∷_ 116 (List._∷_ 58 (List._∷_ 58 (List._∷_ 114 (List._∷_ 111 (List._∷_ 108 (List._∷_ 101 (List._∷_ 115 (List._∷_ 58 (List._∷_ 58 (List._∷_ 87 (List._∷_ 104 (List._∷_ 101 (List._∷_ 114 (List._∷_ 101 List.[])))))))))))))))))))) (Syntax.ttcons Syntax.tnil (Syntax.ttcons Syntax.tnil (Syntax.ttcons (Syntax.tcons (Syntax.tyEnum (List._∷_ 115 (List._∷_ 99 (List._∷_ 114 (List._∷_ 105 (List._∷_ 112 (List._∷_ 116 (List._∷_ 58 (List._∷_ 58 (List._∷_ 114 (List._∷_ 111 (List._∷_ 108 (List._∷_ 101 (List._∷_ 115 (List._∷_ 58 (List._∷_ 58 (List._∷_ 84 (List._∷_ 97 (List._∷_ 107 (List._∷_ 101 (List._∷_ 115 List.[])))))))))))))))))))) (Syntax.ttcons Syntax.tnil (Syntax.ttcons Syntax.tnil (Syntax.ttcons Syntax.tnil (Syntax.ttcons Syntax.tnil (Syntax.ttcons Syntax.tnil (Syntax.ttcons Syntax.tnil (Syntax.ttcons Syntax.tnil (Syntax.ttcons Syntax.tnil (Syntax.ttcons Syntax.tnil Syntax.ttnil)))))))))) (Syntax.tcons Syntax.tyBool Syntax.tnil)) (Syntax.ttcons Syntax.tnil Syntax.ttnil))))) Syntax.tnil))) (Syntax.tcons (Syntax.tyInt Syntax.w64) Syntax.tnil))
 
 abbrev τ1 : Syntax.Ty
 τ1 = Syntax.tyEnum (List._∷_ 115 (List._∷_ 99 (List._∷_ 114 (List._∷_ 105 (List._∷_ 112 (List._∷_ 116 (List._∷_ 58 (List._∷_ 58 (List._∷_ 114 (List._∷_ 111 (List._∷_ 108 (List._∷_ 101 (List._∷_ 115 (List._∷_ 58 (List._∷_ 58 (List._∷_ 87 (List._∷_ 104 (List._∷_ 101 (List._∷_ 114 (List._∷_ 101 List.[])))))))))))))))))))) (Syntax.ttcons Syntax.tnil (Syntax.ttcons Syntax.tnil (Syntax.ttcons (Syntax.tcons (Syntax.tyEnum (List._∷_ 115 (List._∷_ 99 (List._∷_ 114 (List._∷_ 105 (List._∷_ 112 (List._∷_ 116 (List._∷_ 58 (List._∷_ 58 (List._∷_ 114 (List._∷_ 111 (List._∷_ 108 (List._∷_ 101 (List._∷_ 115 (List._∷_ 58 (List._∷_ 58 (List._∷_ 84 (List._∷_ 97 (List._∷_ 107 (List._∷_ 101 (List._∷_ 115 List.[])))))))))))))))))))) (Syntax.ttcons Syntax.tnil (Syntax.ttcons Syntax.tnil (Syntax.ttcons Syntax.tnil (Syntax.ttcons Syntax.tnil (Syntax.ttcons Syntax.tnil (Syntax.ttcons Syntax.tnil (Syntax.ttcons Syntax.tnil (Syntax.ttcons Syntax.tnil (Syntax.ttcons Syntax.tnil Syntax.ttnil)))))))))) (Syntax.tcons Syntax.tyBool Syntax.tnil)) (Syntax.ttcons Syntax.tnil Syntax.ttnil))))
 
 abbrev kind0 : KValue.Valued
-kind0 = record { ty = Declared.row Where.the-type; one = Path'.refl; val = Laws''.val Where.the-type Laws'.the-laws; tells = Laws''.tells Where.the-type Laws'.the-laws; still = Laws''.still Where.the-type Laws'.the-copy Exit.yes; row = Rows'.whole (Declared.row Where.the-type); rd = λ x. x; mk = λ x. x }
+kind0 = record { ty = Declared.row Where.the-type; one = Path'.refl; val = Laws''.val Where.the-type Laws.the-laws; tells = Laws''.tells Where.the-type Laws.the-laws; still = Laws''.still Where.the-type Laws.the-copy Exit.yes; row = Rows'.whole (Declared.row Where.the-type); rd = λ x. x; mk = λ x. x }
 
 abbrev kind0-laws : (M : Type 1) (𝓤 : URA.URA M) (H : Wp.Heap 𝓤) (A : Atoms.Atoms 𝓤) → Kit.Given 𝓤 H A → KValue.ValuedLaws 𝓤 H A kind0
-kind0-laws = λ M 𝓤 H A W. record { copies = Laws''.copy Where.the-type Laws'.the-copy 𝓤 H A W; lawful = Laws''.lawful Where.the-type Laws'.the-laws 𝓤 H A W tt; makes = Laws''.makes Where.the-type Laws'.the-plain 𝓤 H A; in-mem = RLocal.mem-whole 𝓤 H A W (Declared.row Where.the-type); of-mem = RLocal.whole-mem 𝓤 H A W (Declared.row Where.the-type) }
+kind0-laws = λ M 𝓤 H A W. record { copies = Laws''.copy Where.the-type Laws.the-copy 𝓤 H A W; lawful = Laws''.lawful Where.the-type Laws.the-laws 𝓤 H A W tt; makes = Laws''.makes Where.the-type Laws.the-plain 𝓤 H A; in-mem = RLocal.mem-whole 𝓤 H A W (Declared.row Where.the-type); of-mem = RLocal.whole-mem 𝓤 H A W (Declared.row Where.the-type) }
 
 abbrev kind1 : KValue.Valued
-kind1 = record { ty = Declared'.row Turn.the-type; one = Path'.refl; val = Laws'3.val Turn.the-type Laws.the-laws; tells = Laws'3.tells Turn.the-type Laws.the-laws; still = Laws'3.still Turn.the-type Laws.the-copy Exit.yes; row = Rows'.whole (Declared'.row Turn.the-type); rd = λ x. x; mk = λ x. x }
+kind1 = record { ty = Declared'.row Turn.the-type; one = Path'.refl; val = Laws'3.val Turn.the-type Laws'.the-laws; tells = Laws'3.tells Turn.the-type Laws'.the-laws; still = Laws'3.still Turn.the-type Laws'.the-copy Exit.yes; row = Rows'.whole (Declared'.row Turn.the-type); rd = λ x. x; mk = λ x. x }
 
 abbrev kind1-laws : (M : Type 1) (𝓤 : URA.URA M) (H : Wp.Heap 𝓤) (A : Atoms.Atoms 𝓤) → Kit.Given 𝓤 H A → KValue.ValuedLaws 𝓤 H A kind1
-kind1-laws = λ M 𝓤 H A W. record { copies = Laws'3.copy Turn.the-type Laws.the-copy 𝓤 H A W; lawful = Laws'3.lawful Turn.the-type Laws.the-laws 𝓤 H A W; makes = Laws'3.makes Turn.the-type Laws.the-plain 𝓤 H A; in-mem = RLocal.mem-whole 𝓤 H A W (Declared'.row Turn.the-type); of-mem = RLocal.whole-mem 𝓤 H A W (Declared'.row Turn.the-type) }
+kind1-laws = λ M 𝓤 H A W. record { copies = Laws'3.copy Turn.the-type Laws'.the-copy 𝓤 H A W; lawful = Laws'3.lawful Turn.the-type Laws'.the-laws 𝓤 H A W; makes = Laws'3.makes Turn.the-type Laws'.the-plain 𝓤 H A; in-mem = RLocal.mem-whole 𝓤 H A W (Declared'.row Turn.the-type); of-mem = RLocal.whole-mem 𝓤 H A W (Declared'.row Turn.the-type) }
 
 abbrev pub ps : List.List (Kinds.PK 2)
 ps = List._∷_ (ShrSlice.pShrS (TReferent.rtF (TReferent.fInt Syntax.w8)) 0 tt) (List._∷_ (ShrSlice.pShrS KeptElem.R 1 tt) (List._∷_ (KValue.pVal kind0 kind0-laws) (List._∷_ (Num.pNum Syntax.w64) (List._∷_ (Num.pNum Syntax.w64) List.[]))))
@@ -129,7 +129,7 @@ abbrev b6 : Syntax.Body
 b6 = Syntax.call "kept::is_of" (List._∷_ (Syntax.copy (Syntax.place 6 List.[])) (List._∷_ (Syntax.copy (Syntax.place 4 List.[])) (List._∷_ (Syntax.copy (Syntax.place 3 List.[])) List.[]))) (Syntax.place 12 List.[])
 
 abbrev b7 : Syntax.Body
-b7 = Syntax.call "kept::turn_of" (List._∷_ (Syntax.copy (Syntax.place 6 List.[])) List.[]) (Syntax.place 0 List.[])
+b7 = Syntax.call "turns::turn_of" (List._∷_ (Syntax.copy (Syntax.place 6 List.[])) List.[]) (Syntax.place 0 List.[])
 
 abbrev b8 : Syntax.Body
 b8 = Syntax.return
@@ -165,7 +165,7 @@ abbrev b18 : Syntax.Body
 b18 = Syntax.cond (Syntax.copy (Syntax.place 8 List.[])) b16 b17
 
 abbrev b19 : Syntax.Body
-b19 = Syntax.call "kept::find" (List._∷_ (Syntax.copy (Syntax.place 1 List.[])) (List._∷_ (Syntax.copy (Syntax.place 3 List.[])) (List._∷_ (Syntax.copy (Syntax.place 4 List.[])) (List._∷_ (Syntax.copy (Syntax.place 5 List.[])) List.[])))) (Syntax.place 0 List.[])
+b19 = Syntax.call "turns::find" (List._∷_ (Syntax.copy (Syntax.place 1 List.[])) (List._∷_ (Syntax.copy (Syntax.place 3 List.[])) (List._∷_ (Syntax.copy (Syntax.place 4 List.[])) (List._∷_ (Syntax.copy (Syntax.place 5 List.[])) List.[])))) (Syntax.place 0 List.[])
 
 abbrev b20 : Syntax.Body
 b20 = Syntax.return
@@ -423,7 +423,7 @@ module _ (claims· : Claims) where
   module _ (Pre· : (κs : Lifetimes.Lfts 2) → Kinds.Dens κs ps → Type 0) (Post· : (κs : Lifetimes.Lfts 2) → (a : Kinds.Dens κs ps) → Kinds.Plain 2 ps r κs) where
     module _ (M : Type 1) where
       abbrev pub Closed : Type 2
-      Closed = (𝓤 : URA.URA M) (H : Wp.Heap 𝓤) (A : Atoms.Atoms 𝓤) (W : Kit.Given 𝓤 H A) (𝓣 : Wp.Tables 𝓤 H) (known0 : Plain.Known 𝓤 H A W 𝓣 0 ps·0 r·0 (claims· .0) (claims· .1) "kept::is_of") (known1 : Plain.Known 𝓤 H A W 𝓣 0 ps·1 r·1 (claims· .2) (claims· .3) "kept::turn_of") (known2 : Plain.Known 𝓤 H A W 𝓣 1 ps·2 r·2 (claims· .4) (claims· .5) "kept::find") → Statement.Triple 𝓤 (Wp.WpFn 𝓤 H (𝓣 .C) (𝓣 .Λ) (Function.fnOf 2 ps r xs m hs body)) (Function.plainOf 𝓤 H A 2 ps r Pre· Post·)
+      Closed = (𝓤 : URA.URA M) (H : Wp.Heap 𝓤) (A : Atoms.Atoms 𝓤) (W : Kit.Given 𝓤 H A) (𝓣 : Wp.Tables 𝓤 H) (known0 : Plain.Known 𝓤 H A W 𝓣 0 ps·0 r·0 (claims· .0) (claims· .1) "kept::is_of") (known1 : Plain.Known 𝓤 H A W 𝓣 0 ps·1 r·1 (claims· .2) (claims· .3) "turns::turn_of") (known2 : Plain.Known 𝓤 H A W 𝓣 1 ps·2 r·2 (claims· .4) (claims· .5) "turns::find") → Statement.Triple 𝓤 (Wp.WpFn 𝓤 H (𝓣 .C) (𝓣 .Λ) (Function.fnOf 2 ps r xs m hs body)) (Function.plainOf 𝓤 H A 2 ps r Pre· Post·)
 
     module _ where
       abbrev at0 : Typed.TF T21 O1
@@ -530,7 +530,7 @@ module _ (claims· : Claims) where
 
       module _ {M : Type 1} (𝓤 : URA.URA M) (H : Wp.Heap 𝓤) (A : Atoms.Atoms 𝓤) (W : Kit.Given 𝓤 H A) (𝓣 : Wp.Tables 𝓤 H) where
         abbrev Knowns : Type 1
-        Knowns = Plain.Known 𝓤 H A W 𝓣 0 ps·0 r·0 (claims· .0) (claims· .1) "kept::is_of" × Plain.Known 𝓤 H A W 𝓣 0 ps·1 r·1 (claims· .2) (claims· .3) "kept::turn_of" × Plain.Known 𝓤 H A W 𝓣 1 ps·2 r·2 (claims· .4) (claims· .5) "kept::find"
+        Knowns = Plain.Known 𝓤 H A W 𝓣 0 ps·0 r·0 (claims· .0) (claims· .1) "kept::is_of" × Plain.Known 𝓤 H A W 𝓣 0 ps·1 r·1 (claims· .2) (claims· .3) "turns::turn_of" × Plain.Known 𝓤 H A W 𝓣 1 ps·2 r·2 (claims· .4) (claims· .5) "turns::find"
 
       module _ (κs : Lifetimes.Lfts 2) (qs : Lifetimes.Shares 2) where
         abbrev G0 : Row.Cx
@@ -643,7 +643,7 @@ module _ (claims· : Claims) where
           d3 = Typed.g-pre 𝓤 H A W 𝓣 E G18 G19 b8 Δ1 (Typed.pass T18 T19 s16) at2 (RScalar.g-room 𝓤 H A W E G18 6 KeptElem.ty (RLocal.room-whole 𝓤 H A W KeptElem.R KeptElem.ty Path'.refl)) d2
 
           d4 : Typed.Typed 𝓤 H A 𝓣 E G17 b9 Δ1 at4
-          d4 = Typed.s-seq 𝓤 H A W 𝓣 E G17 G18 b7 b8 Δ1 (Typed.both s15) at3 (Plain.t-call-plain 𝓤 H A W 𝓣 0 ps·1 r·1 (claims· .2) (claims· .3) "kept::turn_of" (known .1) E (λ pos β. β) G17 (record { pos = 6; st = List.[]; d = 0; at = λ x. x }, tt) 0 List.[] (Call.sub-id 𝓤 H A W (G17 .slots)) ((KeptElem.yields 𝓤 H A W, Path'.refl), tt) (Reads.room-gone 𝓤 H A τ0) tt Path'.refl) d3
+          d4 = Typed.s-seq 𝓤 H A W 𝓣 E G17 G18 b7 b8 Δ1 (Typed.both s15) at3 (Plain.t-call-plain 𝓤 H A W 𝓣 0 ps·1 r·1 (claims· .2) (claims· .3) "turns::turn_of" (known .1) E (λ pos β. β) G17 (record { pos = 6; st = List.[]; d = 0; at = λ x. x }, tt) 0 List.[] (Call.sub-id 𝓤 H A W (G17 .slots)) ((KeptElem.yields 𝓤 H A W, Path'.refl), tt) (Reads.room-gone 𝓤 H A τ0) tt Path'.refl) d3
 
           d5 : Typed.Typed 𝓤 H A 𝓣 E G16 b9 Δ1 at5
           d5 = Typed.g-pre 𝓤 H A W 𝓣 E G16 G17 b9 Δ1 (Typed.pass T16 T17 s14) at4 (RScalar.g-room 𝓤 H A W E G16 12 Syntax.tyBool (RScalar.room-sc 𝓤 H A W Row.sBool)) d4
@@ -664,7 +664,7 @@ module _ (claims· : Claims) where
           d10 = RScalar.t-cond 𝓤 H A W E 𝓣 G15 12 (λ x. x) b9 b10 Δ1 at6 at9 (RScalar.reads-sc 𝓤 H A W Row.sBool) Path'.refl d6 d9
 
           d11 : Typed.Typed 𝓤 H A 𝓣 E G14 b12 Δ1 at11
-          d11 = Typed.s-seq 𝓤 H A W 𝓣 E G14 G15 b6 b11 Δ1 (Typed.both s12) at10 (Plain.t-call-plain 𝓤 H A W 𝓣 0 ps·0 r·0 (claims· .0) (claims· .1) "kept::is_of" (known .0) E (λ pos β. β) G14 (record { pos = 6; st = List.[]; d = 0; at = λ x. x }, (Num.vAt 4 λ x. x, (record { pos = 3; st = List.[]; d = 0; at = λ x. x }, tt))) 12 List.[] (Call.sub-id 𝓤 H A W (G14 .slots)) ((KeptElem.yields 𝓤 H A W, Path'.refl), ((RScalar.reads-sc 𝓤 H A W (Row.sInt Syntax.w64), Path'.refl), ((Yields.yields-copy 𝓤 H A W (λ ρ. Unit) (Declared.row Where.the-type) Path'.refl (TCopies.cEnum Where.the-type Laws'.the-laws Laws'.the-copy .copy 𝓤 H A W) (Rows'.whole (Declared.row Where.the-type)) (λ x. x) (λ x. x) (λ ρ told. RLocal.mem-whole 𝓤 H A W (Declared.row Where.the-type) ρ) λ ρ told. RLocal.whole-mem 𝓤 H A W (Declared.row Where.the-type) ρ, Path'.refl), tt))) (Reads.room-gone 𝓤 H A Syntax.tyBool) tt Path'.refl) d10
+          d11 = Typed.s-seq 𝓤 H A W 𝓣 E G14 G15 b6 b11 Δ1 (Typed.both s12) at10 (Plain.t-call-plain 𝓤 H A W 𝓣 0 ps·0 r·0 (claims· .0) (claims· .1) "kept::is_of" (known .0) E (λ pos β. β) G14 (record { pos = 6; st = List.[]; d = 0; at = λ x. x }, (Num.vAt 4 λ x. x, (record { pos = 3; st = List.[]; d = 0; at = λ x. x }, tt))) 12 List.[] (Call.sub-id 𝓤 H A W (G14 .slots)) ((KeptElem.yields 𝓤 H A W, Path'.refl), ((RScalar.reads-sc 𝓤 H A W (Row.sInt Syntax.w64), Path'.refl), ((Yields.yields-copy 𝓤 H A W (λ ρ. Unit) (Declared.row Where.the-type) Path'.refl (TCopies.cEnum Where.the-type Laws.the-laws Laws.the-copy .copy 𝓤 H A W) (Rows'.whole (Declared.row Where.the-type)) (λ x. x) (λ x. x) (λ ρ told. RLocal.mem-whole 𝓤 H A W (Declared.row Where.the-type) ρ) λ ρ told. RLocal.whole-mem 𝓤 H A W (Declared.row Where.the-type) ρ, Path'.refl), tt))) (Reads.room-gone 𝓤 H A Syntax.tyBool) tt Path'.refl) d10
 
           d12 : Typed.Typed 𝓤 H A 𝓣 E G13 b12 Δ1 at12
           d12 = Typed.g-pre 𝓤 H A W 𝓣 E G13 G14 b12 Δ1 (Typed.pass T13 T14 s11) at11 (RScalar.g-room 𝓤 H A W E G13 11 KeptElem.ty (RLocal.room-whole 𝓤 H A W KeptElem.R KeptElem.ty Path'.refl)) d11
@@ -716,7 +716,7 @@ module _ (claims· : Claims) where
 
           d28 : Typed.Typed 𝓤 H A 𝓣 E G5 b21 Δ0 at28
           unfolding at28
-          d28 = Typed.s-seq 𝓤 H A W 𝓣 E G5 G25 b19 b20 Δ0 (Typed.both s22) at27 (Plain.t-call-plain 𝓤 H A W 𝓣 1 ps·2 r·2 (claims· .4) (claims· .5) "kept::find" (known .2) E (λ pos β. β) G5 (record { pos = 1; ty = Syntax.tyRef (Syntax.named 0) Syntax.imm (Syntax.tyInt Syntax.w8); ref = λ x. x }, (record { pos = 3; st = List.[]; d = 0; at = λ x. x }, (Num.vAt 4 λ x. x, (Num.vAt 5 λ x. x, tt)))) 0 (List._∷_ 0 List.[]) (Call.sub-id 𝓤 H A W (G5 .slots)) (ShrSlice.spares-sslice 𝓤 H A W (TReferent.rtF (TReferent.fInt Syntax.w8)) (Syntax.tyRef (Syntax.named 0) Syntax.imm (Syntax.tyInt Syntax.w8)) 0, SShared.reads-sslice 𝓤 H A W (TReferent.rtF (TReferent.fInt Syntax.w8)) (Syntax.tyRef (Syntax.named 0) Syntax.imm (Syntax.tyInt Syntax.w8)) 0, Path'.refl, ((Yields.yields-copy 𝓤 H A W (λ ρ. Unit) (Declared.row Where.the-type) Path'.refl (TCopies.cEnum Where.the-type Laws'.the-laws Laws'.the-copy .copy 𝓤 H A W) (Rows'.whole (Declared.row Where.the-type)) (λ x. x) (λ x. x) (λ ρ told. RLocal.mem-whole 𝓤 H A W (Declared.row Where.the-type) ρ) λ ρ told. RLocal.whole-mem 𝓤 H A W (Declared.row Where.the-type) ρ, Path'.refl), ((RScalar.reads-sc 𝓤 H A W (Row.sInt Syntax.w64), Path'.refl), ((RScalar.reads-sc 𝓤 H A W (Row.sInt Syntax.w64), Path'.refl), tt)))) (Reads.room-gone 𝓤 H A τ0) (tt, tt) Path'.refl) d27
+          d28 = Typed.s-seq 𝓤 H A W 𝓣 E G5 G25 b19 b20 Δ0 (Typed.both s22) at27 (Plain.t-call-plain 𝓤 H A W 𝓣 1 ps·2 r·2 (claims· .4) (claims· .5) "turns::find" (known .2) E (λ pos β. β) G5 (record { pos = 1; ty = Syntax.tyRef (Syntax.named 0) Syntax.imm (Syntax.tyInt Syntax.w8); ref = λ x. x }, (record { pos = 3; st = List.[]; d = 0; at = λ x. x }, (Num.vAt 4 λ x. x, (Num.vAt 5 λ x. x, tt)))) 0 (List._∷_ 0 List.[]) (Call.sub-id 𝓤 H A W (G5 .slots)) (ShrSlice.spares-sslice 𝓤 H A W (TReferent.rtF (TReferent.fInt Syntax.w8)) (Syntax.tyRef (Syntax.named 0) Syntax.imm (Syntax.tyInt Syntax.w8)) 0, SShared.reads-sslice 𝓤 H A W (TReferent.rtF (TReferent.fInt Syntax.w8)) (Syntax.tyRef (Syntax.named 0) Syntax.imm (Syntax.tyInt Syntax.w8)) 0, Path'.refl, ((Yields.yields-copy 𝓤 H A W (λ ρ. Unit) (Declared.row Where.the-type) Path'.refl (TCopies.cEnum Where.the-type Laws.the-laws Laws.the-copy .copy 𝓤 H A W) (Rows'.whole (Declared.row Where.the-type)) (λ x. x) (λ x. x) (λ ρ told. RLocal.mem-whole 𝓤 H A W (Declared.row Where.the-type) ρ) λ ρ told. RLocal.whole-mem 𝓤 H A W (Declared.row Where.the-type) ρ, Path'.refl), ((RScalar.reads-sc 𝓤 H A W (Row.sInt Syntax.w64), Path'.refl), ((RScalar.reads-sc 𝓤 H A W (Row.sInt Syntax.w64), Path'.refl), tt)))) (Reads.room-gone 𝓤 H A τ0) (tt, tt) Path'.refl) d27
 
           d29 : Typed.Typed 𝓤 H A 𝓣 E G4 b22 Δ0 at29
           d29 = Typed.t-seq 𝓤 H A W 𝓣 E G4 G5 b18 b21 Δ0 at23 at28 d23 d28
@@ -983,6 +983,6 @@ module _ (claims· : Claims) where
           pub asked : (a : Kinds.Dens κs ps) → (good : Kinds.GoodsP κs ps a) → (pre : Pre· κs a) → (bs : List.List Nat.ℕ) → Φ (Any.wantQ 2 ps r xs m κs qs a (Post· κs a)) (Function.init 2 ps r xs m κs qs a)
           asked = λ a good pre bs. laid record { κs = κs; args = record { text = a .0; kept = a .1 .0; w = a .1 .1 .0; at = a .1 .1 .1 .0; number = a .1 .1 .1 .1 .0 }; good = good; fits = record { at = record { fits = good .1 .1 .1 .0 .1 }; number = record { fits = good .1 .1 .1 .1 .0 .1 } }; pre = pre }
 
-        module _ {M : Type 1} (𝓤 : URA.URA M) (H : Wp.Heap 𝓤) (A : Atoms.Atoms 𝓤) (W : Kit.Given 𝓤 H A) (𝓣 : Wp.Tables 𝓤 H) (known0 : Plain.Known 𝓤 H A W 𝓣 0 ps·0 r·0 (claims· .0) (claims· .1) "kept::is_of") (known1 : Plain.Known 𝓤 H A W 𝓣 0 ps·1 r·1 (claims· .2) (claims· .3) "kept::turn_of") (known2 : Plain.Known 𝓤 H A W 𝓣 1 ps·2 r·2 (claims· .4) (claims· .5) "kept::find") where
+        module _ {M : Type 1} (𝓤 : URA.URA M) (H : Wp.Heap 𝓤) (A : Atoms.Atoms 𝓤) (W : Kit.Given 𝓤 H A) (𝓣 : Wp.Tables 𝓤 H) (known0 : Plain.Known 𝓤 H A W 𝓣 0 ps·0 r·0 (claims· .0) (claims· .1) "kept::is_of") (known1 : Plain.Known 𝓤 H A W 𝓣 0 ps·1 r·1 (claims· .2) (claims· .3) "turns::turn_of") (known2 : Plain.Known 𝓤 H A W 𝓣 1 ps·2 r·2 (claims· .4) (claims· .5) "turns::find") where
           pub spec : Statement.Triple 𝓤 (Wp.WpFn 𝓤 H (𝓣 .C) (𝓣 .Λ) (Function.fnOf 2 ps r xs m hs body)) (Function.plainOf 𝓤 H A 2 ps r Pre· Post·)
           spec = Plain.t-fn-plain 𝓤 H A W 𝓣 2 ps r xs m hs body (λ κs qs bs. Φ) (λ κs qs bs bd. typed κs qs 𝓤 H A W 𝓣 (known0, known1, known2) bs bd) Pre· Post· asked

@@ -1,7 +1,7 @@
 -- The contract of `look`, as its own derivation and its callers' read it. Made by tools/walk.py, from what Rattle makes for a twin in which the elements are arrays.
 -- Assumes nothing.
-use Rattle.kept.proofs.Made.LookKinds as Kinds
-use Rattle.kept.proofs.look
+use Rattle.turns.proofs.Made.LookKinds as Kinds
+use Rattle.turns.proofs.look
 use base.Logic
 use borrow.Fn.Kinds as Kinds'
 use borrow.Fn.Learn

@@ -1,8 +1,8 @@
--- `kept::find` meets its contract. Assumes nothing.
+-- `turns::find` meets its contract. Assumes nothing.
 use Rattle.kept.proofs.KeptLaws.{find-laws}
 use borrow.Author.Needs.{needs}
-use Rattle.kept.proofs.find.Statement.{statement}
-use Rattle.kept.proofs.find.Tie as tie
+use Rattle.turns.proofs.find.Statement.{statement}
+use Rattle.turns.proofs.find.Tie as tie
 
 line-at-requires : tie.Need-line-at-requires
 line-at-requires c κs = search needs
