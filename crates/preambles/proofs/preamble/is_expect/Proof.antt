@@ -1,6 +1,6 @@
 -- `preambles::preamble::is_expect` meets its contract: one word or the other. Assumes nothing.
 use Prim.Native.Nat.{ℕ}
-use mathlib.Core.Path.{_≡_, refl, sym, _∙_}
+use mathlib.Core.Path.{_≡_, _∙_}
 use mathlib.Core.Bool.{Bool, true, false}
 use mathlib.Core.List.{List}
 use Rattle.text.specs.Base.{_or_}
