@@ -1,4 +1,5 @@
-// The record of an entry's operation, from its line, from what was said below it, and from how many items and bytes that takes.
+// The record of an entry's operation, from its line, from what was said below it, and from how many items and bytes that takes. Each arm returns its
+// record, which is so made where it goes.
 ghost use mathlib.Core.Path.{_≡_};
 ghost use Prim.Native.Nat.{_+_, _<_};
 ghost use Rattle.script.specs.Operations.{formOf};
@@ -60,17 +61,17 @@ fn text_call(text: &[u8], op: Op, args: Span) -> OpCall
 {
     let place = matchers::matchers::place_of(args);
     match op {
-        Op::AddIndirectRoot => OpCall::SingleString { op, value: place },
-        Op::SyncWithGC => OpCall::NoArgs { op },
-        Op::FindRoots => OpCall::NoArgs { op },
-        Op::QuerySubstitutablePathInfo => OpCall::QuerySubstitutablePathInfo { path: place },
-        Op::QueryAllValidPaths => OpCall::NoArgs { op },
-        Op::QueryPathFromHashPart => OpCall::SingleString { op, value: place },
-        Op::OptimiseStore => OpCall::NoArgs { op },
-        Op::RegisterDrvOutput => OpCall::RegisterDrvOutput { value: place },
-        Op::QueryRealisation => OpCall::QueryRealisation { value: place },
-        Op::AddPermRoot => root_call(text, args),
-        _ => OpCall::SinglePath { op, path: place },
+        Op::AddIndirectRoot => return OpCall::SingleString { op, value: place },
+        Op::SyncWithGC => return OpCall::NoArgs { op },
+        Op::FindRoots => return OpCall::NoArgs { op },
+        Op::QuerySubstitutablePathInfo => return OpCall::QuerySubstitutablePathInfo { path: place },
+        Op::QueryAllValidPaths => return OpCall::NoArgs { op },
+        Op::QueryPathFromHashPart => return OpCall::SingleString { op, value: place },
+        Op::OptimiseStore => return OpCall::NoArgs { op },
+        Op::RegisterDrvOutput => return OpCall::RegisterDrvOutput { value: place },
+        Op::QueryRealisation => return OpCall::QueryRealisation { value: place },
+        Op::AddPermRoot => return root_call(text, args),
+        _ => return OpCall::SinglePath { op, path: place },
     }
 }
 
@@ -82,15 +83,15 @@ fn set_call(text: &[u8], op: Op, args: Span, paths: Items) -> OpCall
     let rest = rest_of(text, args);
     let mode = matchers::matchers::place_of(rest);
     match op {
-        Op::BuildPaths => OpCall::PathSetMode { op, paths, mode },
-        Op::QuerySubstitutablePathInfos => OpCall::QuerySubstitutablePathInfos { paths },
-        Op::QueryValidPaths => OpCall::PathSetFlag {
+        Op::BuildPaths => return OpCall::PathSetMode { op, paths, mode },
+        Op::QuerySubstitutablePathInfos => return OpCall::QuerySubstitutablePathInfos { paths },
+        Op::QueryValidPaths => return OpCall::PathSetFlag {
             op,
             paths,
             substitute: pieces::pieces::is_word(text, rest, b"substitute"),
         },
-        Op::BuildPathsWithResults => OpCall::PathSetMode { op, paths, mode },
-        _ => OpCall::PathSet { op, paths },
+        Op::BuildPathsWithResults => return OpCall::PathSetMode { op, paths, mode },
+        _ => return OpCall::PathSet { op, paths },
     }
 }
 
@@ -100,14 +101,14 @@ fn line_call(text: &[u8], op: Op, args: Span, i: usize, n: usize) -> OpCall
     ensures { λ r. ⌜ r ≡ lineRecord (now (text .entry)) (setPlace (formOf op .syntax)) op args i n ⌝ }
 {
     match openings::set_place(op) {
-        SetPlace::NoSet => text_call(text, op, args),
-        SetPlace::AllOf => set_call(text, op, args, records::calls::range_of(i, n)),
+        SetPlace::NoSet => return text_call(text, op, args),
+        SetPlace::AllOf => return set_call(text, op, args, records::calls::range_of(i, n)),
         SetPlace::BehindBlank => {
             let c = openings::cut_or(text, args, 0x20);
-            OpCall::AddSignatures {
+            return OpCall::AddSignatures {
                 path: matchers::matchers::place_of(c.before),
                 sigs: records::calls::range_of(i, n),
-            }
+            };
         }
     }
 }
@@ -129,28 +130,28 @@ pub fn call_of(
     ensures { λ r. ⌜ r ≡ recordOf (now (text .entry)) (formOf op .shape) op args (pieceAt (now (starts .entry)) (now (ends .entry))) i b z ⌝ }
 {
     match openings::takes_of(op) {
-        Takes::NoLines => line_call(text, op, args, i, z.items),
-        Takes::Options => OpCall::SetOptions(option_records::options_of(
+        Takes::NoLines => return line_call(text, op, args, i, z.items),
+        Takes::Options => return OpCall::SetOptions(option_records::options_of(
             text,
             starts,
             ends,
             records::calls::range_of(i, z.items),
         )),
-        Takes::Garbage => option_records::garbage_call(
+        Takes::Garbage => return option_records::garbage_call(
             text,
             starts,
             ends,
             records::calls::range_of(i, z.items),
         ),
-        Takes::Verify => option_records::verify_call(text, starts, ends),
-        Takes::Texts => store_records::texts_call(i, b, z),
-        Takes::Store => store_records::store_call(text, starts, ends, i, b, z),
-        Takes::Multiple => store_records::multiple_call(text, starts, ends, b, z.first),
-        Takes::FirstData => OpCall::AddBuildLog {
+        Takes::Verify => return option_records::verify_call(text, starts, ends),
+        Takes::Texts => return store_records::texts_call(i, b, z),
+        Takes::Store => return store_records::store_call(text, starts, ends, i, b, z),
+        Takes::Multiple => return store_records::multiple_call(text, starts, ends, b, z.first),
+        Takes::FirstData => return OpCall::AddBuildLog {
             path: matchers::matchers::place_of(args),
             data: records::calls::framed_of(text, starts, ends, b, z.first),
         },
-        Takes::FirstRaw => OpCall::RawBytes {
+        Takes::FirstRaw => return OpCall::RawBytes {
             op,
             data: records::calls::placed(b, z.first),
         },

@@ -13,6 +13,9 @@ enum-told c = search needs
 text-call-requires : tie.Need-text-call-requires
 text-call-requires c κs = search needs
 
+returns : tie.Need-returns
+returns c = search (needs, line-laws)
+
 enum-told-2 : tie.Need-enum-told-2
 enum-told-2 c = search needs
 
@@ -21,6 +24,9 @@ range-of-requires c κs = search needs
 
 set-call-requires : tie.Need-set-call-requires
 set-call-requires c κs = search needs
+
+returns-2 : tie.Need-returns-2
+returns-2 c = search (needs, line-laws)
 
 enum-told-3 : tie.Need-enum-told-3
 enum-told-3 c = search needs
@@ -34,12 +40,6 @@ place-of-requires c κs = search needs
 range-of-requires-2 : tie.Need-range-of-requires-2
 range-of-requires-2 c κs = search needs
 
-returns : tie.Need-returns
-returns c = search (needs, line-laws)
-
-returns-2 : tie.Need-returns-2
-returns-2 c = search (needs, line-laws)
-
 returns-3 : tie.Need-returns-3
 returns-3 c = search (needs, line-laws)
 
@@ -50,13 +50,13 @@ line-call-spec =
     set-place-requires
     enum-told
     text-call-requires
+    returns
     enum-told-2
     range-of-requires
     set-call-requires
+    returns-2
     enum-told-3
     cut-or-requires
     place-of-requires
     range-of-requires-2
-    returns
-    returns-2
     returns-3)

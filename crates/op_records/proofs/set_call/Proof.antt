@@ -70,8 +70,14 @@ place-of-requires c κs = search needs
 enum-told : tie.Need-enum-told
 enum-told c = search needs
 
+returns : tie.Need-returns
+returns c = search (needs, set-laws)
+
 enum-told-2 : tie.Need-enum-told-2
 enum-told-2 c = search needs
+
+returns-2 : tie.Need-returns-2
+returns-2 c = search (needs, set-laws)
 
 enum-told-3 : tie.Need-enum-told-3
 enum-told-3 c = search needs
@@ -82,17 +88,11 @@ slice-aggregate-is-word c = search needs
 is-word-requires : tie.Need-is-word-requires
 is-word-requires c κs = search needs
 
-enum-told-4 : tie.Need-enum-told-4
-enum-told-4 c = search needs
-
-returns : tie.Need-returns
-returns c = search (needs, set-laws)
-
-returns-2 : tie.Need-returns-2
-returns-2 c = search (needs, set-laws)
-
 returns-3 : tie.Need-returns-3
 returns-3 c = search (needs, set-laws)
+
+enum-told-4 : tie.Need-enum-told-4
+enum-told-4 c = search needs
 
 returns-4 : tie.Need-returns-4
 returns-4 c = search (needs, set-laws)
@@ -107,13 +107,13 @@ set-call-spec =
     rest-of-requires
     place-of-requires
     enum-told
+    returns
     enum-told-2
+    returns-2
     enum-told-3
     slice-aggregate-is-word
     is-word-requires
-    enum-told-4
-    returns
-    returns-2
     returns-3
+    enum-told-4
     returns-4
     returns-5)
