@@ -1,12 +1,10 @@
 // The lines of the preamble (`parse_preamble` of the Rust): the first byte tells which words may stand there.
 ghost use mathlib.Core.Path.{_≡_};
 ghost use lib.ListN.{getD};
-ghost use Rattle.text.specs.Base.{_or_};
 ghost use Rattle.version.specs.Version.{version};
-ghost use Rattle.script.specs.Pieces.{bytes, is, begins};
-ghost use Rattle.script.specs.Roles.{step, versionRole, wordRole, preambleExpect, preambleRole, preambleStep};
+ghost use Rattle.script.specs.Pieces.{bytes};
+ghost use Rattle.script.specs.Roles.{versionRole, wordRole, preambleExpect, preambleRole, preambleStep};
 ghost use Rattle.script.specs.Inside.{In};
-ghost use Rattle.script.specs.declared.roles.Role.the-variants as Role;
 use remarks::comment_role;
 use remarks::is_remark;
 use script::roles::Key;
@@ -36,23 +34,10 @@ fn on_protocol(text: &[u8], t: Span) -> Role
     requires { ⌜ getD (bytes (now text) t) 0 0 ≡ 112 ⌝ }
     ensures { λ r. ⌜ r ≡ wordRole (now (text .entry)) t ⌝ }
 {
-    if pieces::pieces::begins(text, t, b"protocol:") {
-        return version_role(text, pieces::fronts::behind_trimmed(text, t, 9));
+    if !pieces::pieces::begins(text, t, b"protocol:") {
+        return Role::Bad(3);
     }
-    Role::Bad(3)
-}
-
-// `features: names`
-fn on_features(text: &[u8], t: Span) -> Role
-    requires { ⌜ In (now text) t ⌝ }
-    requires { ⌜ getD (bytes (now text) t) 0 0 ≡ 102 ⌝ }
-    ensures { λ r. ⌜ r ≡ wordRole (now (text .entry)) t ⌝ }
-{
-    if pieces::pieces::begins(text, t, b"features:") {
-        let value = pieces::fronts::behind_trimmed(text, t, 9);
-        return Role::Says(Saying::Known(Key::Features, value));
-    }
-    Role::Bad(3)
+    version_role(text, pieces::fronts::behind_trimmed(text, t, 9))
 }
 
 // `protocol: version`, or `features: names`
@@ -60,29 +45,29 @@ fn word_role(text: &[u8], t: Span) -> Role
     requires { ⌜ In (now text) t ⌝ }
     ensures { λ r. ⌜ r ≡ wordRole (now (text .entry)) t ⌝ }
 {
-    match pieces::fronts::first_byte(text, t) {
-        b'p' => on_protocol(text, t),
-        b'f' => on_features(text, t),
-        _ => Role::Bad(3),
+    let x = pieces::fronts::first_byte(text, t);
+    if x == b'p' {
+        return on_protocol(text, t);
     }
+    if x != b'f' {
+        return Role::Bad(3);
+    }
+    if !pieces::pieces::begins(text, t, b"features:") {
+        return Role::Bad(3);
+    }
+    let value = pieces::fronts::behind_trimmed(text, t, 9);
+    Role::Says(Saying::Known(Key::Features, value))
 }
 
 // In the preamble a blank or a colon follows `expect`.
-fn is_expect(text: &[u8], t: Span) -> bool
-    requires { ⌜ In (now text) t ⌝ }
-    ensures { λ r. ⌜ r ≡ (begins (now (text .entry)) "expect " t or begins (now (text .entry)) "expect:" t) ⌝ }
-{
-    if pieces::pieces::begins(text, t, b"expect ") {
-        return true;
-    }
-    pieces::pieces::begins(text, t, b"expect:")
-}
-
 fn preamble_expect(text: &[u8], t: Span) -> Role
     requires { ⌜ In (now text) t ⌝ }
     ensures { λ r. ⌜ r ≡ preambleExpect (now (text .entry)) t ⌝ }
 {
-    if is_expect(text, t) {
+    if pieces::pieces::begins(text, t, b"expect ") {
+        return expectations::expect_role(text, t);
+    }
+    if pieces::pieces::begins(text, t, b"expect:") {
         return expectations::expect_role(text, t);
     }
     Role::Bad(3)
@@ -106,34 +91,22 @@ fn preamble_role(text: &[u8], t: Span) -> Role
     word_role(text, t)
 }
 
-// Whether the line ends the preamble.
-fn is_rule(text: &[u8], t: Span) -> bool
-    requires { ⌜ In (now text) t ⌝ }
-    ensures { λ r. ⌜ r ≡ is (now (text .entry)) "---" t ⌝ }
-{
-    pieces::pieces::is_word(text, t, b"---")
-}
-
-// A line that is nothing, and where the next one stands.
-pub fn nothing(next: Where) -> Step
-    ensures { λ r. ⌜ r ≡ step Role.Nothing next ⌝ }
-{
-    Step {
-        role: Role::Nothing,
-        next,
-    }
-}
-
 // What a line is that stands in the preamble, and where the next one stands; `t` is the line, trimmed.
 pub fn preamble_step(text: &[u8], t: Span) -> Step
     requires { ⌜ In (now text) t ⌝ }
     ensures { λ r. ⌜ r ≡ preambleStep (now (text .entry)) t ⌝ }
 {
-    if is_rule(text, t) {
-        return nothing(Where::Outside);
+    if pieces::pieces::is_word(text, t, b"---") {
+        return Step {
+            role: Role::Nothing,
+            next: Where::Outside,
+        };
     }
     if is_remark(text, t) {
-        return nothing(Where::InPreamble);
+        return Step {
+            role: Role::Nothing,
+            next: Where::InPreamble,
+        };
     }
     Step {
         role: preamble_role(text, t),

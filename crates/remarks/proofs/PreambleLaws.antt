@@ -21,7 +21,7 @@ use Rattle.version.specs.declared.Version.{Version}
 use Rattle.version.specs.declared.Version.the-variants as read
 use Rattle.script.specs.Answers.{firstOf}
 use Rattle.script.specs.Pieces.{bytes, isEmpty, is, begins, behind, trim}
-use Rattle.script.specs.Roles.{step, behindSigns, versionRole, saying, commentRole, protocolRole, wordRole, preambleExpect, preambleRole, preambleStep}
+use Rattle.script.specs.Roles.{step, expectRole, behindSigns, versionRole, saying, commentRole, protocolRole, wordRole, preambleExpect, preambleRole, preambleStep}
 use Rattle.script.specs.declared.roles.Key.{Key}
 use Rattle.script.specs.declared.roles.Key.the-variants as Key
 use Rattle.script.specs.declared.roles.Saying.the-variants.{Known}
@@ -161,6 +161,22 @@ module _ (text : List ℕ) (t : Span) where
       unfolding wordRole protocolRole saying firstOf
       some-features y v k = rw (front-behind text t x g "protocol:" (ne-eqb x 112 p), behind-some text t "features:" b e y, k)
 
+-- ---- expectations
+
+module _ (text : List ℕ) (t : Span) (b : Bool) (e : b ≡ startsWith (codes "expect ") (bytes text t)) where
+  pub expect-blank : b ≡ true → (r : Role) → r ≡ expectRole text t → r ≡ preambleExpect text t
+  unfolding preambleExpect
+  expect-blank y r h = rw (begins-is text t "expect " b e ∙ y, h)
+
+  module _ (n : b ≡ false) (b₂ : Bool) (e₂ : b₂ ≡ startsWith (codes "expect:") (bytes text t)) where
+    pub expect-colon : b₂ ≡ true → (r : Role) → r ≡ expectRole text t → r ≡ preambleExpect text t
+    unfolding preambleExpect
+    expect-colon y r h = rw (begins-is text t "expect " b e ∙ n, begins-is text t "expect:" b₂ e₂ ∙ y, h)
+
+    pub expect-other : b₂ ≡ false → Bad 3 ≡ preambleExpect text t
+    unfolding preambleExpect
+    expect-other f = rw (begins-is text t "expect " b e ∙ n, begins-is text t "expect:" b₂ e₂ ∙ f)
+
 -- ---- every line of the preamble
 
 -- what does not begin with a word does not begin with a longer one
@@ -235,5 +251,9 @@ pub ruleset sign-steps = (signs-over, signs-end, signs-on)
 pub ruleset comment-words = (comment-none, comment-daemon, comment-trust, comment-features)
 
 pub ruleset protocol-words = (no-protocol, a-protocol)
+
+pub ruleset preamble-words = (no-word, no-features, some-features)
+
+pub ruleset preamble-expects = (expect-blank, expect-colon, expect-other)
 
 pub ruleset preamble-lines = (line-empty, line-comment, line-expect, line-word)

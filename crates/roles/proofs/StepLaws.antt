@@ -132,6 +132,10 @@ module _ (text : List ℕ) (t : Span) where
   pub sorted-as : (told s : Sort) → s ≡ told → (a : Step) → a ≡ sortedStep text told t → a ≡ sortedStep text s t
   sorted-as told s h a q = rw (h, q)
 
+  pub sorted-expect : (s : Sort) → s ≡ sort.Expect → (r : Role) → r ≡ expectRole text t → step r InEntry ≡ sortedStep text s t
+  unfolding sortedStep
+  sorted-expect s h r q = rw (h, q)
+
   module _ (b : Bool) (e : b ≡ skipped text t) where
     pub outside-skipped : b ≡ true → step Nothing Outside ≡ outsideStep text t
     unfolding outsideStep
@@ -172,9 +176,9 @@ module _ (text : List ℕ) where
   unfolding trim
   trim-nothing p h = let z = ap length (no-bytes p h) in omega (arith, trim-inside (bytes text p))
 
-  pub empty-is : (w next : Where) (l : Line) → l .start ≡ l .end → next ≡ belowEmpty w → (s : Step) → s ≡ step Nothing next → s ≡ stepOf plainRules text w l
+  pub empty-is : (w next : Where) (l : Line) → l .start ≡ l .end → next ≡ belowEmpty w → step Nothing next ≡ stepOf plainRules text w l
   unfolding stepOf indented startsWith utf8
-  empty-is w next l h e s q = q ∙ rw (no-bytes (lineSpan l) h, e) (sym (nothing-at w (trim text (lineSpan l)) (trim-nothing (lineSpan l) h)))
+  empty-is w next l h e = rw (no-bytes (lineSpan l) h, e) (sym (nothing-at w (trim text (lineSpan l)) (trim-nothing (lineSpan l) h)))
 
 pub ruleset front-words = (front-blank, front-comment, front-expect, front-other)
 

@@ -1,11 +1,10 @@
 // Every line: what it is, and where the next one stands.
 ghost use mathlib.Core.Path.{_≡_};
 ghost use Rattle.script.specs.Values.{plainRules};
-ghost use Rattle.script.specs.Roles.{lineSpan, step, expectRole, outsideStep, entryStep, blockStep, stepAt, stepOf};
+ghost use Rattle.script.specs.Roles.{lineSpan, outsideStep, entryStep, blockStep, stepAt, stepOf};
 ghost use Rattle.script.specs.Inside.{In};
-ghost use Rattle.script.specs.declared.roles.Where.the-variants.{InEntry};
 ghost use Rattle.roles.specs.StepRead.{frontOf, sortedStep, belowEmpty};
-use preambles::preamble::nothing;
+use script::roles::Role;
 use script::roles::Step;
 use script::roles::Takes;
 use script::roles::Where;
@@ -99,16 +98,6 @@ fn sort_of(text: &[u8], w: Where, inward: bool, t: Span) -> Sort
     }
 }
 
-fn expect_step(text: &[u8], t: Span) -> Step
-    requires { ⌜ In (now text) t ⌝ }
-    ensures { λ r. ⌜ r ≡ step (expectRole (now (text .entry)) t) InEntry ⌝ }
-{
-    Step {
-        role: expectations::expect_role(text, t),
-        next: Where::InEntry,
-    }
-}
-
 // What a line of that sort is.
 fn sorted_step(text: &[u8], sort: Sort, t: Span) -> Step
     requires { ⌜ In (now text) t ⌝ }
@@ -116,9 +105,18 @@ fn sorted_step(text: &[u8], sort: Sort, t: Span) -> Step
 {
     match sort {
         Sort::Preamble => preambles::preamble::preamble_step(text, t),
-        Sort::Skipped => nothing(Where::Outside),
-        Sort::Passed => nothing(Where::InEntry),
-        Sort::Expect => expect_step(text, t),
+        Sort::Skipped => Step {
+            role: Role::Nothing,
+            next: Where::Outside,
+        },
+        Sort::Passed => Step {
+            role: Role::Nothing,
+            next: Where::InEntry,
+        },
+        Sort::Expect => Step {
+            role: expectations::expect_role(text, t),
+            next: Where::InEntry,
+        },
         Sort::Argument(takes, list_open) => crate::blocks::argument_step(text, takes, list_open, t),
         Sort::Opening => openings::opening_step(text, t),
     }
@@ -152,7 +150,10 @@ pub fn step(text: &[u8], w: Where, l: Line) -> Step
     let end = l.end;
     // An empty line is nothing wherever it stands: a text may have very many.
     if start == end {
-        return nothing(below_empty(w));
+        return Step {
+            role: Role::Nothing,
+            next: below_empty(w),
+        };
     }
     let inward = lines::lines::indented(&text[start..end]);
     let t = pieces::pieces::trimmed(text, Span { start, end });

@@ -1,38 +1,46 @@
--- `preambles::preamble::preamble_expect` meets its contract: an expectation, or the line has no known form. Assumes nothing.
-use Prim.Native.Nat.{ℕ}
-use mathlib.Core.Path.{_≡_, sym, _∙_}
-use mathlib.Core.Bool.{Bool, true, false}
-use mathlib.Core.List.{List}
-use Rattle.text.specs.Base.{_or_}
-use Rattle.text.specs.declared.parts.Span.{Span}
-use Rattle.script.specs.Pieces.{begins}
-use Rattle.script.specs.Roles.{expectRole, preambleExpect}
-use Rattle.script.specs.declared.roles.Role.{Role}
-use Rattle.script.specs.declared.roles.Role.the-variants.{Bad}
+-- `preambles::preamble::preamble_expect` meets its contract: one of two words stands there, or the line has no known form. Assumes nothing.
+use Rattle.remarks.proofs.PreambleLaws.{preamble-expects}
 use borrow.Author.Needs.{needs}
 use Rattle.preambles.proofs.preamble.preamble_expect.Statement.{statement}
 use Rattle.preambles.proofs.preamble.preamble_expect.Tie as tie
 
-module _ (text : List ℕ) (t : Span) (b : Bool) (e : b ≡ (begins text "expect " t or begins text "expect:" t)) where
-  expected : b ≡ true → (r : Role) → r ≡ expectRole text t → r ≡ preambleExpect text t
-  unfolding preambleExpect
-  expected y r h = rw (sym e ∙ y) h
+slice-aggregate-begins : tie.Need-slice-aggregate-begins
+slice-aggregate-begins c = search needs
 
-  other : b ≡ false → Bad 3 ≡ preambleExpect text t
-  unfolding preambleExpect
-  other n = rw (sym e ∙ n)
-
-is-expect-requires : tie.Need-is-expect-requires
-is-expect-requires c κs = search needs
+begins-requires : tie.Need-begins-requires
+begins-requires c κs = search needs
 
 expect-role-requires : tie.Need-expect-role-requires
 expect-role-requires c κs = search needs
 
 returns : tie.Need-returns
-returns c = search (needs, expected)
+returns c = search (needs, preamble-expects)
+
+slice-aggregate-begins-2 : tie.Need-slice-aggregate-begins-2
+slice-aggregate-begins-2 c = search needs
+
+begins-requires-2 : tie.Need-begins-requires-2
+begins-requires-2 c κs = search needs
+
+expect-role-requires-2 : tie.Need-expect-role-requires-2
+expect-role-requires-2 c κs = search needs
 
 returns-2 : tie.Need-returns-2
-returns-2 c = search (needs, other)
+returns-2 c = search (needs, preamble-expects)
+
+returns-3 : tie.Need-returns-3
+returns-3 c = search (needs, preamble-expects)
 
 pub preamble-expect-spec : {M : Type 1} → statement M
-preamble-expect-spec = tie.close (tie.spec is-expect-requires expect-role-requires returns returns-2)
+preamble-expect-spec =
+    tie.close
+    (tie.spec
+    slice-aggregate-begins
+    begins-requires
+    expect-role-requires
+    returns
+    slice-aggregate-begins-2
+    begins-requires-2
+    expect-role-requires-2
+    returns-2
+    returns-3)

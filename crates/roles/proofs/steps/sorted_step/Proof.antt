@@ -1,6 +1,6 @@
 -- `roles::steps::sorted_step` meets its contract: an arm for each sort. Assumes nothing.
 use Rattle.roles.specs.StepRead.{sortedStep}
-use Rattle.roles.proofs.StepLaws.{sorted-as}
+use Rattle.roles.proofs.StepLaws.{sorted-as, sorted-expect}
 use borrow.Author.Needs.{needs}
 use Rattle.roles.proofs.steps.sorted_step.Statement.{statement}
 use Rattle.roles.proofs.steps.sorted_step.Tie as tie
@@ -14,20 +14,14 @@ preamble-step-requires c κs = search needs
 enum-told-2 : tie.Need-enum-told-2
 enum-told-2 c = search needs
 
-nothing-requires : tie.Need-nothing-requires
-nothing-requires c κs = search needs
-
 enum-told-3 : tie.Need-enum-told-3
 enum-told-3 c = search needs
-
-nothing-requires-2 : tie.Need-nothing-requires-2
-nothing-requires-2 c κs = search needs
 
 enum-told-4 : tie.Need-enum-told-4
 enum-told-4 c = search needs
 
-expect-step-requires : tie.Need-expect-step-requires
-expect-step-requires c κs = search needs
+expect-role-requires : tie.Need-expect-role-requires
+expect-role-requires c κs = search needs
 
 enum-known-sort : tie.Need-enum-known-sort
 enum-known-sort c = search needs
@@ -54,8 +48,7 @@ unfolding sortedStep
 returns-3 c = search (needs, sorted-as)
 
 returns-4 : tie.Need-returns-4
-unfolding sortedStep
-returns-4 c = search (needs, sorted-as)
+returns-4 c = search (needs, sorted-expect)
 
 returns-5 : tie.Need-returns-5
 unfolding sortedStep
@@ -72,11 +65,9 @@ sorted-step-spec =
     enum-told
     preamble-step-requires
     enum-told-2
-    nothing-requires
     enum-told-3
-    nothing-requires-2
     enum-told-4
-    expect-step-requires
+    expect-role-requires
     enum-known-sort
     argument-step-requires
     enum-told-5

@@ -7,9 +7,6 @@ use Rattle.roles.proofs.steps.step.Tie as tie
 below-empty-requires : tie.Need-below-empty-requires
 below-empty-requires c κs = search needs
 
-nothing-requires : tie.Need-nothing-requires
-nothing-requires c κs = search needs
-
 returns : tie.Need-returns
 returns c = search (needs, step-is, empty-is)
 
@@ -39,7 +36,6 @@ step-spec =
     tie.close
     (tie.spec
     below-empty-requires
-    nothing-requires
     returns
     sub-indented
     part-indented-start
