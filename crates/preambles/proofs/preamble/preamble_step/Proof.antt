@@ -11,19 +11,19 @@ is-word-requires : tie.Need-is-word-requires
 is-word-requires c κs = search needs
 
 returns : tie.Need-returns
-returns c = search (needs, step-over)
+returns c = step-over _ _ _ (c .before .is-word .ensures) (c .if1 .taken)
 
 is-remark-requires : tie.Need-is-remark-requires
 is-remark-requires c κs = search needs
 
 returns-2 : tie.Need-returns-2
-returns-2 c = search (needs, step-remark)
+returns-2 c = step-remark _ _ _ (c .before .before .before .is-word .ensures) (c .before .before .if1 .left) _ (c .before .is-remark .ensures) (c .if2 .taken)
 
 preamble-role-requires : tie.Need-preamble-role-requires
 preamble-role-requires c κs = search needs
 
 returns-3 : tie.Need-returns-3
-returns-3 c = search (needs, step-inside)
+returns-3 c = step-inside _ _ _ (c .before .before .before .before .is-word .ensures) (c .before .before .before .if1 .left) _ (c .preamble-role .ensures)
 
 pub preamble-step-spec : {M : Type 1} → statement M
 preamble-step-spec =
