@@ -18,7 +18,7 @@ byte-at-requires c κs = search needs
 
 returns : tie.Need-returns
 unfolding bytes
-returns c = search needs
+returns c = c .byte-at .ensures
 
 pub first-byte-spec : {M : Type 1} → statement M
 first-byte-spec =

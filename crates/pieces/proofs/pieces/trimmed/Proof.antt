@@ -1,6 +1,6 @@
 -- `pieces::pieces::trimmed` meets its contract. Assumes nothing.
 use native.Mathlib.Omega.{arith}
-use Rattle.pieces.proofs.PieceLaws.{trim-end, piece-steps}
+use Rattle.pieces.proofs.PieceLaws.{trim-is, trim-end, trim-in}
 use borrow.Author.Needs.{needs}
 use Rattle.pieces.proofs.pieces.trimmed.Statement.{statement}
 use Rattle.pieces.proofs.pieces.trimmed.Tie as tie
@@ -24,7 +24,9 @@ add-t8 : tie.Need-add-t8
 add-t8 c = omega (arith, trim-end _ _ _ (c .before .before .trim-place .ensures) (c .before .before .before .before .before .pre))
 
 returns : tie.Need-returns
-returns c = search (needs, piece-steps)
+returns c =
+    let e = c .before .before .trim-place .ensures in
+    (trim-is _ _ _ e, trim-in _ _ _ e (c .before .before .before .before .before .pre))
 
 pub trimmed-spec : {M : Type 1} → statement M
 trimmed-spec =
