@@ -1,6 +1,6 @@
 -- `storing::put_data` meets its contract. Assumes nothing.
-use Rattle.written.proofs.WrittenLaws.{same-laws, none-laws}
-use Rattle.storing.proofs.ValueLaws.{value-laws}
+use Rattle.written.proofs.WrittenLaws.{same-room, same-count, same-written, none-count, none-written}
+use Rattle.storing.proofs.ValueLaws.{data-hex, data-none, data-in}
 use borrow.Author.Needs.{needs}
 use Rattle.storing.proofs.put_data.Statement.{statement}
 use Rattle.storing.proofs.put_data.Tie as tie
@@ -15,16 +15,27 @@ add-t9 : tie.Need-add-t9
 add-t9 c = search needs
 
 put-hex-requires : tie.Need-put-hex-requires
-put-hex-requires c κs = search (needs, same-laws, value-laws)
+put-hex-requires c κs =
+    let B = c .before .before .before in
+    let P = B .before .before .before .before .pre in
+    let e = B .begins .ensures .0 in
+    let t = c .before .before .if1 .taken in
+    (data-in _ _ _ e (P .0) t, same-room _ _ (data-hex _ _ _ e t) _ _ (P .1))
 
 same-length : tie.Need-same-length
 same-length c = search needs
 
 returns : tie.Need-returns
-returns c = search (needs, same-laws, value-laws)
+returns c =
+    let B = c .before .before .before .before .before in
+    let w = c .before .before .put-hex .ensures in
+    let h = data-hex _ _ _ (B .before .begins .ensures .0) (B .if1 .taken) in
+    (same-count _ _ h _ (w .0), same-written _ _ h _ _ _ (w .1))
 
 returns-2 : tie.Need-returns-2
-returns-2 c = search (needs, none-laws, value-laws)
+returns-2 c =
+    let h = data-none _ _ _ (c .before .begins .ensures .0) (c .if1 .left) in
+    (none-count _ h, none-written _ _ _ h (c .before .before .before .before .before .pre .1))
 
 pub put-data-spec : {M : Type 1} → statement M
 put-data-spec =
