@@ -193,8 +193,6 @@ module _ (hex lent room : List ℕ) (n : ℕ) (c : n ≡ length (hexDecoded hex)
       rw (g, eq-eqb (length hex) (2 * length (hexDecoded hex)) (omega (arith, hex-half hex)))
       (ap some (ap (take n) k ∙ take-at (hexDecoded hex) (drop (length (hexDecoded hex)) lent) n (sym c)))
 
-pub ruleset hex-laws = (no-longer, too-long, other-length, is-hex)
-
 pub byte-bound : (b : Bytes) (n most : ℕ) → b ≡ Bytes.Are n → byteCount b ≤ most → n ≤ most
 byte-bound b n most e h = rw e at h
 
