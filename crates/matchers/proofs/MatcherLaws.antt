@@ -4,6 +4,7 @@ use mathlib.Core.Path.{_≡_, refl, sym, _∙_}
 use mathlib.Core.Bool.{Bool, true, false}
 use mathlib.Core.List.{List, [], _∷_}
 use mathlib.Core.Option.{Option, none}
+use native.Mathlib.Omega.{arith}
 use lib.IntN.{ℤ}
 use lib.ListN.{getD}
 use mir.Syntax.{w64}
@@ -33,6 +34,10 @@ module _ (case : ℤ → Matcher) (whole : Answer Matcher) (o : Option ℤ) (w :
   pub number-bad : i ≡ Bad → refused 5 ≡ whole
   unfolding integerOf numbered
   number-bad e = rw (w, ← q, e)
+
+-- between two slashes
+pub between : (start end : ℕ) → 1 < end - start → start + 1 ≤ end - 1
+between start end h = omega arith
 
 module _ (text : List ℕ) (s : Span) where
   -- the number behind a sign of n bytes
@@ -94,5 +99,3 @@ module _ (text : List ℕ) (s : Span) where
       )
 
 pub ruleset signs = (greater-or-equal, greater-than, less-or-equal, less-than)
-
-pub ruleset matcher-steps = (not-closed, one-slash, closed, exact)

@@ -1,6 +1,6 @@
 -- `matchers::matchers::matcher` meets its contract: the first byte tells the form. Assumes nothing.
 use Rattle.matchers.specs.MatcherAnswers.{matcherOf}
-use Rattle.matchers.proofs.MatcherLaws.{matcher-steps}
+use Rattle.matchers.proofs.MatcherLaws.{exact}
 use borrow.Author.Needs.{needs}
 use Rattle.matchers.proofs.matchers.matcher.Statement.{statement}
 use Rattle.matchers.proofs.matchers.matcher.Tie as tie
@@ -31,7 +31,7 @@ place-of-requires c κs = search needs
 
 returns-4 : tie.Need-returns-4
 unfolding matcherOf
-returns-4 c = search (needs, matcher-steps)
+returns-4 c = search (needs, exact)
 
 pub matcher-spec : {M : Type 1} → statement M
 matcher-spec =
