@@ -10,7 +10,7 @@ use Rattle.script.specs.Inside.{In}
 use Rattle.tables.specs.Items.{itemsFor}
 use Rattle.tables.specs.SetRead.{taken}
 use Rattle.written.proofs.WrittenLaws.{Filling, filling-begun, filling-length, filled}
-use Rattle.tables.proofs.ItemLaws.{partsLeft, parts-over, part-laws}
+use Rattle.tables.proofs.ItemLaws.{partsLeft, parts-over, part-laws, part-on, part-room, part-put}
 use borrow.Author.Needs.{needs}
 use Rattle.tables.proofs.sets.put_parts.Statement.{statement}
 use Rattle.tables.proofs.sets.put_parts.Tie as tie
@@ -64,7 +64,7 @@ add-put-place c = search (needs, part-laws)
 
 put-place-requires : tie.Need-put-place-requires Inv-loop μ-loop
 unfolding bytes
-put-place-requires c κs = search (needs, part-laws)
+put-place-requires c κs = (search needs, search (needs, part-room))
 
 add-n : tie.Need-add-n Inv-loop μ-loop
 unfolding bytes
@@ -76,7 +76,19 @@ loop-less c = search (needs, part-laws)
 
 loop-again : tie.Need-loop-again Inv-loop μ-loop
 unfolding bytes
-loop-again c = search (needs, part-laws)
+loop-again c =
+    let D = c .before .before .before .before in
+    let T = D .before .before in
+    let R = T .before .before .before in
+    let L = R .before .before .before in
+    let K = L .before .before .args .keep in
+    let m = R .before .before .loop-test .taken in
+    let e = R .part-at .ensures in
+    let I = L .loop .inv in (
+      I .0,
+      part-on _ _ _ K _ _ m _ e (I .0) (I .1),
+      part-put _ _ _ K _ _ m _ e (I .0) (I .1) _ (T .trimmed .ensures .0) _ (D .is-taken .ensures) _ _ _ _ _ (I .2) (c .before .before .before .if1 .taken) _ (c .before .put-place .ensures),
+    )
 
 loop-less-2 : tie.Need-loop-less-2 Inv-loop μ-loop
 unfolding bytes
