@@ -3,7 +3,7 @@ use native.Mathlib.Omega.{arith}
 use borrow.Author.Needs.{needs}
 use borrow.Author.Tests.{not-true, not-false}
 use Rattle.version.specs.Version.{versionOf}
-use Rattle.version.proofs.VersionLaws.{is-u16, is-u8, dot-inside, version-steps}
+use Rattle.version.proofs.VersionLaws.{is-u16, is-u8, dot-inside, inside, three-parts, both-read, version-steps}
 use Rattle.version.proofs.parse_version.Statement.{statement}
 use Rattle.version.proofs.parse_version.Tie as tie
 
@@ -24,7 +24,7 @@ part-at-requires-2 c κs = search needs
 
 returns-2 : tie.Need-returns-2
 unfolding versionOf
-returns-2 c = search (needs, steps)
+returns-2 c = search (three-parts, not-false)
 
 sub-parse-u16 : tie.Need-sub-parse-u16
 sub-parse-u16 c = search needs
@@ -55,7 +55,7 @@ part-parse-u8-start : tie.Need-part-parse-u8-start
 part-parse-u8-start c = search (needs, steps)
 
 part-parse-u8-end : tie.Need-part-parse-u8-end
-part-parse-u8-end c = search (needs, steps)
+part-parse-u8-end c = search (inside, not-false)
 
 parse-u8-requires : tie.Need-parse-u8-requires
 parse-u8-requires c κs = search needs
@@ -81,7 +81,7 @@ new-requires c κs = search needs
 
 returns-5 : tie.Need-returns-5
 unfolding versionOf
-returns-5 c = search (needs, steps)
+returns-5 c = search (both-read, not-false)
 
 pub parse-version-spec : {M : Type 1} → statement M
 parse-version-spec =
