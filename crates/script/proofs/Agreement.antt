@@ -297,9 +297,14 @@ module _ (text : List ℕ) (l : Line) where
   outside-tests false false true n fe fh fx fn ok = absurd (expect-opens text t fx ok)
   outside-tests false false false n fe fh fx fn ok = opening-of (stamped text t) ok
 
+  -- what the definition tests of the line; said apart, so that another test is refused here
+  pub expect-test : begins text "expect" t ≡ expectationLine text l
+  unfolding expectationLine
+  expect-test = refl
+
   outside-agrees : isBad (outsideStep text t .role) ≡ false → Agree text l (outsideStep text t) (plainBelow text l)
-  unfolding outsideStep plainBelow skipped expectationLine
-  outside-agrees ok = outside-tests (isEmpty t) (begins text "#" t) (begins text "expect" t) (begins text "# nwscript" t) refl refl refl refl ok
+  unfolding outsideStep plainBelow skipped
+  outside-agrees ok = outside-tests (isEmpty t) (begins text "#" t) (expectationLine text l) (begins text "# nwscript" t) refl refl expect-test refl ok
 
   entry-tests : (i e h x : Bool) → isEmpty t ≡ e → begins text "#" t ≡ h → begins text "expect" t ≡ x
       → isBad ((if i & (e or h) then step Nothing InEntry else if i & x then step (expectRole text t) InEntry else outsideStep text t) .role) ≡ false
@@ -397,13 +402,17 @@ module _ (text : List ℕ) (l : Line) where
   preamble-tests false false true fe fh fx ok = preamble-expect (begins text "expect " t or begins text "expect:" t) ok
   preamble-tests false false false fe fh fx ok = (word-is, quiet (wordRole text t) word-is)
 
+  pub above-is : (if begins text "expect" t then expects l else other) ≡ plainAbove text l
+  unfolding plainAbove
+  above-is = ap (λ (x : Bool). if x then expects l else other) expect-test
+
   above-tests : (d : Bool) → isBad ((if d then step Nothing Outside else step (preambleRole text t) InPreamble) .role) ≡ false
       → Agree text l (if d then step Nothing Outside else step (preambleRole text t) InPreamble) (if d then plainly other below else plainly (plainAbove text l) above)
-  unfolding preambleRole plainAbove expectationLine expectationOf
+  unfolding preambleRole expectationOf
   above-tests true ok = record { mark = refl; next = refl; same = refl }
   above-tests false ok =
       let (m, s) = preamble-tests (isEmpty t) (begins text "#" t) (begins text "expect" t) refl refl refl ok in
-      record { mark = m; next = refl; same = s }
+      record { mark = m ∙ above-is; next = refl; same = s ∙ ap (statedIn text) above-is }
 
   -- ---- every line
 

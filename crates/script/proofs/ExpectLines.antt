@@ -14,9 +14,9 @@ use Rattle.text.specs.declared.lines.Line.{Line}
 use Rattle.text.proofs.Scan.{both, never}
 use Rattle.script.specs.Pieces.{bytes, isEmpty, is, begins}
 use Rattle.script.specs.Roles.{argumentLine}
-use Rattle.script.specs.Plain.{PlainLine, expects, opens, other, Standing, above, below, taking, plainly, under, takenOn, remaining, trimmedLine, inward, expectationLine, plainAbove, plainBelow, plainStep, plainFrom, plainLines, expectationLines, beginningLines}
+use Rattle.script.specs.Plain.{PlainLine, expects, opens, other, Standing, above, below, taking, plainly, under, takenOn, remaining, trimmedLine, inward, expectationLine, plainBelow, plainStep, plainFrom, plainLines, expectationLines, beginningLines}
 use Rattle.script.specs.Timestamps.{stamped}
-use Rattle.script.proofs.Agreement.{empty-begins, hash-begins}
+use Rattle.script.proofs.Agreement.{expect-test, above-is, empty-begins, hash-begins}
 
 -- the mark of a line whose being an expectation line is b
 abbrev Marks : Line → Bool → PlainLine → Type 0
@@ -38,8 +38,8 @@ module _ (text : List ℕ) (l : Line) where
   t = trimmedLine text l
 
   below-marks : Marks l (expectationLine text l) (plainBelow text l .mark)
-  unfolding plainBelow expectationLine expectationLines
-  below-marks rest = go (isEmpty t) (begins text "#" t) (begins text "expect" t) refl refl refl
+  unfolding plainBelow expectationLines
+  below-marks rest = go (isEmpty t) (begins text "#" t) (expectationLine text l) refl refl (expect-test text l)
     where
       go : (e h x : Bool) → isEmpty t ≡ e → begins text "#" t ≡ h → begins text "expect" t ≡ x
           → expectationLines ((if e or h then plainly other below else if x then plainly (expects l) below else plainly opens (under (takenOn text (stamped text t)))) .mark ∷ rest)
@@ -65,8 +65,8 @@ module _ (text : List ℕ) (l : Line) where
   dashed d = dashes (bytes text t) d
 
   step-marks : (w : Standing) → Marks l (expectationLine text l) (plainStep text w l .mark)
-  unfolding plainStep plainAbove expectationLine expectationLines
-  step-marks above rest = go (is text "---" t) (begins text "expect" t) refl refl
+  unfolding plainStep expectationLine expectationLines
+  step-marks above rest = rw (← above-is text l) (go (is text "---" t) (begins text "expect" t) refl refl)
     where
       go : (d x : Bool) → is text "---" t ≡ d → begins text "expect" t ≡ x
           → expectationLines ((if d then plainly other below else plainly (if x then expects l else other) above) .mark ∷ rest) ≡ (if x then (l ∷ expectationLines rest) else expectationLines rest)
