@@ -11,7 +11,7 @@ about-word-requires : tie.Need-about-word-requires
 about-word-requires c κs = search needs
 
 returns : tie.Need-returns
-returns c = search (needs, a-trust)
+returns c = a-trust _ _ _ (c .before .before .before .pre .1) (c .about-word .ensures)
 
 pub on-trust-spec : {M : Type 1} → statement M
 on-trust-spec = tie.close (tie.spec slice-aggregate-about-word about-word-requires returns)
