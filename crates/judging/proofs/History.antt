@@ -154,6 +154,12 @@ fits-le (entry g) = g
 
 -- ---- the plain judge
 
+-- a refused judging leaves what was there; said apart, so that one that does not is refused here
+pub refused-shown : {A B : Type 0} (shown : A → B) (r : Refusal) (before after : A) (later : B)
+    → judgedOr (some r) (shown before) later ≡ (judgedOr (some r) before after .0, shown (judgedOr (some r) before after .1))
+unfolding judgedOr
+refused-shown shown r before after later = refl
+
 module _ (text : List ℕ) (places : ℕ) where
   unfoldable pub plainOf : List Subject → PlainState
   plainOf h = record { next = length h; slots = slotsIn h (ownedLines text); counts = countsIn h (ownedLines text) }
@@ -186,7 +192,7 @@ module _ (text : List ℕ) (places : ℕ) where
     where
       go : (o : Option Refusal) → plainRefusal text places (length h) j ≡ o
           → judgedOr o (plainOf h) (plainJudged text places (plainOf h) j) ≡ (judgedOr o h (h ++ (subjectOf j ∷ [])) .0, plainOf (judgedOr o h (h ++ (subjectOf j ∷ [])) .1))
-      go (some r) e = refl
+      go (some r) e = refused-shown plainOf r h h (plainOf h)
       go none e = rw (unrefused (length h) j e .number, length-snoc h (subjectOf j), fill-slots h (subjectOf j) (ownedLines text), count-slots h (subjectOf j) (ownedLines text)) refl
   plain-shown h close = refl
 

@@ -34,7 +34,7 @@ use Rattle.judging.proofs.Slots.{few-counted}
 use Rattle.tallies.proofs.Refusals.{pass, alone, agree}
 use Rattle.judging.proofs.Orders.{Order, less, same, more, order}
 use Rattle.judging.proofs.Lines.{Rising, earlier, earlier-none, belonging-none, belonging-fit, belonging-cut}
-use Rattle.judging.proofs.History.{only, length-snoc, slotIn, slotsIn, countsIn, slot-snoc, count-slots, Fits, right-number, plainOf, historyCall, Unrefused, unrefused}
+use Rattle.judging.proofs.History.{refused-shown, only, length-snoc, slotIn, slotsIn, countsIn, slot-snoc, count-slots, Fits, right-number, plainOf, historyCall, Unrefused, unrefused}
 
 -- ---- what reading ensures
 
@@ -276,6 +276,6 @@ module _ (k : Lent) (a : Agrees k) where
         go : (o : Option Refusal) → plainRefusal (k .text) (length vs) (length h) j ≡ o
             → judgedOr o (shows h) (judgedBy k (verdict (subjectOf j)) (rangeFor k (j .number) (j .handed)) (shows h))
             ≡ (judgedOr o h (h ++ (subjectOf j ∷ [])) .0, shows (judgedOr o h (h ++ (subjectOf j ∷ [])) .1))
-        go (some q) e = refl
+        go (some q) e = refused-shown shows q h h (shows h)
         go none e = rw (same-judged h j (unrefused (k .text) (length vs) (length h) j e)) refl
     our-shown h close = rw (same-closing h) refl

@@ -64,12 +64,18 @@ module _ (k : Lent) (a : Agrees k) (before : List ℕ) where
   abbrev writes : List Subject → Call → List ℕ → List ℕ
   writes h c old = plainWrites text places (plainOf text places h) c old
 
+  -- said apart, so that another definition is refused here
+  history-writes : (h : List Subject) (j : Judging) (old : List ℕ)
+      → onFront (j .scratch) (overwrittenOr (plainRefusal text places (length h) j) (map (looked (subjectOf j)) (belonging (j .number) (ownedLines text)))) old ≡ writes h (judge j) old
+  unfolding plainWrites plainOf
+  history-writes h j old = refl
+
   -- one call of ours writes what the history's does
   our-writes : (h : List Subject) (c : Call) (old : List ℕ) → scratchCall k (shows k a before h) c old ≡ writes h c old
   unfolding scratchCall plainWrites onFront scratchAfter scratchOn shows stateOver plainOf overwrittenOr
   our-writes h (judge j) old =
       rw (length-over (slotsIn h (ownedLines text)) before, same-refusal k a h places j)
-      (go (plainRefusal text places (length h) j) refl)
+      (go (plainRefusal text places (length h) j) refl ∙ history-writes h j old)
     where
       go : (o : Option Refusal) → plainRefusal text places (length h) j ≡ o
           → overwrittenOr o (map (looked (subjectOf j)) (saidBy k (rangeFor k (j .number) (j .handed)))) (take (j .scratch) old) ++ drop (j .scratch) old
