@@ -28,7 +28,7 @@ use Rattle.tallies.specs.Answers.{closedOr}
 use Rattle.judging.specs.Calls.{Judging, Call, judge, close, subjectOf, said, wrongNumber, judgedOr}
 use Rattle.judging.specs.PlainJudge.{Owned, own, belonging, entryCount, ownedLines, plainRefusal, plainClosing}
 use Rattle.tallies.specs.Answers.{closeRefusal, closeAnswer}
-use Rattle.judging.specs.Judge.{Lent, JudgeState, allIn, rangeFor, recordsIn, saidBy, pastEntries, rangeOutside, outOfReach, fewSlots, rangeRefusals, judgedBy, judged, judgeStep, refusalOn, judgedOn}
+use Rattle.judging.specs.Judge.{Lent, JudgeState, allIn, rangeFor, recordsIn, saidBy, pastEntries, rangeOutside, outOfReach, fewSlots, rangeRefusals, judgedBy, judged, judgeStep, judgeRefusal, refusalOn, judgedOn}
 use Rattle.judging.specs.Claim.{saidOf, slotOver, slotsOver, stateOver, verdictBy}
 use Rattle.judging.proofs.Slots.{few-counted}
 use Rattle.tallies.proofs.Refusals.{pass, alone, agree}
@@ -266,11 +266,17 @@ module _ (k : Lent) (a : Agrees k) where
     unfolding closeAnswer closeRefusal plainClosing shows stateOver plainOf
     same-closing h = rw (few h, a .entries-counted) (ap (λ (o : Option Refusal). closedOr o (outcomeOf (countsIn h ls))) (pass 36 _ ∙ alone _))
 
+    -- a judging by its refusal; said apart, so that another is refused here
+    judged-as : (s : JudgeState) (j : Judging) → judgeStep k s (judge j) ≡ judgedOr (judgeRefusal k s j) s (judgedBy k (verdict (subjectOf j)) (rangeFor k (j .number) (j .handed)) s)
+    unfolding judgeStep judged judgedOn judgeRefusal
+    judged-as s j = refl
+
     -- one call of ours is the history's
     pub our-shown : (h : List Subject) (c : Call) → judgeStep k (shows h) c ≡ (historyCall (k .text) (length vs) h c .0, shows (historyCall (k .text) (length vs) h c .1))
-    unfolding judgeStep judged judgedOn historyCall shows stateOver plainOf judgedOr
+    unfolding judgeStep judgeRefusal historyCall shows stateOver plainOf judgedOr
     our-shown h (judge j) =
-        rw (length-over (slotsIn h ls) vs, same-refusal h (length vs) j)
+        judged-as (shows h) j
+        ∙ rw (length-over (slotsIn h ls) vs, same-refusal h (length vs) j)
         (go (plainRefusal (k .text) (length vs) (length h) j) refl)
       where
         go : (o : Option Refusal) → plainRefusal (k .text) (length vs) (length h) j ≡ o
