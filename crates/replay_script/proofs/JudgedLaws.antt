@@ -16,7 +16,7 @@ use Rattle.script.specs.declared.records.Expect.{Expect}
 use Rattle.script.specs.declared.response.DaemonResponse.{DaemonResponse}
 use Rattle.script.specs.declared.response.HandshakeInfo.{HandshakeInfo}
 use Rattle.verdicts.specs.Told.{Subject, greeting, reply}
-use Rattle.verdicts.specs.Held.{expectedOf, responseOf, infoOf, expectIn, responseIn, infoIn}
+use Rattle.verdicts.specs.Held.{expectedOf, responseOf, infoOf}
 use Rattle.verdicts.specs.Expected.{Expected}
 use Rattle.verdicts.specs.Lookup.{looked, presentBytes}
 use Rattle.verdicts.specs.Messages.{message, entryMessage, handshakeMessage}
@@ -24,6 +24,7 @@ use Rattle.verdicts.specs.Verdicts.{verdict}
 use Rattle.verdicts.specs.declared.Verdict.{Verdict}
 use Rattle.writing.proofs.PutLaws.{front-taken}
 use Rattle.rows.specs.Rows.{expectRow, responseRow, infoRow}
+use Rattle.row_messages.specs.Messages.{entryTold, handshakeTold}
 use Rattle.told.specs.Told.{counted, framedAs, toldOf, unlessRefused}
 use Rattle.told.specs.declared.Told.{Told}
 use Rattle.told.specs.declared.Told.the-variants.{Refused, Says}
@@ -56,13 +57,13 @@ told-fits true true s e scratch buffer u n q = framed-fits (verdict s e) u (leng
 told-fits true false s e scratch buffer u n q = let z : _≡_ {A = ℕ} 0 1 = cc in absurd (omega arith)
 told-fits false b s e scratch buffer u n q = let z : _≡_ {A = ℕ} 0 1 = cc in absurd (omega arith)
 
-left-is : (t : Told) (a b : Bool) (s : Subject) (e : Expected) (scratch : ℕ) (lent left : List ℕ) → t ≡ toldOf a b s e scratch (length lent) → left ≡ unlessRefused t (message s e) lent
-    → (v : ℕ) (stored : List ℕ) → writtenAs t v left stored ≡ saysSo t v (message s e) stored
+left-is : (t : Told) (a b : Bool) (s : Subject) (e : Expected) (scratch buffer : ℕ) (lent left : List ℕ) → length lent ≡ buffer → t ≡ toldOf a b s e scratch buffer
+    → left ≡ unlessRefused (toldOf a b s e scratch buffer) (message s e) lent → (v : ℕ) (stored : List ℕ) → writtenAs t v left stored ≡ saysSo t v (message s e) stored
 unfolding writtenAs saysSo unlessRefused
-left-is (Refused r) a b s e scratch lent left q o v stored = refl
-left-is (Says u n) a b s e scratch lent left q o v stored =
-    let k = told-fits a b s e scratch (length lent) u n q in
-    let f = front-taken (message s e) lent left n (k .1) (k .0) o in
+left-is (Refused r) a b s e scratch buffer lent left w q o v stored = refl
+left-is (Says u n) a b s e scratch buffer lent left w q o v stored =
+    let k = told-fits a b s e scratch buffer u n q in
+    let f = front-taken (message s e) lent left n (omega (arith, k .1, w)) (k .0) (o ∙ ap (λ (t : Told). unlessRefused t (message s e) lent) (sym q)) in
     rw (le-leb n (length left) (omega (arith, ap length f, k .0, length-take n left)), f)
 
 -- the machine hands the matcher's number on as bits, and reads it back
@@ -71,21 +72,21 @@ module _ (n : List ℕ) (m : ℤ) (f : SFits w64 m) (e : Expect) (ee : e ≡ exp
   expect-handed = ee ∙ ap (expectRow (part n 2 6)) (toZ-ofZ w64 m f)
 
   module _ (table : List (List ℕ)) (et : table ≡ tableOf n) (text bytes stored lent left : List ℕ) (k : length lent ≡ 256) (t : Told) (b : Bool) (w : b ≡ writtenAs t (getD n 1 0) left stored) where
-    pub entry-is : (r : DaemonResponse) → r ≡ responseRow (part n 8 19)
-        → t ≡ toldOf (expectIn (length text) e) (responseIn (length bytes) (counted table) r) (reply (responseOf bytes (counted table) r)) (expectedOf text e) 256 (length lent)
-        → left ≡ unlessRefused t (entryMessage (responseOf bytes (counted table) r) (expectedOf text e)) lent → b ≡ entrySays n m text bytes stored
+    pub entry-is : (r : DaemonResponse) → r ≡ responseRow (part n 8 19) → t ≡ entryTold text e bytes table r 256 256
+        → left ≡ unlessRefused (entryTold text e bytes table r 256 256) (entryMessage (responseOf bytes (counted table) r) (expectedOf text e)) lent
+        → b ≡ entrySays n m text bytes stored
     unfolding entrySays saysOf message
     entry-is r er q o =
-        w ∙ left-is t _ _ (reply (responseOf bytes (counted table) r)) (expectedOf text e) 256 lent left q o (getD n 1 0) stored
-        ∙ rw (q, k, expect-handed, er, et)
+        w ∙ left-is t _ _ (reply (responseOf bytes (counted table) r)) (expectedOf text e) 256 256 lent left k q o (getD n 1 0) stored
+        ∙ rw (q, expect-handed, er, et)
 
-    pub handshake-is : (i : HandshakeInfo) → i ≡ infoRow (part n 8 19)
-        → t ≡ toldOf (expectIn (length text) e) (infoIn (length bytes) (counted table) i) (greeting (infoOf bytes (counted table) i)) (expectedOf text e) 256 (length lent)
-        → left ≡ unlessRefused t (handshakeMessage (infoOf bytes (counted table) i) (expectedOf text e)) lent → b ≡ handshakeSays n m text bytes stored
+    pub handshake-is : (i : HandshakeInfo) → i ≡ infoRow (part n 8 19) → t ≡ handshakeTold text e bytes table i 256 256
+        → left ≡ unlessRefused (handshakeTold text e bytes table i 256 256) (handshakeMessage (infoOf bytes (counted table) i) (expectedOf text e)) lent
+        → b ≡ handshakeSays n m text bytes stored
     unfolding handshakeSays saysOf message
     handshake-is i ei q o =
-        w ∙ left-is t _ _ (greeting (infoOf bytes (counted table) i)) (expectedOf text e) 256 lent left q o (getD n 1 0) stored
-        ∙ rw (q, k, expect-handed, ei, et)
+        w ∙ left-is t _ _ (greeting (infoOf bytes (counted table) i)) (expectedOf text e) 256 256 lent left k q o (getD n 1 0) stored
+        ∙ rw (q, expect-handed, ei, et)
 
 -- ---- the fields of a line; the matcher's number is handed on as bits
 

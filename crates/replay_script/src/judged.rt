@@ -3,6 +3,7 @@
 ghost use mathlib.Core.Path.{_≡_};
 ghost use Prim.Native.Nat.{_≤_};
 ghost use lib.ListN.{length};
+ghost use Rattle.replayed.specs.Told.{tableOf};
 ghost use Rattle.replay_script.specs.Judged.{entrySays, handshakeSays, says, messageAgreed, bytesAgreed, textAgreed, matcherAgreed, agreed};
 use fields::bytes::BytesAt;
 use fields::numbers::IntegerAt;
@@ -11,37 +12,68 @@ use replayed::judged::is_told;
 use replayed::judged::of_handshake;
 use replayed::judged::table_of;
 
-fn entry_says(n: [u64; 39], m: i64, text: &[u8], bytes: &[u8], message: &[u8]) -> bool
-    ensures { λ r. ⌜ r ≡ entrySays n m (now (text .entry)) (now (bytes .entry)) (now (message .entry)) ⌝ }
+fn entry_says(
+    n: &[u64],
+    m: i64,
+    text: &[u8],
+    bytes: &[u8],
+    table: &[[usize; 2]],
+    message: &[u8],
+) -> bool
+    requires { ⌜ 27 ≤ length (now n) ⌝ }
+    requires { ⌜ now table ≡ tableOf (now n) ⌝ }
+    ensures { λ r. ⌜ r ≡ entrySays (now (n .entry)) m (now (text .entry)) (now (bytes .entry)) (now (message .entry)) ⌝ }
 {
     let mut scratch = [0u8; 256];
     let mut left = [0u8; 256];
-    let e = row_expects::expect_of(&n[2..8], m);
-    let r = row_responses::response_of(&n[8..27]);
-    let table = table_of(n);
-    let t = expect::message::entry_message(text, e, r, bytes, &table, &mut scratch, &mut left);
+    let t = row_messages::entry_message(
+        text,
+        &n[2..8],
+        m,
+        &n[8..27],
+        bytes,
+        table,
+        &mut scratch,
+        &mut left,
+    );
     is_told(t, n[1], &left, message)
 }
 
-fn handshake_says(n: [u64; 39], m: i64, text: &[u8], bytes: &[u8], message: &[u8]) -> bool
-    ensures { λ r. ⌜ r ≡ handshakeSays n m (now (text .entry)) (now (bytes .entry)) (now (message .entry)) ⌝ }
+fn handshake_says(
+    n: &[u64],
+    m: i64,
+    text: &[u8],
+    bytes: &[u8],
+    table: &[[usize; 2]],
+    message: &[u8],
+) -> bool
+    requires { ⌜ 27 ≤ length (now n) ⌝ }
+    requires { ⌜ now table ≡ tableOf (now n) ⌝ }
+    ensures { λ r. ⌜ r ≡ handshakeSays (now (n .entry)) m (now (text .entry)) (now (bytes .entry)) (now (message .entry)) ⌝ }
 {
     let mut scratch = [0u8; 256];
     let mut left = [0u8; 256];
-    let e = row_expects::expect_of(&n[2..8], m);
-    let i = row_infos::info_of(&n[8..27]);
-    let table = table_of(n);
-    let t = expect::message::handshake_message(text, e, i, bytes, &table, &mut scratch, &mut left);
+    let t = row_messages::handshake_message(
+        text,
+        &n[2..8],
+        m,
+        &n[8..27],
+        bytes,
+        table,
+        &mut scratch,
+        &mut left,
+    );
     is_told(t, n[1], &left, message)
 }
 
 fn is_said(n: [u64; 39], m: i64, text: &[u8], bytes: &[u8], message: &[u8]) -> bool
     ensures { λ r. ⌜ r ≡ says n m (now (text .entry)) (now (bytes .entry)) (now (message .entry)) ⌝ }
 {
+    let table = table_of(n);
     if of_handshake(n) {
-        return handshake_says(n, m, text, bytes, message);
+        return handshake_says(&n, m, text, bytes, &table, message);
     }
-    entry_says(n, m, text, bytes, message)
+    entry_says(&n, m, text, bytes, &table, message)
 }
 
 // The message of a line.

@@ -5,32 +5,23 @@ use borrow.Author.Needs.{needs}
 use Rattle.replay_script.proofs.judged.entry_says.Statement.{statement}
 use Rattle.replay_script.proofs.judged.entry_says.Tie as tie
 
-sub-expect-of : tie.Need-sub-expect-of
-sub-expect-of c = search needs
+sub-entry-message : tie.Need-sub-entry-message
+sub-entry-message c = search needs
 
-part-expect-of-start : tie.Need-part-expect-of-start
-part-expect-of-start c = search needs
+part-entry-message-start : tie.Need-part-entry-message-start
+part-entry-message-start c = search needs
 
-part-expect-of-end : tie.Need-part-expect-of-end
-part-expect-of-end c = search needs
+part-entry-message-end : tie.Need-part-entry-message-end
+part-entry-message-end c = search needs
 
-expect-of-requires : tie.Need-expect-of-requires
-expect-of-requires c κs = search needs
+sub-entry-message-2 : tie.Need-sub-entry-message-2
+sub-entry-message-2 c = search needs
 
-sub-response-of : tie.Need-sub-response-of
-sub-response-of c = search needs
+part-entry-message-start-2 : tie.Need-part-entry-message-start-2
+part-entry-message-start-2 c = search needs
 
-part-response-of-start : tie.Need-part-response-of-start
-part-response-of-start c = search needs
-
-part-response-of-end : tie.Need-part-response-of-end
-part-response-of-end c = search needs
-
-response-of-requires : tie.Need-response-of-requires
-response-of-requires c κs = search needs
-
-table-of-requires : tie.Need-table-of-requires
-table-of-requires c κs = search needs
+part-entry-message-end-2 : tie.Need-part-entry-message-end-2
+part-entry-message-end-2 c = search needs
 
 slice-aggregate-entry-message : tie.Need-slice-aggregate-entry-message
 slice-aggregate-entry-message c = search needs
@@ -38,14 +29,11 @@ slice-aggregate-entry-message c = search needs
 slice-aggregate-entry-message-2 : tie.Need-slice-aggregate-entry-message-2
 slice-aggregate-entry-message-2 c = search needs
 
-slice-aggregate-entry-message-3 : tie.Need-slice-aggregate-entry-message-3
-slice-aggregate-entry-message-3 c = search needs
-
 entry-message-requires : tie.Need-entry-message-requires
 entry-message-requires c κs = search needs
 
-array-read-is-told : tie.Need-array-read-is-told
-array-read-is-told c = search needs
+shared-slice-read-is-told : tie.Need-shared-slice-read-is-told
+shared-slice-read-is-told c = search needs
 
 slice-aggregate-is-told : tie.Need-slice-aggregate-is-told
 slice-aggregate-is-told c = search needs
@@ -55,26 +43,22 @@ is-told-requires c κs = search needs
 
 returns : tie.Need-returns
 returns c =
-    entry-is (c .before .before .before .before .before .before .before .before .before .before .before .before .before .before .before .before .before .before .args .t1) (c .before .before .before .before .before .before .before .before .before .before .before .before .before .before .before .before .before .before .args .m) (c .before .before .before .before .before .before .before .before .before .before .before .before .before .before .before .before .before .before .fits .m) _ (c .before .before .before .before .before .before .before .before .before .before .before .before .expect-of .ensures) _ (c .before .before .before .before .before .before .before .before .table-of .ensures) (c .before .before .before .before .before .before .before .before .before .before .before .before .before .before .before .before .before .before .args .text .now) (c .before .before .before .before .before .before .before .before .before .before .before .before .before .before .before .before .before .before .args .bytes .now) (c .before .before .before .before .before .before .before .before .before .before .before .before .before .before .before .before .before .before .args .message .now) _ _ refl _ _ (c .is-told .ensures) _ (c .before .before .before .before .before .before .before .before .before .response-of .ensures) (c .before .before .before .before .entry-message .ensures .0) (c .before .before .before .before .entry-message .ensures .1 .1)
+    entry-is (c .before .before .before .before .before .before .before .before .before .before .before .before .before .before .args .n .now) (c .before .before .before .before .before .before .before .before .before .before .before .before .before .before .args .m) (c .before .before .before .before .before .before .before .before .before .before .before .before .before .before .fits .m) _ refl _ (c .before .before .before .before .before .before .before .before .before .before .before .before .before .before .pre .1) (c .before .before .before .before .before .before .before .before .before .before .before .before .before .before .args .text .now) (c .before .before .before .before .before .before .before .before .before .before .before .before .before .before .args .bytes .now) (c .before .before .before .before .before .before .before .before .before .before .before .before .before .before .args .message .now) _ _ refl _ _ (c .is-told .ensures) _ refl (c .before .before .before .before .before .entry-message .ensures .0) (c .before .before .before .before .before .entry-message .ensures .1 .1)
 
 pub entry-says-spec : {M : Type 1} → statement M
 entry-says-spec =
     tie.close
     (tie.spec
-    sub-expect-of
-    part-expect-of-start
-    part-expect-of-end
-    expect-of-requires
-    sub-response-of
-    part-response-of-start
-    part-response-of-end
-    response-of-requires
-    table-of-requires
+    sub-entry-message
+    part-entry-message-start
+    part-entry-message-end
+    sub-entry-message-2
+    part-entry-message-start-2
+    part-entry-message-end-2
     slice-aggregate-entry-message
     slice-aggregate-entry-message-2
-    slice-aggregate-entry-message-3
     entry-message-requires
-    array-read-is-told
+    shared-slice-read-is-told
     slice-aggregate-is-told
     is-told-requires
     returns)
