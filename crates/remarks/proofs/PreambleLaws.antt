@@ -254,6 +254,4 @@ pub ruleset protocol-words = (no-protocol, a-protocol)
 
 pub ruleset preamble-words = (no-word, no-features, some-features)
 
-pub ruleset preamble-expects = (expect-blank, expect-colon, expect-other)
-
 pub ruleset preamble-lines = (line-empty, line-comment, line-expect, line-word)
