@@ -322,8 +322,6 @@ module _ (text starts ends : List ℕ) (items n m : ℕ) where
   unfolding sizesBy firstBy secondBy thirdBy
   store-sizes k e f g = rw (e, f, g)
 
-pub ruleset text-laws = (texts-written, texts-sizes)
-
 -- ---- the values of every operation, by the lines that it takes
 
 -- one value, and no second or third

@@ -1,5 +1,5 @@
 -- `stored::values::put_texts` meets its contract. Assumes nothing.
-use Rattle.stored.proofs.WriteLaws.{text-laws, kept, texts-room}
+use Rattle.stored.proofs.WriteLaws.{kept, texts-room, texts-written, texts-sizes}
 use native.Mathlib.Omega.{arith}
 use borrow.Author.Needs.{needs}
 use Rattle.stored.proofs.values.put_texts.Statement.{statement}
@@ -23,7 +23,14 @@ same-length : tie.Need-same-length
 same-length c = search needs
 
 returns : tie.Need-returns
-returns c = search (needs, text-laws)
+returns c =
+    let w = c .before .before in
+    let second = w .put-unquoted-of2 .ensures in
+    let u = w .before .before .before .before in
+    let first = u .put-unquoted-of .ensures in (
+      texts-sizes _ _ _ _ _ _ (first .0) (second .0),
+      texts-written _ _ _ _ _ _ _ _ (u .before .before .before .before .before .before .pre .1) (first .0) (first .1) (second .1),
+    )
 
 pub put-texts-spec : {M : Type 1} → statement M
 put-texts-spec =
