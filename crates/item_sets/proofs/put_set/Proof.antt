@@ -1,6 +1,6 @@
 -- `item_sets::put_set` meets its contract. Assumes nothing.
-use Rattle.written.proofs.WrittenLaws.{same-laws, none-laws}
-use Rattle.tables.proofs.ItemLaws.{set-laws}
+use Rattle.written.proofs.WrittenLaws.{same-laws, same-written, none-laws, one-count}
+use Rattle.tables.proofs.ItemLaws.{set-laws, set-one}
 use borrow.Author.Needs.{needs}
 use Rattle.item_sets.proofs.put_set.Statement.{statement}
 use Rattle.item_sets.proofs.put_set.Tie as tie
@@ -36,7 +36,11 @@ same-length-2 : tie.Need-same-length-2
 same-length-2 c = search needs
 
 returns-3 : tie.Need-returns-3
-returns-3 c = search (needs, same-laws, set-laws)
+returns-3 c =
+    let e = c .before .before .before in
+    let b = e .before .before .before in
+    let same = set-one _ _ _ (b .before .before .trimmed .ensures .0) _ (b .begins .ensures .0) (e .before .before .if1 .left) (e .if2 .left) in
+    (one-count _ _ same, same-written _ _ same _ _ _ (c .before .put-place .ensures))
 
 pub put-set-spec : {M : Type 1} → statement M
 put-set-spec =
