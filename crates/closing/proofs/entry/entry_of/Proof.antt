@@ -11,7 +11,7 @@ range-of-requires : tie.Need-range-of-requires
 range-of-requires c κs = search needs
 
 returns : tie.Need-returns
-returns c = search (needs, entry-laid)
+returns c = entry-laid _ _ _ _ _ _ _ _ _ _ _ (c .before .call-of .ensures) (c .range-of .ensures)
 
 pub entry-of-spec : {M : Type 1} → statement M
 entry-of-spec = tie.close (tie.spec call-of-requires range-of-requires returns)

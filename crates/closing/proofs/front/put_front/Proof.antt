@@ -20,7 +20,11 @@ same-length : tie.Need-same-length
 same-length c = search needs
 
 returns : tie.Need-returns
-returns c = (search needs, (search needs, search (needs, front-written)))
+returns c =
+    let second = c .before .put-features-of2 .ensures in
+    let u = c .before .before .before .before in
+    let first = u .put-features-of .ensures in
+    (first .0, (second .0, front-written _ _ _ _ _ _ _ (u .before .before .before .before .before .pre .1) (first .0) (first .1) (second .1)))
 
 pub put-front-spec : {M : Type 1} → statement M
 put-front-spec =
