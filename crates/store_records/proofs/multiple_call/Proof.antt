@@ -1,5 +1,5 @@
 -- `store_records::multiple_call` meets its contract. Assumes nothing.
-use Rattle.records.proofs.CallLaws.{block-laws}
+use Rattle.records.proofs.CallLaws.{multiple-is}
 use borrow.Author.Needs.{needs}
 use Rattle.store_records.proofs.multiple_call.Statement.{statement}
 use Rattle.store_records.proofs.multiple_call.Tie as tie
@@ -14,7 +14,7 @@ framed-of-requires : tie.Need-framed-of-requires
 framed-of-requires c κs = search needs
 
 returns : tie.Need-returns
-returns c = search (needs, block-laws)
+returns c = multiple-is _ _ _ _ _ _ _ _ (c .before .before .flag-of .ensures) (c .before .flag-of2 .ensures) (c .framed-of .ensures)
 
 pub multiple-call-spec : {M : Type 1} → statement M
 multiple-call-spec =

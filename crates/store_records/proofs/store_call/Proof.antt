@@ -1,5 +1,5 @@
 -- `store_records::store_call` meets its contract. Assumes nothing.
-use Rattle.records.proofs.CallLaws.{block-laws}
+use Rattle.records.proofs.CallLaws.{store-is}
 use borrow.Author.Needs.{needs}
 use Rattle.store_records.proofs.store_call.Statement.{statement}
 use Rattle.store_records.proofs.store_call.Tie as tie
@@ -26,7 +26,15 @@ framed-of-requires : tie.Need-framed-of-requires
 framed-of-requires c κs = search needs
 
 returns : tie.Need-returns
-returns c = search (needs, block-laws)
+returns c =
+    let p = c .before .before .before in
+    store-is
+    _ _ _ _ _ _ _ _ _ _ _
+    (p .before .placed .ensures)
+    (p .placed2 .ensures)
+    (c .before .before .range-of .ensures)
+    (c .before .flag-of .ensures)
+    (c .framed-of .ensures)
 
 pub store-call-spec : {M : Type 1} → statement M
 store-call-spec =

@@ -1,5 +1,5 @@
 -- `store_records::texts_call` meets its contract. Assumes nothing.
-use Rattle.records.proofs.CallLaws.{block-laws}
+use Rattle.records.proofs.CallLaws.{texts-is}
 use borrow.Author.Needs.{needs}
 use Rattle.store_records.proofs.texts_call.Statement.{statement}
 use Rattle.store_records.proofs.texts_call.Tie as tie
@@ -17,7 +17,7 @@ range-of-requires : tie.Need-range-of-requires
 range-of-requires c κs = search needs
 
 returns : tie.Need-returns
-returns c = search (needs, block-laws)
+returns c = texts-is _ _ _ _ _ _ (c .before .before .before .placed .ensures) (c .before .placed2 .ensures) (c .range-of .ensures)
 
 pub texts-call-spec : {M : Type 1} → statement M
 texts-call-spec =
