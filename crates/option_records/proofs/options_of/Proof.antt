@@ -1,5 +1,5 @@
 -- `option_records::options_of` meets its contract. Assumes nothing.
-use Rattle.records.proofs.CallLaws.{block-laws}
+use Rattle.records.proofs.CallLaws.{options-is}
 use borrow.Author.Needs.{needs}
 use Rattle.option_records.proofs.options_of.Statement.{statement}
 use Rattle.option_records.proofs.options_of.Tie as tie
@@ -41,7 +41,22 @@ number-of-requires-12 : tie.Need-number-of-requires-12
 number-of-requires-12 c κs = search (needs, c .before .before .before .before .before .before .before .before .before .before .before)
 
 returns : tie.Need-returns
-returns c = search (needs, block-laws)
+returns c =
+    let n7 = c .before .before .before .before .before in
+    options-is
+    _ _ _ _ _ _ _ _ _ _ _ _ _ _ _ _
+    (n7 .before .before .before .before .before .before .number-of .ensures)
+    (n7 .before .before .before .before .before .number-of2 .ensures)
+    (n7 .before .before .before .before .number-of3 .ensures)
+    (n7 .before .before .before .number-of4 .ensures)
+    (n7 .before .before .number-of5 .ensures)
+    (n7 .before .number-of6 .ensures)
+    (n7 .number-of7 .ensures)
+    (c .before .before .before .before .number-of8 .ensures)
+    (c .before .before .before .number-of9 .ensures)
+    (c .before .before .number-of10 .ensures)
+    (c .before .number-of11 .ensures)
+    (c .number-of12 .ensures)
 
 pub options-of-spec : {M : Type 1} → statement M
 options-of-spec =
