@@ -14,7 +14,7 @@ place-of-requires-2 : tie.Need-place-of-requires-2
 place-of-requires-2 c κs = search needs
 
 returns : tie.Need-returns
-returns c = search (needs, root-is)
+returns c = root-is _ _ (c .before .before .cut-or .result) _ _ (c .before .before .cut-or .ensures .0) (c .before .place-of .ensures) (c .place-of2 .ensures)
 
 pub root-call-spec : {M : Type 1} → statement M
 root-call-spec = tie.close (tie.spec cut-or-requires place-of-requires place-of-requires-2 returns)
