@@ -8,7 +8,7 @@ below-empty-requires : tie.Need-below-empty-requires
 below-empty-requires c κs = search needs
 
 returns : tie.Need-returns
-returns c = search (needs, step-is, empty-is)
+returns c = search (needs, empty-is)
 
 sub-indented : tie.Need-sub-indented
 sub-indented c = search needs
@@ -29,7 +29,7 @@ step-at-requires : tie.Need-step-at-requires
 step-at-requires c κs = search needs
 
 returns-2 : tie.Need-returns-2
-returns-2 c = search (needs, step-is, empty-is)
+returns-2 c = step-is _ _ _ _ _ _ (c .before .before .indented .ensures) (c .before .trimmed .ensures .0) (c .step-at .ensures)
 
 pub step-spec : {M : Type 1} → statement M
 step-spec =
