@@ -75,5 +75,3 @@ pair-kept s a b e starts ends j = rw e
 pub known-kept : (s : Saying) (k : Key) (v : Span) → s ≡ Known k v → (starts ends starts′ ends′ : List ℕ)
     → ((j : Key) → pieceAt starts′ ends′ j ≡ valueOr j (Known k v) (pieceAt starts ends j)) → (j : Key) → pieceAt starts′ ends′ j ≡ valueOr j s (pieceAt starts ends j)
 known-kept s k v e starts ends starts′ ends′ h j = rw e (h j)
-
-pub ruleset say-laws = (known-forward, name-forward, value-forward, pair-count, pair-room, pair-written, no-list, known-silent, pair-kept, known-kept)

@@ -14,9 +14,9 @@ use Rattle.script.specs.declared.roles.Key.{Key}
 use Rattle.script.specs.declared.roles.Saying.{Saying}
 use Rattle.script.specs.declared.roles.Saying.the-variants.{Known, Pair, NoColon, Unknown, NoPair, NoRaw}
 use Rattle.tables.specs.Items.{itemsFor}
-use Rattle.written.proofs.WrittenLaws.{none-laws, none-count, none-written}
+use Rattle.written.proofs.WrittenLaws.{none-count, none-written}
 use Rattle.says.specs.Says.{pairItems}
-use Rattle.says.proofs.SayLaws.{say-laws}
+use Rattle.says.proofs.SayLaws.{known-forward, name-forward, value-forward, pair-count, pair-room, pair-written, no-list, known-silent, pair-kept, known-kept}
 use borrow.Author.Needs.{needs}
 use Rattle.says.proofs.say.Statement.{statement}
 use Rattle.says.proofs.say.Tie as tie
@@ -58,16 +58,27 @@ enum-known-s : tie.Need-enum-known-s
 enum-known-s c = search needs
 
 keep-requires : tie.Need-keep-requires
-keep-requires c κs = search (needs, say-laws, none-laws, not-true, not-false)
+keep-requires c κs = search (needs, known-forward)
 
 enum-known-s-2 : tie.Need-enum-known-s-2
 enum-known-s-2 c = search needs
 
 returns : tie.Need-returns
-returns c = (search (needs, say-laws, none-laws, not-true, not-false), (search (needs, say-laws, none-laws, not-true, not-false), (search needs, (search needs, search (needs, say-laws, none-laws, not-true, not-false)))))
+returns c =
+    let e = no-list _ _ (not-true _ (c .if1 .taken)) in
+    (none-count _ e, (none-written _ _ _ e (search needs), (search needs, (search needs, search pair-kept))))
 
 put-pair-requires : tie.Need-put-pair-requires
-put-pair-requires c κs = (search (needs, say-laws), (search (needs, say-laws), search (needs, say-laws, not-true, not-false)))
+put-pair-requires c κs =
+    let u = c .before in
+    let told = u .before .before .s2 .given .1 in
+    let given = u .before .before .before .before .before .before .pre in (
+      name-forward _ (given .0) _ _ told,
+      (
+        value-forward _ (given .0) _ _ told,
+        pair-room _ _ _ _ (not-false _ (u .if1 .left)) told _ _ (given .1 .1 .1),
+      ),
+    )
 
 same-length : tie.Need-same-length
 same-length c = search needs
@@ -76,13 +87,20 @@ same-length-2 : tie.Need-same-length-2
 same-length-2 c = search needs
 
 returns-2 : tie.Need-returns-2
-returns-2 c = (search (needs, say-laws, none-laws, not-true, not-false), (search (needs, say-laws, none-laws, not-true, not-false), (search needs, (search needs, search (needs, say-laws, none-laws, not-true, not-false)))))
+returns-2 c =
+    let u = c .before .before .before .before .before .before .before .before in
+    let e = known-silent _ _ _ _ (u .s .given .1) in
+    (none-count _ e, (none-written _ _ _ e (search needs), (search needs, (search needs, search known-kept))))
 
 same-length-3 : tie.Need-same-length-3
 same-length-3 c = search needs
 
 returns-3 : tie.Need-returns-3
-returns-3 c = (search (needs, say-laws, none-laws, not-true, not-false), (search (needs, say-laws, none-laws, not-true, not-false), (search needs, (search needs, search (needs, say-laws, none-laws, not-true, not-false)))))
+returns-3 c =
+    let u = c .before .before .before in
+    let told = u .before .before .s2 .given .1 in
+    let o = not-false _ (u .if1 .left) in
+    (pair-count _ _ _ _ o told, (pair-written _ _ _ _ o told _ _ _ (c .before .put-pair .ensures), (search needs, (search needs, search pair-kept))))
 
 returns-4 : tie.Need-returns-4
 returns-4 c =
