@@ -77,8 +77,6 @@ module _ (text : List ℕ) (v : Span) (b n : ℕ) (r : Bool) (e : r ≡ startsWi
 pub file-fits : (text : List ℕ) (v : Span) (s : Bool) → In text v → s ≡ startsWith (codes "@file:") (bytes text v) → s ≡ true → v .start + 6 ≤ v .end
 file-fits text v s i d t = behind-in text (v .start) (v .end) 6 s (codes "@file:") d t i refl .forward
 
-pub ruleset data-laws = (data-hex, data-file, data-neither, file-fits)
-
 -- ---- the operations that take lines
 
 abbrev options : (n1 n2 n3 n4 n5 n6 n7 n8 n9 n10 n11 n12 : ℕ) → (overrides : Items) → Options
@@ -151,5 +149,3 @@ pub texts-is : (i b : ℕ) (z : Sizes) (p q : Place) (x : Items) → p ≡ place
     → OpCall.AddTextToStore p q x ≡ textsRecord i b z
 unfolding textsRecord
 texts-is i b z p q x e f g = rw (e, f, g)
-
-pub ruleset block-laws = (framed-absent, framed-is, options-is, garbage-is, verify-is, store-is, multiple-is, texts-is)
