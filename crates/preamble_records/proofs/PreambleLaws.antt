@@ -102,4 +102,4 @@ pub preamble-laid : (text starts ends : List ℕ) (features server expects : ℕ
 unfolding preambleRecord
 preamble-laid text starts ends features server expects w x y d t s e f g h k l = rw (e, f, g, h, k, l)
 
-pub ruleset preamble-laws = (version-read, version-bad, said-forward, maybe-absent, maybe-is, server-absent, server-is, version-absent, version-is, preamble-laid)
+pub ruleset preamble-laws = (version-read, version-bad, said-forward, maybe-absent, maybe-is, server-absent, server-is, version-absent, version-is)

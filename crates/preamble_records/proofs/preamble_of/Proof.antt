@@ -1,5 +1,5 @@
 -- `preamble_records::preamble_of` meets its contract. Assumes nothing.
-use Rattle.preamble_records.proofs.PreambleLaws.{preamble-laws}
+use Rattle.preamble_records.proofs.PreambleLaws.{preamble-laid}
 use borrow.Author.Needs.{needs}
 use Rattle.preamble_records.proofs.preamble_of.Statement.{statement}
 use Rattle.preamble_records.proofs.preamble_of.Tie as tie
@@ -23,7 +23,16 @@ server-of-requires : tie.Need-server-of-requires
 server-of-requires c κs = search needs
 
 returns : tie.Need-returns
-returns c = search (needs, preamble-laws)
+returns c =
+    let u = c .before .before .before in
+    preamble-laid
+    _ _ _ _ _ _ _ _ _ _ _ _
+    (u .before .before .version-of .ensures)
+    (u .before .range-of .ensures)
+    (u .range-of2 .ensures)
+    (c .before .before .maybe-of .ensures)
+    (c .before .maybe-of2 .ensures)
+    (c .server-of .ensures)
 
 pub preamble-of-spec : {M : Type 1} → statement M
 preamble-of-spec =
