@@ -1,5 +1,7 @@
 -- `kept::takes_number` meets its contract. Assumes nothing.
+use mathlib.Core.Path.{sym, ap}
 use Rattle.kept.specs.Kept.{takesNumber}
+use native.Mathlib.Omega.{arith}
 use borrow.Author.Needs.{needs}
 use Rattle.kept.proofs.takes_number.Statement.{statement}
 use Rattle.kept.proofs.takes_number.Tie as tie
@@ -33,39 +35,39 @@ enum-told-9 c = search needs
 
 returns : tie.Need-returns
 unfolding takesNumber
-returns c = search needs
+returns c = (ap takesNumber (sym (c .enum-told .given .1)), omega arith)
 
 returns-2 : tie.Need-returns-2
 unfolding takesNumber
-returns-2 c = search needs
+returns-2 c = (ap takesNumber (sym (c .enum-told2 .given .1)), omega arith)
 
 returns-3 : tie.Need-returns-3
 unfolding takesNumber
-returns-3 c = search needs
+returns-3 c = (ap takesNumber (sym (c .enum-told3 .given .1)), omega arith)
 
 returns-4 : tie.Need-returns-4
 unfolding takesNumber
-returns-4 c = search needs
+returns-4 c = (ap takesNumber (sym (c .enum-told4 .given .1)), omega arith)
 
 returns-5 : tie.Need-returns-5
 unfolding takesNumber
-returns-5 c = search needs
+returns-5 c = (ap takesNumber (sym (c .enum-told5 .given .1)), omega arith)
 
 returns-6 : tie.Need-returns-6
 unfolding takesNumber
-returns-6 c = search needs
+returns-6 c = (ap takesNumber (sym (c .enum-told6 .given .1)), omega arith)
 
 returns-7 : tie.Need-returns-7
 unfolding takesNumber
-returns-7 c = search needs
+returns-7 c = (ap takesNumber (sym (c .enum-told7 .given .1)), omega arith)
 
 returns-8 : tie.Need-returns-8
 unfolding takesNumber
-returns-8 c = search needs
+returns-8 c = (ap takesNumber (sym (c .enum-told8 .given .1)), omega arith)
 
 returns-9 : tie.Need-returns-9
 unfolding takesNumber
-returns-9 c = search needs
+returns-9 c = (ap takesNumber (sym (c .enum-told9 .given .1)), omega arith)
 
 pub takes-number-spec : {M : Type 1} → statement M
 takes-number-spec =
