@@ -1,4 +1,6 @@
 // How much of the scratch the calls ask for.
+#![tactic(auto)]
+
 ghost use Rattle.std.specs.Prelude.{◌≡◌};
 ghost use Rattle.asking.specs.Asking.{asks_more};
 

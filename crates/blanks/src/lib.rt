@@ -1,4 +1,6 @@
 // Blank records, and tables of them, to be lent: what stands there is not looked at.
+#![tactic(auto)]
+
 ghost use Rattle.std.specs.Prelude.{◌≡◌, [], ◌∷◌, length, replicate};
 ghost use Rattle.slots.specs.Blank.{blank_entry, blank_expectation};
 

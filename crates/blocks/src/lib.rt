@@ -1,5 +1,7 @@
 // Words written into a lent slice, many bytes at a time. Each function writes from `at` on and says where the next byte goes. Bytes go through an array
 // of their own: for all the compiler knows, what is written may be read next, and it would test that at each word.
+#![tactic(auto)]
+
 ghost use Rattle.std.specs.Prelude.{◌≡◌, ◌+◌, ◌≤◌, length};
 ghost use Rattle.text.specs.Base.{part};
 ghost use Rattle.written.specs.Written.{written_at};

@@ -1,4 +1,6 @@
 // The numbers of an operation by its fields, 16 of them: its kind, its code, the fields, and zeros behind them.
+#![tactic(auto)]
+
 ghost use Rattle.std.specs.Prelude.{◌≡◌, [], ◌∷◌, ◌++◌};
 ghost use Rattle.call_fields.specs.CallFields as CallFields;
 ghost use Rattle.call_fields.specs.CallFields.{padded, place_numbers, items_numbers, data_numbers, options_numbers};

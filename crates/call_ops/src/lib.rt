@@ -1,4 +1,6 @@
 // The operation of a call.
+#![tactic(auto)]
+
 ghost use Rattle.std.specs.Prelude.{◌≡◌};
 ghost use Rattle.call_ops.specs.CallOps.{op_of};
 

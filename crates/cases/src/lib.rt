@@ -1,4 +1,6 @@
 // Whether Measure answered what is stored, and how cases are counted.
+#![tactic(auto)]
+
 ghost use Rattle.std.specs.Prelude.{◌≡◌, ◌≤◌};
 ghost use Rattle.parse.specs.MeasureRead.{measured_of};
 ghost use Rattle.cases.specs.Answers.{answer_of, same_answer, matched};

@@ -1,4 +1,6 @@
 // What Close answers of a tally's next number and counts.
+#![tactic(auto)]
+
 ghost use Rattle.std.specs.Prelude.{◌≡◌};
 ghost use Rattle.tallies.specs.Answers.{close_answer};
 ghost use Rattle.tallies.specs.declared.calls.Answer.TheVariants.{Refused};

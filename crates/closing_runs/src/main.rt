@@ -1,5 +1,7 @@
 // Stored runs of a judge that is told nothing. Of each file that an argument names the text is read as a script, its handshake is judged against an
 // information that holds nothing, and the script is closed: the count of its `expect` lines and what closing says are printed. The texts stand in data/, and what is to be printed in stdout.
+#![tactic(auto)]
+
 use libc::STDOUT_FILENO;
 use ran::Ran;
 

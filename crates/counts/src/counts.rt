@@ -162,7 +162,7 @@ pub fn raw_count(text: &[u8], v: Span) -> usize
 {
     let start = v.start;
     let end = v.end;
-    hex::hex_len(&text[start..end])
+    hexadecimal::hex_len(&text[start..end])
 }
 
 // The bytes of data that stands in the store; a file's name does not.
@@ -174,7 +174,7 @@ pub fn data_count(text: &[u8], v: Span) -> usize
     if pieces::pieces::begins(text, v, b"x\"") {
         let start = v.start + 2;
         let end = v.end;
-        return hex::hex_len(&text[start..end]);
+        return hexadecimal::hex_len(&text[start..end]);
     }
     0
 }

@@ -1,2 +1,4 @@
 // How many items, or bytes of the store, a value takes.
+#![tactic(auto)]
+
 pub mod counts;

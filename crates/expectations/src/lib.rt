@@ -1,4 +1,6 @@
 // What a line expects (`parse_expect` of script/parse.rs of the Rust): the first byte tells which words may stand there.
+#![tactic(auto)]
+
 ghost use Rattle.std.specs.Prelude.{◌≡◌, [], ◌∷◌, ◌+◌, ◌≤◌, ◌<◌, get_or};
 ghost use Rattle.text.specs.Parts.{span};
 ghost use Rattle.script.specs.Answers.{refused, first_of};

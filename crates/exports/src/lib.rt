@@ -1,4 +1,6 @@
 // What a host in Rust or C calls, with numbers and byte slices. No logic of its own, and no `requires`: any bytes may come.
+#![tactic(auto)]
+
 ghost use Rattle.std.specs.Prelude.{◌^◌, ◌≡◌, length};
 ghost use Rattle.text.specs.Base.{overlaid};
 ghost use Rattle.text.specs.Utf8.{well_formed};
@@ -59,7 +61,7 @@ pub extern "C" fn nwscript_trimmed_bytes(text: &[u8]) -> usize
 pub extern "C" fn nwscript_hex_len(s: &[u8]) -> usize
     ensures { result ≡ length (hex_decoded s.now) }
 {
-    hex::hex_len(s)
+    hexadecimal::hex_len(s)
 }
 
 // The bytes that s spells in hex, at the front of out if there is room; how many they are.
@@ -68,7 +70,7 @@ pub extern "C" fn nwscript_hex(s: &[u8], out: &mut [u8]) -> usize
     ensures value { result ≡ length (hex_decoded s.now) }
     ensures out_after { out.new ≡ overlaid (hex_decoded s.now) out.old }
 {
-    hex::hex_decode(s, out)
+    hexadecimal::hex_decode(s, out)
 }
 
 // How many bytes s has unquoted.

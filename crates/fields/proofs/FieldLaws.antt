@@ -21,7 +21,7 @@ use Rattle.values.specs.declared.number.Number.{Number}
 use Rattle.values.specs.declared.number.Number.TheVariants as Number
 use Rattle.values.specs.declared.number.Integer.{Integer}
 use Rattle.values.specs.declared.number.Integer.TheVariants as Integer
-use Rattle.hex.proofs.HexLaws.{hex_half}
+use Rattle.hexadecimal.proofs.HexLaws.{hex_half}
 use Rattle.fields.specs.declared.numbers.NumberAt.{NumberAt}
 use Rattle.fields.specs.declared.numbers.NumberAt.TheVariants as NumberAt
 use Rattle.fields.specs.declared.numbers.IntegerAt.{IntegerAt}

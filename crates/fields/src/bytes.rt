@@ -21,7 +21,7 @@ pub fn decode(hex: &[u8], room: &mut [u8]) -> Bytes
     ensures result_after { bytes_in room.new result ≡ hex_for (length room.old) hex.now }
     ensures result_in_bounds { byte_count result ≤ length room.new }
 {
-    let n = hex::hex_decode(hex, room);
+    let n = hexadecimal::hex_decode(hex, room);
     if room.len() < n {
         return Bytes::Bad;
     }

@@ -1,2 +1,4 @@
 // The search for a plain pattern.
+#![tactic(auto)]
+
 pub mod search;

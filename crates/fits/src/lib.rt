@@ -1,4 +1,6 @@
 // Whether the tables that are lent are long enough.
+#![tactic(auto)]
+
 ghost use Rattle.std.specs.Prelude.{◌≡◌};
 ghost use Rattle.script.specs.Reading as Reading;
 ghost use Rattle.fits.specs.Fits.{shortage, fit_of};

@@ -1,4 +1,6 @@
 // The frames that messages are made of: of a matcher, of a value, of a terminal name, of one word.
+#![tactic(auto)]
+
 ghost use Rattle.std.specs.Prelude.{◌≡◌};
 ghost use Rattle.frames.specs.Frames.{shown_as, word_frame, undecided_frame, valued_frame, terminal_frame, missing_or, error_headed};
 

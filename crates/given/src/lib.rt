@@ -1,4 +1,6 @@
 // What a host is given of an answer, through lent numbers. No `requires`.
+#![tactic(auto)]
+
 ghost use Rattle.std.specs.Prelude.{◌≡◌};
 ghost use Rattle.values.specs.Numbers.{number_of, integer_of};
 ghost use Rattle.given.specs.Given.{is_given, given_or};

@@ -1,4 +1,6 @@
 // The items of a path set and of a feature set, written into a table.
+#![tactic(auto)]
+
 ghost use Rattle.std.specs.Prelude.{◌≡◌, true, ◌+◌, ◌≤◌, length};
 ghost use Rattle.text.specs.Base.{◌&◌};
 ghost use Rattle.script.specs.Inside.{In};

@@ -1,4 +1,6 @@
 // Judge and Close, as methods of the tally.
+#![tactic(auto)]
+
 pub mod calls;
 pub mod close;
 pub mod tally;

@@ -1,4 +1,6 @@
 // What each line of a text was found to be, kept by the line's number, so that a second walk over the lines need not find it out again.
+#![tactic(auto)]
+
 ghost use Rattle.std.specs.Prelude.{◌≡◌, true, List, ℕ, ◌+◌, ◌<◌, set};
 ghost use Rattle.kept.specs.Kept.{takes_number, place_number, kept_of, blank_kept, Memo};
 

@@ -1,2 +1,4 @@
 // The lines of a text.
+#![tactic(auto)]
+
 pub mod lines;

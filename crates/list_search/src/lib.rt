@@ -1,4 +1,6 @@
 // Looking for a pattern in a list as it is shown, without writing it: piece by piece.
+#![tactic(auto)]
+
 ghost use Rattle.std.specs.Prelude.{◌≡◌, ◌+◌, ◌≤◌, ◌<◌, length, drop};
 ghost use Rattle.text.specs.Base.{◌or◌};
 ghost use Rattle.verdicts.specs.Decisions as decisions;

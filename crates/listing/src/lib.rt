@@ -1,2 +1,4 @@
 // What the program `script-list` prints.
+#![tactic(auto)]
+
 pub mod whole;

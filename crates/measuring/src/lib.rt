@@ -1,4 +1,6 @@
 // No code: what Measure carries from line to line, as a definition, shown to give the counts of the reading.
+#![tactic(auto)]
+
 use wire::ops::Op;
 
 // The preamble, or an entry of that operation.

@@ -1,4 +1,6 @@
 // Which words and pieces a message is made of.
+#![tactic(auto)]
+
 ghost use Rattle.std.specs.Prelude.{◌≡◌};
 ghost use Rattle.frames.specs.Frames.{entry_frame, handshake_frame};
 

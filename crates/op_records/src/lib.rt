@@ -1,5 +1,7 @@
 // The record of an entry's operation, from its line, from what was said below it, and from how many items and bytes that takes. Each arm returns its
 // record, which is so made where it goes.
+#![tactic(auto)]
+
 ghost use Rattle.std.specs.Prelude.{◌≡◌, ◌+◌, ◌<◌};
 ghost use Rattle.script.specs.Operations.{form_of};
 ghost use Rattle.script.specs.Contents.{rest_of};

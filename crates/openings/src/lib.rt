@@ -1,4 +1,6 @@
 // Opening lines: a timestamp, an operation's name, and what stands behind it.
+#![tactic(auto)]
+
 ghost use Rattle.std.specs.Prelude.{◌≡◌, ◌+◌, ◌≤◌};
 ghost use Rattle.std.proofs.Math.Option.{some};
 ghost use Rattle.script.specs.Operations.{form_of};

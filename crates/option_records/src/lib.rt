@@ -1,4 +1,6 @@
 // The records of the options, of collecting garbage and of verifying, from what was said below them.
+#![tactic(auto)]
+
 ghost use Rattle.std.specs.Prelude.{◌≡◌};
 ghost use Rattle.said.specs.Said.{piece_at, SaidIn};
 ghost use Rattle.records.specs.Records.{options_record, garbage_record, verify_record};

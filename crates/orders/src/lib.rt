@@ -1,4 +1,6 @@
 // Matchers that compare numbers.
+#![tactic(auto)]
+
 ghost use Rattle.std.specs.Prelude.{◌≡◌};
 ghost use Rattle.verdicts.specs.Decisions.{decides, passed_if};
 ghost use Rattle.orders.specs.Orders.{holding, matching, order_of};

@@ -1,2 +1,4 @@
 // Measure (script/parse.rs of the Rust).
+#![tactic(auto)]
+
 pub mod measure;

@@ -1,5 +1,7 @@
 // The fixed words of messages. A word is written from `at` on, and what is returned is where the next byte goes. Each arm has
 // its letters, so that no table is laid out.
+#![tactic(auto)]
+
 ghost use Rattle.std.specs.Prelude.{◌≡◌, ◌+◌, ◌≤◌, length};
 ghost use Rattle.written.specs.Written.{written_at};
 ghost use Rattle.frames.specs.Words.{head_bytes, middle_bytes};

@@ -1,4 +1,6 @@
 // Whether places lie inside; 31 speaks of an expectation's. No sum is made.
+#![tactic(auto)]
+
 ghost use Rattle.std.specs.Prelude.{◌≡◌};
 ghost use Rattle.text.specs.Base.{◌&◌};
 ghost use Rattle.verdicts.specs.Held as Held;

@@ -1,4 +1,6 @@
 // The record of the preamble, from what its lines say and from how many features and expectations it has.
+#![tactic(auto)]
+
 ghost use Rattle.std.specs.Prelude.{◌≡◌};
 ghost use Rattle.std.proofs.Math.Option.{some};
 ghost use Rattle.script.specs.Contents.{version_in};

@@ -1,2 +1,4 @@
 // What each line of the preamble is.
+#![tactic(auto)]
+
 pub mod preamble;

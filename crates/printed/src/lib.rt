@@ -1,2 +1,4 @@
 // The lines of a listing: what is printed, and each line written.
+#![tactic(auto)]
+
 pub mod lines;

@@ -1,4 +1,6 @@
 // What a run of a script answers, and what a host is given of it.
+#![tactic(auto)]
+
 ghost use Rattle.std.specs.Prelude.{◌≡◌};
 ghost use Rattle.ran.specs.Told.{status_of, ran_line, ran_tally};
 

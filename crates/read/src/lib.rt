@@ -1,2 +1,4 @@
 // Read: a script into lent tables.
+#![tactic(auto)]
+
 pub mod reading;

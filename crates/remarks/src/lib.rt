@@ -1,4 +1,6 @@
 // The comments of the preamble (`parse_preamble` of the Rust): what one says, and which say nothing.
+#![tactic(auto)]
+
 ghost use Rattle.std.specs.Prelude.{◌≡◌, true};
 ghost use Rattle.text.specs.Parts.{span};
 ghost use Rattle.script.specs.Pieces.{bytes};

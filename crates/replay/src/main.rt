@@ -1,6 +1,8 @@
 // Runs published Unicode data through crate `text` and says what was found. Standard input has a case a line: `white` and the code point of a White_Space
 // character, `good` and `bad` with bytes that are and are not well-formed UTF-8, all in hex. Then every code point is tried: its encoding is accepted
 // exactly if it is a scalar value, and trimmed away exactly if it was among the `white` ones.
+#![tactic(auto)]
+
 ghost use Rattle.std.specs.Prelude.{◌+◌, ◌≤◌, length};
 
 use libc::STDOUT_FILENO;
@@ -52,7 +54,7 @@ fn case_of(word: &[u8], bytes: &[u8]) -> Case {
 
 // A case by its word and its bytes in hex, which are decoded into the room lent.
 fn case_in(word: &[u8], hex: &[u8], room: &mut [u8]) -> Case {
-    let n = hex::hex_decode(hex, room);
+    let n = hexadecimal::hex_decode(hex, room);
     if room.len() < n {
         return Case::Other;
     }

@@ -3,6 +3,8 @@
 // says: Read is asked, and what it leaves is compared. `judged` and what judged.rt says: Message is asked, and its verdict and message are
 // compared. Said is how many texts were read and refused by Measure as the Rust did, how many were left by Read as the Rust has them, how many expectations
 // were judged as the Rust does, and how many cases were wrong.
+#![tactic(auto)]
+
 ghost use Rattle.std.specs.Prelude.{◌≡◌, ◌≤◌, length};
 ghost use Rattle.cases.specs.Cases.{total};
 ghost use Rattle.replay_script.specs.Answers.{read_replayed, judged_replayed, line_replayed};

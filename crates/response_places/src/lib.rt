@@ -1,4 +1,6 @@
 // Whether the places of a response, and those of the handshake's information, lie inside: 32.
+#![tactic(auto)]
+
 ghost use Rattle.std.specs.Prelude.{◌≡◌, ◌+◌, ◌≤◌, length, take, drop};
 ghost use Rattle.verdicts.specs.Held as Held;
 ghost use Rattle.script.specs.declared.response.ResultData.TheVariants.{PathInfo};

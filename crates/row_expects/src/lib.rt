@@ -1,4 +1,6 @@
 // An expectation of a row.
+#![tactic(auto)]
+
 ghost use Rattle.std.specs.Prelude.{◌≡◌};
 ghost use Rattle.rows.specs.Rows.{matcher_of, expect_of, expect_row};
 

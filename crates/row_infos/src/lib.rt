@@ -1,4 +1,6 @@
 // What the handshake told, of a row.
+#![tactic(auto)]
+
 ghost use Rattle.std.specs.Prelude.{◌≡◌};
 ghost use Rattle.rows.specs.Rows.{version_of, info_row};
 

@@ -1,4 +1,6 @@
 // Message, of an expectation, a response and the handshake's information that come in rows of numbers.
+#![tactic(auto)]
+
 ghost use Rattle.std.specs.Prelude.{◌≡◌, length};
 ghost use Rattle.verdicts.specs.Lookup.{looked_in, told_in, present_bytes};
 ghost use Rattle.verdicts.specs.Messages.{entry_message, handshake_message};

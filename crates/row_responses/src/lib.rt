@@ -1,4 +1,6 @@
 // A response of a row.
+#![tactic(auto)]
+
 ghost use Rattle.std.specs.Prelude.{◌≡◌};
 ghost use Rattle.rows.specs.Rows as Rows;
 

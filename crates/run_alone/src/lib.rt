@@ -1,5 +1,7 @@
 // A script read into tables of its own and judged by a list of calls, for a host that has no records. The function here holds slices of records: its
 // derivation is made by tools/walk.py.
+#![tactic(auto)]
+
 ghost use Rattle.std.specs.Prelude.{map, ◌≡◌, length};
 ghost use Rattle.written.specs.Written.{written_at};
 ghost use Rattle.judging.specs.PlainJudge.{plain_run};

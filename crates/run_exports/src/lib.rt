@@ -1,4 +1,6 @@
 // A list of calls on a script, as a host makes them.
+#![tactic(auto)]
+
 ghost use Rattle.std.specs.Prelude.{map, ◌≡◌, length};
 ghost use Rattle.written.specs.Written.{written_at};
 ghost use Rattle.judging.specs.PlainJudge.{plain_run};

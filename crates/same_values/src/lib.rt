@@ -1,4 +1,6 @@
 // Whether two values, which may be long, are the same: sixteen bytes at a time.
+#![tactic(auto)]
+
 ghost use Rattle.std.specs.Prelude.{◌≡◌, ◌+◌, ◌≤◌, length, drop};
 ghost use Rattle.text.specs.Base.{◌&◌};
 ghost use Rattle.text.specs.Parts.{same_bytes};

@@ -1,4 +1,6 @@
 // What one line says.
+#![tactic(auto)]
+
 ghost use Rattle.std.specs.Prelude.{◌≡◌, ◌+◌, ◌≤◌, length};
 ghost use Rattle.script.specs.Contents.{value_or};
 ghost use Rattle.script.specs.declared.roles.Key.{Key};

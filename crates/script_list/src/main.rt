@@ -1,4 +1,6 @@
 // The program `script-list` of document 01: what standard input has is read as a script, and its listing is printed.
+#![tactic(auto)]
+
 use libc::STDOUT_FILENO;
 
 fn main() {

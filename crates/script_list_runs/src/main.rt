@@ -1,5 +1,7 @@
 // Stored runs of `script-list`: for each file that an argument names, the name and what is printed for the file's text. The texts stand in data/, and what
 // is to be printed in stdout; tools/listing-cases has both, side by side.
+#![tactic(auto)]
+
 use libc::STDOUT_FILENO;
 
 fn print_listing(fd: i32) {

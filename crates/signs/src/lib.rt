@@ -1,4 +1,6 @@
 // Which patterns are decided: those without any of the fourteen signs.
+#![tactic(auto)]
+
 ghost use Rattle.std.specs.Prelude.{◌≡◌};
 ghost use Rattle.verdicts.specs.Decisions.{signs, one_of, plain};
 

@@ -1,4 +1,6 @@
 // The records of the operations that add to the store, from what was said below them and from how many items and bytes that takes.
+#![tactic(auto)]
+
 ghost use Rattle.std.specs.Prelude.{◌≡◌, ◌+◌, ◌<◌};
 ghost use Rattle.said.specs.Said.{piece_at, SaidIn};
 ghost use Rattle.records.specs.Records.{texts_record, store_record, multiple_record};

@@ -12,7 +12,7 @@ use Rattle.values.specs.Hex.{hex_decoded}
 use Rattle.values.specs.Unquote.{unquoted}
 use Rattle.text.specs.Parts.{span, starts_with}
 use Rattle.text.specs.declared.parts.Span.{Span}
-use Rattle.hex.proofs.HexLaws.{trailing_quotes}
+use Rattle.hexadecimal.proofs.HexLaws.{trailing_quotes}
 use Rattle.text.proofs.LiteralLaws.{codes}
 use Rattle.script.specs.Answers.{first_of}
 use Rattle.script.specs.Pieces.{bytes, behind}

@@ -1,4 +1,6 @@
 // Values that stand in the store.
+#![tactic(auto)]
+
 ghost use Rattle.std.specs.Prelude.{◌≡◌, ◌+◌, ◌≤◌, length};
 ghost use Rattle.std.proofs.Math.Option.{some};
 ghost use Rattle.script.specs.Contents.{unquoted_of, hex_of, data_of};
@@ -30,7 +32,7 @@ pub fn put_hex(text: &[u8], v: Span, store: &mut [u8], at: usize) -> usize
 {
     let start = v.start;
     let end = v.end;
-    hex::hex_decode(&text[start..end], &mut store[at..])
+    hexadecimal::hex_decode(&text[start..end], &mut store[at..])
 }
 
 // Writes the bytes of data; a file's name does not stand in the store.

@@ -1,2 +1,4 @@
 // What reading writes of one value into the table of items and into the store.
+#![tactic(auto)]
+
 pub mod sets;

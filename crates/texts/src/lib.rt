@@ -1,4 +1,6 @@
 // What stands at a place. Places may be forged: what lies outside has no bytes.
+#![tactic(auto)]
+
 ghost use Rattle.std.specs.Prelude.{◌≡◌};
 ghost use Rattle.text.specs.Base.{part};
 ghost use Rattle.verdicts.specs.Held.{text_at};

@@ -1,4 +1,6 @@
 // What Message answers: as a definition of what is judged, and in code the answer and its refusals.
+#![tactic(auto)]
+
 ghost use Rattle.std.specs.Prelude.{◌≡◌};
 ghost use Rattle.told.specs.Told.{counted};
 

@@ -1,4 +1,6 @@
 // The numbers that Measure carries from line to line: the totals so far, and what is open.
+#![tactic(auto)]
+
 ghost use Rattle.std.specs.Prelude.{◌≡◌};
 ghost use Rattle.script.specs.Inside.{In, SayingIn};
 ghost use Rattle.script.specs.Operations.{form_of};

@@ -1,4 +1,6 @@
 // Trimming: White_Space off both ends of a text, by its bytes.
+#![tactic(auto)]
+
 ghost use Rattle.std.specs.Prelude.{◌≡◌, [], ◌∷◌, reverse, ◌+◌, ◌-◌, ◌≤◌, ◌<◌, length, get_or, take, drop};
 ghost use Rattle.text.specs.Base.{within};
 ghost use Rattle.text.specs.Utf8.{◌to◌};

@@ -1,4 +1,6 @@
 // What a line of a text is and where the next one begins: as it was kept, or else found out.
+#![tactic(auto)]
+
 ghost use Rattle.std.specs.Prelude.{◌≡◌, ◌<◌, length};
 ghost use Rattle.text.specs.Lines.{line_at};
 ghost use Rattle.script.specs.Values.{plain_rules};

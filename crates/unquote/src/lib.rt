@@ -1,4 +1,6 @@
 // Unquoting.
+#![tactic(auto)]
+
 ghost use Rattle.std.specs.Prelude.{◌≡◌, ◌<◌, length};
 ghost use Rattle.text.specs.Base.{overlaid};
 ghost use Rattle.values.specs.Unquote.{quoted, unescaped, unquoted};

@@ -1,4 +1,6 @@
 // UTF-8, by table 3-7 of The Unicode Standard.
+#![tactic(auto)]
+
 ghost use Rattle.std.specs.Prelude.{◌+◌, ◌≤◌, ◌≡◌, true, [], length, drop};
 ghost use Rattle.text.specs.Utf8.{after, table, well_formed_from, well_formed};
 ghost use Rattle.utf8.specs.Utf8Walk.{due_of};

@@ -1,4 +1,6 @@
 // The verdict alone of an expectation, as a host calls it: the verdict's number, or 31 or 32. Nothing is written.
+#![tactic(auto)]
+
 ghost use Rattle.std.specs.Prelude.{◌≡◌};
 ghost use Rattle.rows.specs.Rows.{expect_row, response_row, info_row};
 ghost use Rattle.verdict_exports.specs.Numbered.{entry_number, handshake_number};

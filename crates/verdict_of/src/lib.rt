@@ -1,4 +1,6 @@
 // The verdict of an expectation, with nothing written: a list is looked at piece by piece.
+#![tactic(auto)]
+
 ghost use Rattle.std.specs.Prelude.{◌≡◌, ℕ, ◌+◌, ◌≤◌, length, List};
 ghost use Rattle.values.specs.Decimal.{decimal};
 ghost use Rattle.text.specs.Parts.{same_bytes};

@@ -1,4 +1,6 @@
 // The verdicts of document 01, "Verdicts", and the numbers that stand for them in a slot.
+#![tactic(auto)]
+
 ghost use Rattle.std.specs.Prelude.{◌≡◌};
 ghost use Rattle.verdicts.specs.Verdicts.{code, decode};
 

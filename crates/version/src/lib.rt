@@ -1,4 +1,6 @@
 // handshake.rs of the Rust: the version of the protocol.
+#![tactic(auto)]
+
 ghost use Rattle.std.specs.Prelude.{◌≡◌};
 ghost use Rattle.version.specs.Version.{versioned, default_version, version, version_of};
 

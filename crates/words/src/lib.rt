@@ -1,4 +1,6 @@
 // The words of a text, between White_Space.
+#![tactic(auto)]
+
 ghost use Rattle.std.specs.Prelude.{◌≡◌, ◌<◌, length, drop};
 ghost use Rattle.text.specs.Trim.{white_bytes, size_of};
 ghost use Rattle.text.specs.Parts.{span};

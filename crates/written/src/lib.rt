@@ -1,5 +1,7 @@
 // What is written from a place on, all else as it was, and its laws: reading writes its tables so, and the judge its verdicts and messages. Bytes are
 // written so into a lent slice, one by one.
+#![tactic(auto)]
+
 ghost use Rattle.std.specs.Prelude.{◌≡◌, ◌+◌, ◌≤◌, length};
 ghost use Rattle.text.specs.Base.{overlaid};
 ghost use Rattle.written.specs.Written.{written_at};

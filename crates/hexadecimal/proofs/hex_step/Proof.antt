@@ -8,11 +8,11 @@ use mir.Val.{Fits}
 use borrow.Author.Rules.{rules}
 use borrow.Author.Tests.{eq-eqb, ne_eqb, lt-ltb, le-ltb}
 use Rattle.values.specs.Hex.{hex_value}
-use Rattle.hex.specs.HexWalk.{HexTable, on_digit, on_other, hex_step}
-use Rattle.hex.specs.declared.HexStep.{HexStep}
-use Rattle.hex.specs.declared.HexStep.TheVariants.{Held, Byte}
-use Rattle.hex.proofs.hex_step.Statement.{statement}
-use Rattle.hex.proofs.hex_step.Tie as tie
+use Rattle.hexadecimal.specs.HexWalk.{HexTable, on_digit, on_other, hex_step}
+use Rattle.hexadecimal.specs.declared.HexStep.{HexStep}
+use Rattle.hexadecimal.specs.declared.HexStep.TheVariants.{Held, Byte}
+use Rattle.hexadecimal.proofs.hex_step.Statement.{statement}
+use Rattle.hexadecimal.proofs.hex_step.Tie as tie
 
 module _ (table : List ℕ) (held x : ℕ) (t : HexTable table) (f : Fits w8 x) where
   digit : get_or table x 0 < 16 → hex_step held x ≡ on_digit held (get_or table x 0)

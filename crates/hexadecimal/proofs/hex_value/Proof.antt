@@ -1,7 +1,7 @@
 -- `hex::hex_value` meets its contract, by the table's rule. Assumes nothing.
 use borrow.Author.Rules.{rules}
-use Rattle.hex.proofs.hex_value.Statement.{statement}
-use Rattle.hex.proofs.hex_value.Tie as tie
+use Rattle.hexadecimal.proofs.hex_value.Statement.{statement}
+use Rattle.hexadecimal.proofs.hex_value.Tie as tie
 
 hex-table-requires : tie.Need-hex-table-requires
 hex-table-requires c κs = search rules

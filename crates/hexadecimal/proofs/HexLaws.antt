@@ -11,9 +11,9 @@ use lib.ListN.{length, get_or, drop, replicate, length-append}
 use borrow.Author.Tests.{eqb-true, ne_eqb, ltb-true, ltb-false}
 use Rattle.text.specs.Base.{if◌then◌else◌, ◌&◌, ◌or◌, within, BLANK, QUOTE, PLUS}
 use Rattle.values.specs.Hex.{without, without_blanks, character_starts, hex_value, is_hex, hex_byte, hex_pairs, hex_decoded}
-use Rattle.hex.specs.HexWalk.{HexTable, on_digit, on_other, hex_step, hex_from}
-use Rattle.hex.specs.declared.HexStep.{HexStep}
-use Rattle.hex.specs.declared.HexStep.TheVariants.{Held, Byte}
+use Rattle.hexadecimal.specs.HexWalk.{HexTable, on_digit, on_other, hex_step, hex_from}
+use Rattle.hexadecimal.specs.declared.HexStep.{HexStep}
+use Rattle.hexadecimal.specs.declared.HexStep.TheVariants.{Held, Byte}
 use Rattle.text.proofs.Table.{follows, entry}
 use Rattle.text.proofs.Scan.{rest_more, rest-none, and_false, by_cases, by_test, inside, within_low}
 

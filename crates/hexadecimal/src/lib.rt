@@ -1,8 +1,10 @@
 // Hex.
+#![tactic(auto)]
+
 ghost use Rattle.std.specs.Prelude.{◌≡◌, length};
 ghost use Rattle.text.specs.Base.{overlaid};
 ghost use Rattle.values.specs.Hex.{hex_value, hex_decoded};
-ghost use Rattle.hex.specs.HexWalk.{HexTable, on_other, hex_step};
+ghost use Rattle.hexadecimal.specs.HexWalk.{HexTable, on_other, hex_step};
 
 // The hex value of each byte, or 16 where it has none.
 const HEX: [u8; 256] = [

@@ -2,8 +2,8 @@
 use Rattle.std.specs.Prelude.{ℕ, ◌+◌, ◌*◌, ◌<◌, ◌≡◌, List, [], ◌∷◌, eqb, ltb, length, get_or}
 use Rattle.text.specs.Base.{if◌then◌else◌, ◌or◌, within, BLANK, PLUS}
 use Rattle.values.specs.Hex.{hex_value, is_hex}
-use Rattle.hex.specs.declared.HexStep.{HexStep}
-use Rattle.hex.specs.declared.HexStep.TheVariants.{Held, Byte}
+use Rattle.hexadecimal.specs.declared.HexStep.{HexStep}
+use Rattle.hexadecimal.specs.declared.HexStep.TheVariants.{Held, Byte}
 
 -- a table of 256 numbers holds the hex value of each byte
 pub record HexTable (table : List ℕ) : Type 0 where

@@ -5,10 +5,10 @@ use mathlib.Core.Bool.{Bool, true, false}
 use borrow.Author.Rules.{rules}
 use borrow.Author.Tests.{eq-eqb, ne_eqb}
 use Rattle.text.specs.Base.{within, BLANK, PLUS}
-use Rattle.hex.specs.HexWalk.{on_other}
-use Rattle.hex.specs.declared.HexStep.TheVariants.{Held}
-use Rattle.hex.proofs.on_other.Statement.{statement}
-use Rattle.hex.proofs.on_other.Tie as tie
+use Rattle.hexadecimal.specs.HexWalk.{on_other}
+use Rattle.hexadecimal.specs.declared.HexStep.TheVariants.{Held}
+use Rattle.hexadecimal.proofs.on_other.Statement.{statement}
+use Rattle.hexadecimal.proofs.on_other.Tie as tie
 
 module _ (held x : ℕ) where
   blank : x ≡ BLANK → Held held ≡ on_other held x

@@ -2,9 +2,9 @@
 use mathlib.Core.Path.{refl}
 use Rattle.text.specs.Base.{within}
 use Rattle.values.specs.Hex.{hex_value}
-use Rattle.hex.proofs.HexLaws.{table_right}
-use Rattle.hex.proofs.hex_table.Statement.{statement}
-use Rattle.hex.proofs.hex_table.Tie as tie
+use Rattle.hexadecimal.proofs.HexLaws.{table_right}
+use Rattle.hexadecimal.proofs.hex_table.Statement.{statement}
+use Rattle.hexadecimal.proofs.hex_table.Tie as tie
 
 returns : tie.Need-returns
 unfolding hex_value within

@@ -1,8 +1,8 @@
 -- `hex::hex_decode` meets its contract: the front that is lent has exactly the room of the bytes. Assumes nothing.
 use borrow.Author.Rules.{rules}
 use Rattle.text.proofs.Front.{fronts}
-use Rattle.hex.proofs.hex_decode.Statement.{statement}
-use Rattle.hex.proofs.hex_decode.Tie as tie
+use Rattle.hexadecimal.proofs.hex_decode.Statement.{statement}
+use Rattle.hexadecimal.proofs.hex_decode.Tie as tie
 
 hex-table-requires : tie.Need-hex-table-requires
 hex-table-requires c κs = search rules

@@ -6,13 +6,13 @@ use mathlib.Core.List.{List}
 use lib.ListN.{length, get_or, drop, set}
 use borrow.Author.Rules.{rules}
 use Rattle.values.specs.Hex.{hex_decoded}
-use Rattle.hex.specs.HexWalk.{hex_step, hex_from}
-use Rattle.hex.specs.declared.HexStep.{HexStep}
-use Rattle.hex.specs.declared.HexStep.TheVariants.{Held, Byte}
+use Rattle.hexadecimal.specs.HexWalk.{hex_step, hex_from}
+use Rattle.hexadecimal.specs.declared.HexStep.{HexStep}
+use Rattle.hexadecimal.specs.declared.HexStep.TheVariants.{Held, Byte}
 use Rattle.text.proofs.Front.{Written, begun, in_room, stored, filled}
-use Rattle.hex.proofs.HexLaws.{walked, at_held, at_byte, none_left}
-use Rattle.hex.proofs.hex_fill.Statement.{statement}
-use Rattle.hex.proofs.hex_fill.Tie as tie
+use Rattle.hexadecimal.proofs.HexLaws.{walked, at_held, at_byte, none_left}
+use Rattle.hexadecimal.proofs.hex_fill.Statement.{statement}
+use Rattle.hexadecimal.proofs.hex_fill.Tie as tie
 
 module _ (out : List ℕ) (o : ℕ) (s : List ℕ) (i held : ℕ) (whole : List ℕ) (w : Written out o (hex_from held (drop i s)) whole) where
   over : length s ≤ i → out ≡ whole

@@ -8,12 +8,12 @@ use native.Mathlib.Omega.{arith}
 use lib.ListN.{length, get_or, drop}
 use borrow.Author.Rules.{rules}
 use Rattle.values.specs.Hex.{hex_decoded}
-use Rattle.hex.specs.HexWalk.{hex_step, hex_from}
-use Rattle.hex.specs.declared.HexStep.{HexStep}
-use Rattle.hex.specs.declared.HexStep.TheVariants.{Held, Byte}
-use Rattle.hex.proofs.HexLaws.{walked, at_held, at_byte, none_left}
-use Rattle.hex.proofs.hex_count.Statement.{statement}
-use Rattle.hex.proofs.hex_count.Tie as tie
+use Rattle.hexadecimal.specs.HexWalk.{hex_step, hex_from}
+use Rattle.hexadecimal.specs.declared.HexStep.{HexStep}
+use Rattle.hexadecimal.specs.declared.HexStep.TheVariants.{Held, Byte}
+use Rattle.hexadecimal.proofs.HexLaws.{walked, at_held, at_byte, none_left}
+use Rattle.hexadecimal.proofs.hex_count.Statement.{statement}
+use Rattle.hexadecimal.proofs.hex_count.Tie as tie
 
 module _ (s : List ℕ) (i held n total : ℕ) (q : n + length (hex_from held (drop i s)) ≡ total) where
   over : length s ≤ i → n ≡ total
