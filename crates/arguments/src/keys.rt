@@ -11,7 +11,7 @@ use script::roles::{Key, Takes};
 use text::parts::Span;
 
 // The key of a name, if there is one.
-#[derive(Drop)]
+#[derive(Clone, Copy)]
 pub enum KeyFound {
     Is(Key),
     Unknown,

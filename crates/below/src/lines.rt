@@ -14,7 +14,7 @@ use script::records::{Expect, Expectation};
 use script::roles::{Opening, Role, Where};
 
 // An opening line, by its number, and where the line below it begins and stands.
-#[derive(Drop)]
+#[derive(Clone, Copy)]
 pub struct Ahead {
     pub line: usize,
     pub opening: Opening,
@@ -23,14 +23,14 @@ pub struct Ahead {
 }
 
 // What comes behind some lines: the end of the text, or an entry.
-#[derive(Drop)]
+#[derive(Clone, Copy)]
 pub enum Next {
     End,
     Entry(Ahead),
 }
 
 // How many items and expectations were written, and what comes next.
-#[derive(Drop)]
+#[derive(Clone, Copy)]
 pub struct Below {
     pub pairs: usize,
     pub expects: usize,

@@ -9,7 +9,7 @@ ghost use Rattle.cases.specs.Cases.{counted, total};
 use parse::measure::Measured;
 
 // An answer of Measure, in the numbers of a line.
-#[derive(Drop)]
+#[derive(Clone, Copy)]
 pub struct Answer {
     pub number: u64,
     pub line: usize,
@@ -21,7 +21,7 @@ pub struct Answer {
 
 // What a line of the input came to: a text that Measure reads, one that it refuses, one whose dump by Read is right; an
 // expectation whose verdict and message are right. A line that cannot be read is Wrong.
-#[derive(Drop)]
+#[derive(Clone, Copy)]
 pub enum Case {
     Read,
     Refused,
@@ -30,7 +30,7 @@ pub enum Case {
     Wrong,
 }
 
-#[derive(Drop)]
+#[derive(Clone, Copy)]
 pub struct Tally {
     pub read: usize,
     pub refused: usize,

@@ -11,7 +11,7 @@ use said::said::Piece;
 use script::roles::Key;
 
 // How many features the client has, and how many the server.
-#[derive(Drop)]
+#[derive(Clone, Copy)]
 pub struct Fronts {
     pub features: usize,
     pub server: usize,

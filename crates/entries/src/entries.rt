@@ -18,7 +18,7 @@ use stored::values::put_values;
 use wire::ops::Op;
 
 // How many items, expectations and bytes of the store an entry took, and what comes next.
-#[derive(Drop)]
+#[derive(Clone, Copy)]
 pub struct Advance {
     pub items: usize,
     pub expects: usize,

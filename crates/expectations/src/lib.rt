@@ -16,14 +16,14 @@ use script::roles::Role;
 use text::parts::{Found, Span};
 
 // What is expected, or a refusal with its number in document 01.
-#[derive(Drop)]
+#[derive(Clone, Copy)]
 pub enum ExpectAnswer {
     Given(Expect),
     Refused(u64),
 }
 
 // What a matcher is held against.
-#[derive(Drop)]
+#[derive(Clone, Copy)]
 pub enum Subject {
     Result,
     Field(Place),

@@ -3,14 +3,14 @@ ghost use Rattle.std.specs.Prelude.{◌≡◌, ◌≤◌, length};
 ghost use Rattle.fields.specs.Fields.{hex_for, bytes_at, bytes_in, byte_count, bytes_field, field_count};
 
 // How many bytes were spelled: they stand at the front of the room lent.
-#[derive(Drop)]
+#[derive(Clone, Copy)]
 pub enum Bytes {
     Are(usize),
     Bad,
 }
 
 // The same, and where the word ends.
-#[derive(Drop)]
+#[derive(Clone, Copy)]
 pub enum BytesAt {
     Are(usize, usize),
     Bad,

@@ -5,21 +5,21 @@ ghost use Rattle.fields.specs.Fields.{number_at, number_field, integer_at, integ
 use values::number::{Integer, Number};
 
 // A number and where its word ends.
-#[derive(Drop)]
+#[derive(Clone, Copy)]
 pub enum NumberAt {
     Value(u64, usize),
     Bad,
 }
 
 // A number with a sign, and where its word ends.
-#[derive(Drop)]
+#[derive(Clone, Copy)]
 pub enum IntegerAt {
     Value(i64, usize),
     Bad,
 }
 
 // The lent numbers were filled, and the word of the last ends here.
-#[derive(Drop)]
+#[derive(Clone, Copy)]
 pub enum NumbersAt {
     End(usize),
     Bad,

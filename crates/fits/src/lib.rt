@@ -8,7 +8,7 @@ ghost use Rattle.fits.specs.Fits.{shortage, fit_of};
 use script::records::{Counts, Refusal};
 
 // What there is room for.
-#[derive(Drop)]
+#[derive(Clone, Copy)]
 pub enum Fit {
     Enough,
     Short(Refusal),

@@ -3,7 +3,7 @@ use crate::words::{Head, Middle};
 use script::records::Place;
 
 // A piece of a message that is no fixed word: a part of the text, a part of the response's bytes, the value looked up, a number.
-#[derive(Drop)]
+#[derive(Clone, Copy)]
 pub enum Piece {
     Nothing,
     Text(Place),
@@ -13,7 +13,7 @@ pub enum Piece {
 }
 
 // How a message ends: with nothing more, or with a word and the value.
-#[derive(Drop)]
+#[derive(Clone, Copy)]
 pub enum Ending {
     Nothing,
     Got, // , got
@@ -22,7 +22,7 @@ pub enum Ending {
 
 // A message: words and pieces, one behind the other. The first piece is a part of the text, which may have no bytes. A frame is handed on by value,
 // so it is kept small.
-#[derive(Drop)]
+#[derive(Clone, Copy)]
 pub struct Frame {
     pub first: Head,
     pub a: Place,
@@ -32,7 +32,7 @@ pub struct Frame {
 }
 
 // How a matcher stands between `expected` and `got`.
-#[derive(Drop)]
+#[derive(Clone, Copy)]
 pub struct Shown {
     pub before: Middle,
     pub piece: Piece,
@@ -40,7 +40,7 @@ pub struct Shown {
 }
 
 // What a value is shown behind: a word if it passed, and one between a field and the value; another word if it failed.
-#[derive(Drop)]
+#[derive(Clone, Copy)]
 pub struct Heading {
     pub passed: Head,
     pub between: Middle,

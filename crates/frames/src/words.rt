@@ -3,7 +3,7 @@ ghost use Rattle.std.specs.Prelude.{◌≡◌, length};
 ghost use Rattle.frames.specs.Words.{head_bytes, middle_bytes};
 
 // What a message begins with.
-#[derive(Drop)]
+#[derive(Clone, Copy)]
 pub enum Head {
     Nothing,
     TerminalIs, // terminal =
@@ -25,7 +25,7 @@ pub enum Head {
 }
 
 // What stands in its middle.
-#[derive(Drop)]
+#[derive(Clone, Copy)]
 pub enum Middle {
     Nothing,
     Got, // , got

@@ -36,7 +36,7 @@ const HEX: [u8; 256] = [
 // What a byte of the text comes to: this is held of a pair, or this byte is made of one.
 // Held is the value of the first, `+` counting as 0; 16 for a first that makes no byte; 17 for none. It is a usize, for an enum
 // of two bytes is packed into one register at each step.
-#[derive(Drop)]
+#[derive(Clone, Copy)]
 enum HexStep {
     Held(usize),
     Byte(u8),

@@ -7,7 +7,7 @@ use ranges::steps::Step;
 use tallies::calls::Answer;
 
 // What a call answered, and the next tally.
-#[derive(Drop)]
+#[derive(Clone, Copy)]
 pub struct Turn {
     pub tally: Tally,
     pub answer: Answer,

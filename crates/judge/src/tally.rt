@@ -18,7 +18,7 @@ use told::counted_of;
 use verdicts::handed::Handed;
 
 // The number that is judged next (0 is the handshake, entries are from 1 on), and the verdicts so far.
-#[derive(Drop)]
+#[derive(Clone, Copy)]
 pub struct Tally {
     pub next: usize,
     pub counts: Counts,

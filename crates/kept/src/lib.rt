@@ -7,7 +7,7 @@ ghost use Rattle.kept.specs.Kept.{takes_number, place_number, kept_of, blank_kep
 use script::roles::{Role, Step, Takes, Where};
 
 // A line: where it begins and one more, or 0 where nothing is kept; the number of the place where it stands; where the next line begins; what it is.
-#[derive(Drop)]
+#[derive(Clone, Copy)]
 pub struct Kept {
     pub from: usize,
     pub stood: usize,

@@ -12,7 +12,7 @@ use text::parts::Span;
 use values::number::Integer;
 
 // A matcher, or a refusal with its number in document 01.
-#[derive(Drop)]
+#[derive(Clone, Copy)]
 pub enum MatcherAnswer {
     Given(Matcher),
     Refused(u64),

@@ -4,7 +4,7 @@
 use wire::ops::Op;
 
 // The preamble, or an entry of that operation.
-#[derive(Drop)]
+#[derive(Clone, Copy)]
 pub enum What {
     ThePreamble,
     AnEntry(Op),
@@ -12,7 +12,7 @@ pub enum What {
 
 // What is open while the lines are walked: `inline`, the items on its opening line; `pairs`, the items of its override pairs; and for each key whose
 // value takes items or bytes of the store how many the last value takes.
-#[derive(Drop)]
+#[derive(Clone, Copy)]
 pub struct Open {
     pub what: What,
     pub inline: usize,

@@ -19,21 +19,21 @@ use text::parts::{Found, Span};
 use wire::ops::{Op, OpFound};
 
 // A line's timestamp, if it has one, and what follows it; or a refusal.
-#[derive(Drop)]
+#[derive(Clone, Copy)]
 pub enum StampedAnswer {
     Read(Stamp, Span),
     Bad(u64),
 }
 
 // A piece cut in two.
-#[derive(Drop)]
+#[derive(Clone, Copy)]
 pub struct Halves {
     pub before: Span,
     pub after: Span,
 }
 
 // Where on its line an operation has a path set: nowhere; all that stands behind its name; behind the first blank there.
-#[derive(Drop)]
+#[derive(Clone, Copy)]
 pub enum SetPlace {
     NoSet,
     AllOf,

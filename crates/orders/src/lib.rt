@@ -9,7 +9,7 @@ use values::number::Integer;
 use verdicts::Verdict;
 
 // How a value is compared with a matcher's number.
-#[derive(Drop)]
+#[derive(Clone, Copy)]
 pub enum Order {
     GreaterThan,
     LessThan,

@@ -13,7 +13,7 @@ use script::records::{Counts, Refusal};
 use script::roles::{Role, Where};
 
 // What Measure answers.
-#[derive(Drop)]
+#[derive(Clone, Copy)]
 pub enum Measured {
     Refused(Refusal),
     Read(Counts),

@@ -8,7 +8,7 @@ use judge::tally::Tally;
 use script::records::Refusal;
 
 // What a run answers. Only where it is done is anything written.
-#[derive(Drop)]
+#[derive(Clone, Copy)]
 pub enum Ran {
     FewAnswers,
     MuchScratch,

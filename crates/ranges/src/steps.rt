@@ -16,7 +16,7 @@ use tallies::tally::Counts;
 use verdicts::handed::Handed;
 
 // What a judging answered, and the next number and the counts that it left.
-#[derive(Drop)]
+#[derive(Clone, Copy)]
 pub struct Step {
     pub next: usize,
     pub counts: Counts,

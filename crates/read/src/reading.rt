@@ -11,7 +11,7 @@ use parse::measure::Measured;
 use script::records::{Entry, Expectation, Refusal, Script};
 
 // What Read answers.
-#[derive(Drop)]
+#[derive(Clone, Copy)]
 pub enum Answer {
     Refused(Refusal),
     Read(Script),

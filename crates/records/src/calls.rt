@@ -14,7 +14,7 @@ use script::roles::Key;
 use text::parts::Span;
 
 // How many items an entry has, and how many bytes its first, second and third value in the store.
-#[derive(Drop)]
+#[derive(Clone, Copy)]
 pub struct Sizes {
     pub items: usize,
     pub first: usize,

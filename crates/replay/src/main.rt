@@ -8,7 +8,7 @@ ghost use Rattle.std.specs.Prelude.{◌+◌, ◌≤◌, length};
 use libc::STDOUT_FILENO;
 
 // What a line of the input came to.
-#[derive(Drop)]
+#[derive(Clone, Copy)]
 enum Case {
     White(u32),
     Good(bool),
@@ -16,7 +16,7 @@ enum Case {
     Other,
 }
 
-#[derive(Drop)]
+#[derive(Clone, Copy)]
 struct Tally {
     white: usize,
     good: usize,
@@ -165,7 +165,7 @@ fn read_cases(input: &[u8], codes: &mut [u32]) -> Tally
 }
 
 // The encoding of a code point (The Unicode Standard, table 3-6).
-#[derive(Drop)]
+#[derive(Clone, Copy)]
 struct Encoding {
     bytes: [u8; 4],
     len: usize,

@@ -11,7 +11,7 @@ use script::roles::{Key, Role, Saying, Step, Takes, Where};
 use text::parts::Span;
 
 // What matters of a key's value for its line: a path set may be refused, and so may data; an override list opens; any other is fine.
-#[derive(Drop)]
+#[derive(Clone, Copy)]
 pub enum ValueKind {
     Set,
     Data,
@@ -20,7 +20,7 @@ pub enum ValueKind {
 }
 
 // Whether something is refused, and by which number of document 01.
-#[derive(Drop)]
+#[derive(Clone, Copy)]
 pub enum Refused {
     No,
     By(u64),

@@ -10,7 +10,7 @@ use text::lines::Line;
 use text::parts::Span;
 
 // How an indented line begins: it is blank or a comment; with `expect`; otherwise.
-#[derive(Drop)]
+#[derive(Clone, Copy)]
 pub enum Front {
     Skipped,
     Expect,
@@ -19,7 +19,7 @@ pub enum Front {
 
 // What is to be made of a line: a step of the preamble; nothing, with no entry open below it; nothing, with its entry open; an expectation; an argument
 // line of an operation that takes such lines, with an override list open or not; an entry.
-#[derive(Drop)]
+#[derive(Clone, Copy)]
 pub enum Sort {
     Preamble,
     Skipped,

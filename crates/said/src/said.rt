@@ -11,7 +11,7 @@ use text::parts::Span;
 use values::number::Number;
 
 // A value that may be missing.
-#[derive(Drop)]
+#[derive(Clone, Copy)]
 pub enum Piece {
     Absent,
     Is(Span),

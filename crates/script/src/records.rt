@@ -3,35 +3,35 @@ use version::ProtocolVersion;
 use wire::ops::Op;
 
 // A part of the text or of the store: where it starts and how many bytes it has. Empty or absent is 0 and 0.
-#[derive(Drop)]
+#[derive(Clone, Copy)]
 pub struct Place {
     pub start: usize,
     pub len: usize,
 }
 
 // A range of a table: the place of its first record and how many there are. Empty is 0 and 0.
-#[derive(Drop)]
+#[derive(Clone, Copy)]
 pub struct Items {
     pub first: usize,
     pub count: usize,
 }
 
 // A value that may be missing: present and empty is not absent.
-#[derive(Drop)]
+#[derive(Clone, Copy)]
 pub enum Maybe {
     Absent,
     At(Place),
 }
 
 // A list that may be missing.
-#[derive(Drop)]
+#[derive(Clone, Copy)]
 pub enum MaybeItems {
     Absent,
     Are(Items),
 }
 
 // How an expectation compares a value.
-#[derive(Drop)]
+#[derive(Clone, Copy)]
 pub enum Matcher {
     Exact(Place),
     Regex(Place),
@@ -42,7 +42,7 @@ pub enum Matcher {
 }
 
 // What an expectation is about.
-#[derive(Drop)]
+#[derive(Clone, Copy)]
 pub enum Expect {
     Terminal(Place),
     Result(Matcher),
@@ -55,35 +55,35 @@ pub enum Expect {
 }
 
 // An expectation: its line, and what it expects.
-#[derive(Drop)]
+#[derive(Clone, Copy)]
 pub struct Expectation {
     pub line: usize,
     pub expect: Expect,
 }
 
 // Data: bytes of the store, or the name of a file, a part of the text.
-#[derive(Drop)]
+#[derive(Clone, Copy)]
 pub enum FramedData {
     Inline(Place),
     FileRef(Place),
 }
 
 // A timestamp: its sign, all its digits as one number, and how many of them are decimals.
-#[derive(Drop)]
+#[derive(Clone, Copy)]
 pub struct Time {
     pub negative: bool,
     pub digits: u64,
     pub decimals: i64,
 }
 
-#[derive(Drop)]
+#[derive(Clone, Copy)]
 pub enum Stamp {
     Absent,
     At(Time),
 }
 
 // The arguments of SetOptions.
-#[derive(Drop)]
+#[derive(Clone, Copy)]
 pub struct Options {
     pub keep_failed: u64,
     pub keep_going: u64,
@@ -101,7 +101,7 @@ pub struct Options {
 }
 
 // An operation with its arguments. Paths, names and values are parts of the text; unquoted and hex values are parts of the store.
-#[derive(Drop)]
+#[derive(Clone, Copy)]
 pub enum OpCall {
     SinglePath {
         op: Op,
@@ -187,7 +187,7 @@ pub enum OpCall {
 }
 
 // An entry: the line that opens it, its timestamp, its operation, and its expectations in the table of expectations.
-#[derive(Drop)]
+#[derive(Clone, Copy)]
 pub struct Entry {
     pub line: usize,
     pub timestamp_ms: Stamp,
@@ -195,7 +195,7 @@ pub struct Entry {
     pub expects: Items,
 }
 
-#[derive(Drop)]
+#[derive(Clone, Copy)]
 pub struct Preamble {
     pub protocol_version: ProtocolVersion,
     pub client_features: Items,
@@ -206,7 +206,7 @@ pub struct Preamble {
 }
 
 // How many records and bytes a script takes.
-#[derive(Drop)]
+#[derive(Clone, Copy)]
 pub struct Counts {
     pub entries: usize,
     pub items: usize,
@@ -214,14 +214,14 @@ pub struct Counts {
     pub store: usize,
 }
 
-#[derive(Drop)]
+#[derive(Clone, Copy)]
 pub struct Script {
     pub preamble: Preamble,
     pub counts: Counts,
 }
 
 // A refusal: its number in document 01, and the line.
-#[derive(Drop)]
+#[derive(Clone, Copy)]
 pub struct Refusal {
     pub number: u64,
     pub line: usize,

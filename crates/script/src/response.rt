@@ -4,13 +4,13 @@ use crate::records::{Items, Maybe, MaybeItems, Place};
 use version::ProtocolVersion;
 
 // A number that may be missing.
-#[derive(Drop)]
+#[derive(Clone, Copy)]
 pub enum MaybeNumber {
     Absent,
     Is(u64),
 }
 
-#[derive(Drop)]
+#[derive(Clone, Copy)]
 pub struct PathInfoResult {
     pub valid: bool,
     pub deriver: Maybe,
@@ -20,7 +20,7 @@ pub struct PathInfoResult {
 }
 
 // What an operation gave back. StringMap, None, Framed and Raw keep nothing, since no answer depends on what they hold.
-#[derive(Drop)]
+#[derive(Clone, Copy)]
 pub enum ResultData {
     Absent,
     U64(u64),
@@ -46,7 +46,7 @@ pub enum ResultData {
 }
 
 // A response: the name of its last message, how many messages came before, the result, and the error's message if there was one.
-#[derive(Drop)]
+#[derive(Clone, Copy)]
 pub struct DaemonResponse {
     pub terminal: Place,
     pub stderr_count: u64,
@@ -55,7 +55,7 @@ pub struct DaemonResponse {
 }
 
 // What the handshake told.
-#[derive(Drop)]
+#[derive(Clone, Copy)]
 pub struct HandshakeInfo {
     pub client_version: ProtocolVersion,
     pub server_version: ProtocolVersion,

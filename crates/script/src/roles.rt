@@ -4,7 +4,7 @@ use text::parts::Span;
 use wire::ops::Op;
 
 // The keys of argument lines, and of the preamble's lines.
-#[derive(Drop)]
+#[derive(Clone, Copy)]
 pub enum Key {
     KeepFailed,
     KeepGoing,
@@ -42,7 +42,7 @@ pub enum Key {
 
 // Which lines below an operation are its arguments: none; lines with the keys of one of the six keyword operations; lines up to the first with the key
 // `data`; lines up to the first that begins with `raw x"`.
-#[derive(Drop)]
+#[derive(Clone, Copy)]
 pub enum Takes {
     NoLines,
     Options,
@@ -57,7 +57,7 @@ pub enum Takes {
 
 // Where a line stands: above the `---` line; below it with no entry open; right below an operation that takes such lines, with an override list open or
 // not; below the argument lines of an entry.
-#[derive(Drop)]
+#[derive(Clone, Copy)]
 pub enum Where {
     InPreamble,
     Outside,
@@ -67,7 +67,7 @@ pub enum Where {
 
 // What an argument line says, or a line of the preamble that is kept: the value of a known key; a pair of an override list. Or it does nothing: it has no
 // colon; its key is unknown to the operation; it stands in an override list and is no pair; it stands where `raw x"` is due and is something else.
-#[derive(Drop)]
+#[derive(Clone, Copy)]
 pub enum Saying {
     Known(Key, Span),
     Pair(Span, Span),
@@ -78,7 +78,7 @@ pub enum Saying {
 }
 
 // The line that opens an entry: its timestamp, its operation, and what stands behind the operation's name.
-#[derive(Drop)]
+#[derive(Clone, Copy)]
 pub struct Opening {
     pub stamp: Stamp,
     pub op: Op,
@@ -86,7 +86,7 @@ pub struct Opening {
 }
 
 // What a line is: nothing that is kept; something said; an expectation; an opening line; refused, with a number of document 01.
-#[derive(Drop)]
+#[derive(Clone, Copy)]
 pub enum Role {
     Nothing,
     Says(Saying),
@@ -96,7 +96,7 @@ pub enum Role {
 }
 
 // What a line is, and where the next one stands.
-#[derive(Drop)]
+#[derive(Clone, Copy)]
 pub struct Step {
     pub role: Role,
     pub next: Where,

@@ -9,7 +9,7 @@ use script::records::{Items, Maybe, MaybeItems, Place};
 use script::response::{MaybeNumber, ResultData};
 
 // A text is a place in the response's bytes, lists are ranges of the table of places.
-#[derive(Drop)]
+#[derive(Clone, Copy)]
 pub enum Value {
     Missing,
     Number(u64),

@@ -9,7 +9,7 @@ ghost use Rattle.stamps.specs.TimeRead.{time_read};
 use script::records::Time;
 
 // A timestamp that was read, or a refusal.
-#[derive(Drop)]
+#[derive(Clone, Copy)]
 pub enum TimeAnswer {
     Read(Time),
     Bad(u64),

@@ -3,7 +3,7 @@ use crate::tally::Outcome;
 use script::records::Refusal;
 
 // Refused, judged, or what closing says.
-#[derive(Drop)]
+#[derive(Clone, Copy)]
 pub enum Answer {
     Refused(Refusal),
     Judged,

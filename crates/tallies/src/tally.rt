@@ -5,7 +5,7 @@ ghost use Rattle.tallies.specs.Tally.{added, outcome_of, over_limit};
 use verdicts::Verdict;
 
 // How many verdicts of each kind there are.
-#[derive(Drop)]
+#[derive(Clone, Copy)]
 pub struct Counts {
     pub passed: usize,
     pub failed: usize,
@@ -13,7 +13,7 @@ pub struct Counts {
 }
 
 // What closing says.
-#[derive(Drop)]
+#[derive(Clone, Copy)]
 pub enum Outcome {
     Failed,
     Undecided,

@@ -7,7 +7,7 @@ ghost use Rattle.tell.specs.Pick.{picked_at};
 use script::records::{Expect, Expectation};
 
 // What stands at a place of the table: nothing that counts, or what is expected there.
-#[derive(Drop)]
+#[derive(Clone, Copy)]
 pub enum Picked {
     Nothing,
     Is(Expect),

@@ -8,7 +8,7 @@ use script::records::Refusal;
 use verdicts::Verdict;
 
 // What Message answers: a refusal; or the verdict, and how many bytes the message has.
-#[derive(Drop)]
+#[derive(Clone, Copy)]
 pub enum Told {
     Refused(Refusal),
     Says(Verdict, usize),

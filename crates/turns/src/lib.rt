@@ -12,7 +12,7 @@ use kept::Kept;
 use script::roles::{Step, Where};
 
 // What a line is, and where the next one begins.
-#[derive(Drop)]
+#[derive(Clone, Copy)]
 pub struct Turn {
     pub step: Step,
     pub next: usize,

@@ -7,7 +7,7 @@ ghost use Rattle.values.specs.Unquote.{quoted, unescaped, unquoted};
 ghost use Rattle.unquote.specs.UnquoteWalk.{meant, escape_of, token_at};
 
 // A byte of the result, and how many bytes of the text it stands for.
-#[derive(Drop)]
+#[derive(Clone, Copy)]
 struct Token {
     byte: u8,
     size: usize,

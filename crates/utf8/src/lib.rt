@@ -6,7 +6,7 @@ ghost use Rattle.text.specs.Utf8.{after, table, well_formed_from, well_formed};
 ghost use Rattle.utf8.specs.Utf8Walk.{due_of};
 
 // What has to follow a first byte.
-#[derive(Drop)]
+#[derive(Clone, Copy)]
 pub enum Lead {
     // No row of the table has it.
     Bad,

@@ -2,7 +2,7 @@
 use script::response::{DaemonResponse, HandshakeInfo};
 
 // The handshake is judged against its information, an entry against a response.
-#[derive(Drop)]
+#[derive(Clone, Copy)]
 pub enum Handed {
     Info(HandshakeInfo),
     Response(DaemonResponse),

@@ -7,7 +7,7 @@ ghost use Rattle.verdicts.specs.Verdicts.{code, decode};
 pub mod handed;
 
 // What judging one expectation gives.
-#[derive(Drop)]
+#[derive(Clone, Copy)]
 pub enum Verdict {
     Passed,
     Failed,

@@ -6,14 +6,14 @@ ghost use Rattle.version.specs.Version.{versioned, default_version, version, ver
 
 use values::number::Number;
 
-#[derive(Drop)]
+#[derive(Clone, Copy)]
 pub struct ProtocolVersion {
     pub major: u16,
     pub minor: u8,
 }
 
 // A version that was read, or none: then the one so far stays.
-#[derive(Drop)]
+#[derive(Clone, Copy)]
 pub enum Version {
     Read(ProtocolVersion),
     Bad,

@@ -7,7 +7,7 @@ ghost use Rattle.text.proofs.LiteralLaws.{codes};
 ghost use Rattle.wire.specs.Operations.{operation, operations, named, coded, op_of};
 ghost use Rattle.wire.specs.OperationTables.{letters, Spelt, Starts, Hints};
 
-#[derive(Drop)]
+#[derive(Clone, Copy)]
 pub enum Op {
     IsValidPath,
     QueryReferrers,
@@ -49,7 +49,7 @@ pub enum Op {
 }
 
 // An operation, where there is one.
-#[derive(Drop)]
+#[derive(Clone, Copy)]
 pub enum OpFound {
     Is(Op),
     Nothing,
@@ -199,7 +199,7 @@ fn hints() -> [u8; 71]
 }
 
 // A part of NAMES: from start up to, not including, end.
-#[derive(Drop)]
+#[derive(Clone, Copy)]
 struct Span {
     start: usize,
     end: usize,

@@ -1,0 +1,20 @@
+-- `blocks::wide_at` meets its contract. The loop's invariant: the bytes passed are those of the part. Assumes nothing.
+use Prim.Native.Nat.{◌-◌, ◌≤◌}
+use mathlib.Core.Path.{◌≡◌}
+use lib.ListN.{length, take}
+use Rattle.text.specs.Base.{part}
+use Rattle.blocks.proofs.BlockLaws.{part_more, part_all}
+use borrow.Author.Rules.{rules}
+use Rattle.blocks.proofs.wide_at.Goals as goal
+
+pub loop-k-preserved : goal.loop-k-preserved
+loop-k-preserved c =
+    let L = c.loop-k in
+    let a = c.args in
+    (search rules, search rules, part_more a.s.now L.bytes a.i L.k L.invariant.2 (search rules) (search rules))
+
+pub returns : goal.returns
+returns c =
+    let L = c.loop-k in
+    let a = c.args in
+    part_all a.s.now L.bytes a.i L.k L.invariant.2 32 (search rules) (search rules)

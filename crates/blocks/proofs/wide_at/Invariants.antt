@@ -1,0 +1,13 @@
+use Prim.Native.Nat.{◌-◌, ◌≤◌}
+use mathlib.Core.Path.{◌≡◌}
+use lib.ListN.{length, take}
+use Rattle.text.specs.Base.{part}
+use Rattle.blocks.proofs.BlockLaws.{part_more, part_all}
+use borrow.Author.Rules.{rules}
+use Rattle.blocks.proofs.wide_at.Given as goal
+
+abbrev pub invariant-loop-k : goal.invariant-loop-k
+invariant-loop-k l = (l.k ≤ 32) × (length l.bytes ≡ 32) × (take l.k l.bytes ≡ part l.s l.i l.k)
+
+abbrev pub decreases-loop-k : goal.decreases-loop-k
+decreases-loop-k l = 32 - l.k

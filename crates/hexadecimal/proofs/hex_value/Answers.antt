@@ -1,0 +1,6 @@
+-- `hex::hex_value` meets its contract, by the table's rule. Assumes nothing.
+use borrow.Author.Rules.{rules}
+use Rattle.hexadecimal.proofs.hex_value.Goals as goal
+
+pub returns : goal.returns
+returns c = c.hex_table-table.ensures.rule c.args.x c.ranges.x.fits

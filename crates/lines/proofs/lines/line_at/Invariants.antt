@@ -1,0 +1,14 @@
+use Prim.Native.Nat.{◌-◌, ◌≤◌}
+use mathlib.Core.Path.{◌≡◌}
+use lib.ListN.{length, drop}
+use borrow.Author.Rules.{rules}
+use Rattle.text.specs.Lines.{line_from, line_at}
+use Rattle.text.specs.LinesWalk.{end_at}
+use Rattle.text.proofs.LineLaws.{Line-walk}
+use Rattle.lines.proofs.lines.line_at.Given as goal
+
+abbrev pub invariant-loop-i : goal.invariant-loop-i
+invariant-loop-i l = (l.at ≤ l.i) × (line_from l.number l.at l.i (end_at l.text l.at l.i) (drop l.i l.text) ≡ line_at l.text l.at l.number)
+
+abbrev pub decreases-loop-i : goal.decreases-loop-i
+decreases-loop-i l = length l.text - l.i

@@ -1,0 +1,16 @@
+use Prim.Native.Nat.{ℕ, ◌+◌, ◌-◌, ◌*◌, ◌/◌, ◌≤◌, ◌<◌}
+use mathlib.Core.Path.{◌≡◌}
+use mathlib.Core.List.{List}
+use mathlib.Core.Option.{Option, none}
+use native.Mathlib.Omega.{arith}
+use lib.ListN.{length, get_or, drop}
+use borrow.Author.Rules.{rules}
+use Rattle.values.specs.Numbers.{digits, number_of}
+use Rattle.values.proofs.NumberLaws.{digits_from, Here, no_digit, begun, done, low, high, a_digit, too_large}
+use Rattle.values.proofs.number.digits_up_to.Given as goal
+
+abbrev pub invariant-loop-i : goal.invariant-loop-i
+invariant-loop-i l = (l.i ≤ length l.s) × (l.v < l.max + 1) × (l.tenth ≡ l.max / 10) × (digits_from (l.max + 1) l.v (drop l.i l.s) ≡ digits (l.max + 1) (drop l.at l.s))
+
+abbrev pub decreases-loop-i : goal.decreases-loop-i
+decreases-loop-i l = length l.s - l.i

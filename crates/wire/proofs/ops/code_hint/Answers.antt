@@ -1,0 +1,48 @@
+-- `wire::ops::code_hint` meets its contract: a text that is a name is long enough, and its sum leads to its code. Assumes nothing.
+use Prim.Native.Nat.{ℕ, ◌≤◌}
+use mathlib.Core.Path.{◌≡◌, refl}
+use mathlib.Core.List.{List}
+use mathlib.Core.Option.{some}
+use native.Mathlib.Omega.{arith}
+use lib.Dec.{leb}
+use lib.ListN.{length, get_or}
+use borrow.Author.Rules.{rules}
+use borrow.Author.Tests.{leb-true}
+use Rattle.text.proofs.LiteralLaws.{codes}
+use Rattle.wire.specs.Operations.{operation, named}
+use Rattle.wire.specs.OperationTables.{name_sum, Hints}
+use Rattle.wire.specs.declared.ops.Op.{Op}
+use Rattle.wire.proofs.OperationLaws.{each, name-named}
+use Rattle.wire.proofs.ops.code_hint.Goals as goal
+
+module _ (s : List ℕ) (o : Op) (e : named s ≡ some o) where
+  long : 6 ≤ length s
+  unfolding operation
+  long = rw (name-named s o e) (leb-true 6 _ (each (λ p. leb 6 (length (codes (operation p).name))) refl o))
+
+  led : (table : List ℕ) → Hints table → get_or table (name_sum s) 0 ≡ (operation o).code
+  led table h = rw (name-named s o e) (h.rule o)
+
+pub returns-then-s-lt6 : goal.returns-then-s-lt6
+returns-then-s-lt6 c op e = absurd (omega (arith, long _ op e))
+
+pub overflow_cast-sum : goal.overflow_cast-sum
+overflow_cast-sum c = omega (arith, c.shared_slice_known-2-1.given 3)
+
+pub overflow_mul-sum : goal.overflow_mul-sum
+overflow_mul-sum c = omega (arith, c.shared_slice_known-2-1.given 3)
+
+pub overflow_add-sum : goal.overflow_add-sum
+overflow_add-sum c = omega (arith, c.shared_slice_known-2-1.given 3)
+
+pub overflow_cast-sum-2 : goal.overflow_cast-sum-2
+overflow_cast-sum-2 c = omega (arith, c.shared_slice_known-3-1.given 5)
+
+pub overflow_mul-sum-2 : goal.overflow_mul-sum-2
+overflow_mul-sum-2 c = omega (arith, c.shared_slice_known-3-1.given 5)
+
+pub overflow_add-sum-2 : goal.overflow_add-sum-2
+overflow_add-sum-2 c = omega (arith, c.shared_slice_known-3-1.given 3, c.shared_slice_known-3-1.given 5)
+
+pub returns : goal.returns
+returns c op e = led _ op e _ c.hints-hints.ensures
