@@ -90,53 +90,53 @@ seen_leading (cons l (Bad n) s e) = seen_leading s
 
 module _ (rules : Rules) where
   -- one entry for each opening line
-  seen_entries : (i x b : ℕ) {text : List ℕ} {ms : List Marked} {ps : List PlainLine} → Seen text ms ps → length (tables_from i x b (entries rules text ms)).entries ≡ opened ps
+  seen_entries : {text : List ℕ} {ms : List Marked} {ps : List PlainLine} → Seen text ms ps → (i x b : ℕ) → length (tables_from i x b (entries rules text ms)).entries ≡ opened ps
   unfolding entries entry_on entry_of tables_from opened
-  seen_entries i x b nil = refl
-  seen_entries i x b (cons l Nothing s e) = seen_entries i x b s
-  seen_entries i x b (cons l (Says y) s e) = seen_entries i x b s
-  seen_entries i x b (cons l (Expects y) s e) = seen_entries i x b s
-  seen_entries i x b (cons l (Opens o) s e) = ap suc (seen_entries _ _ _ s)
-  seen_entries i x b (cons l (Bad n) s e) = seen_entries i x b s
+  seen_entries nil i x b = refl
+  seen_entries (cons l Nothing s e) i x b = seen_entries s i x b
+  seen_entries (cons l (Says y) s e) i x b = seen_entries s i x b
+  seen_entries (cons l (Expects y) s e) i x b = seen_entries s i x b
+  seen_entries (cons l (Opens o) s e) i x b = ap suc (seen_entries s _ _ _)
+  seen_entries (cons l (Bad n) s e) i x b = seen_entries s i x b
 
   -- the entries' expectations, behind those above the first opening line, are all
-  seen_all : (i x b : ℕ) {text : List ℕ} {ms : List Marked} {ps : List PlainLine} → Seen text ms ps
+  seen_all : {text : List ℕ} {ms : List Marked} {ps : List PlainLine} → Seen text ms ps → (i x b : ℕ)
       → expectations (lead ms) ++ (tables_from i x b (entries rules text ms)).expectations ≡ expectations ms
   unfolding entries entry_on entry_of tables_from expectations lead is_opening expectation_of
-  seen_all i x b nil = refl
-  seen_all i x b (cons l Nothing s e) = seen_all i x b s
-  seen_all i x b (cons l (Says y) s e) = seen_all i x b s
-  seen_all i x b (cons l (Expects y) s e) = ap (λ (xs : List Expectation). record { line = l.number; expect = y } ∷ xs) (seen_all i x b s)
-  seen_all i x b (cons l (Opens o) s e) = seen_all _ _ _ s
-  seen_all i x b (cons l (Bad n) s e) = seen_all i x b s
+  seen_all nil i x b = refl
+  seen_all (cons l Nothing s e) i x b = seen_all s i x b
+  seen_all (cons l (Says y) s e) i x b = seen_all s i x b
+  seen_all (cons l (Expects y) s e) i x b = ap (λ (xs : List Expectation). record { line = l.number; expect = y } ∷ xs) (seen_all s i x b)
+  seen_all (cons l (Opens o) s e) i x b = seen_all s _ _ _
+  seen_all (cons l (Bad n) s e) i x b = seen_all s i x b
 
   -- each entry's range
-  seen_ranges : (i x b at : ℕ) {text : List ℕ} {ms : List Marked} {ps : List PlainLine} → Seen text ms ps → x ≡ at + leading ps
+  seen_ranges : {text : List ℕ} {ms : List Marked} {ps : List PlainLine} → Seen text ms ps → (i x b at : ℕ) → x ≡ at + leading ps
       → map (λ e. e.expects) (tables_from i x b (entries rules text ms)).entries ≡ ranges_from at ps
   unfolding entries entry_on entry_of tables_from ranges_from leading listed
-  seen_ranges i x b at nil h = refl
-  seen_ranges i x b at (cons l Nothing s e) h = seen_ranges i x b at s h
-  seen_ranges i x b at (cons l (Says y) s e) h = seen_ranges i x b at s h
-  seen_ranges i x b at (cons l (Expects y) s e) h = seen_ranges i x b (suc at) s (omega arith)
-  seen_ranges i x b at (cons l (Opens o) s e) h =
+  seen_ranges nil i x b at h = refl
+  seen_ranges (cons l Nothing s e) i x b at h = seen_ranges s i x b at h
+  seen_ranges (cons l (Says y) s e) i x b at h = seen_ranges s i x b at h
+  seen_ranges (cons l (Expects y) s e) i x b at h = seen_ranges s i x b (suc at) (omega arith)
+  seen_ranges (cons l (Opens o) s e) i x b at h =
       ap₂ (λ (a : Items) (as' : List Items). a ∷ as')
       (ap₂ range (omega arith) (seen_leading s))
-      (seen_ranges _ _ _ at s (omega (arith, seen_leading s)))
-  seen_ranges i x b at (cons l (Bad n) s e) h = seen_ranges i x b at s h
+      (seen_ranges s _ _ _ at (omega (arith, seen_leading s)))
+  seen_ranges (cons l (Bad n) s e) i x b at h = seen_ranges s i x b at h
 
   -- what marked lines that are read hold
   held : (text : List ℕ) → first_refused (roles rules text (lines text)) ≡ none → AsPlain text (laid_script (contents rules text (roles rules text (lines text))))
   unfolding laid_script contents laid_preamble preamble_of roles plain_lines listed
   held text h =
       let s = seen rules text InPreamble (lines text) h in
-      let f = seen_all _ _ _ s ∙ seen_expectations s in
+      let f = seen_all s _ _ _ ∙ seen_expectations s in
       record {
-        entries = seen_entries _ _ _ s;
-        expectations = ap length (seen_all _ _ _ s) ∙ seen_lines s;
+        entries = seen_entries s _ _ _;
+        expectations = ap length (seen_all s _ _ _) ∙ seen_lines s;
         stated = f;
         inside = subst⁻¹ (λ (es : List Expectation). AllIn (length text) es) f (all_in text);
         handshake = ap (range 0) (seen_leading s);
-        ranges = seen_ranges _ _ _ 0 s (seen_leading s ∙ omega arith);
+        ranges = seen_ranges s _ _ _ 0 (seen_leading s ∙ omega arith);
       }
 
   -- ---- from the reading to the marked lines

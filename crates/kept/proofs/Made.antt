@@ -1,5 +1,0 @@
--- What tools/walk.py made: derivations of the functions over slices of records. Assumes nothing.
-pub mod KeepKinds
-pub mod KeepLts
-pub mod KeepReads
-pub mod KeptElem
