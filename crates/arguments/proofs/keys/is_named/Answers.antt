@@ -1,0 +1,60 @@
+-- `arguments::keys::is_named` meets its contract: the letters compared with are those of the name. Assumes nothing.
+use Prim.Native.Nat.{ℕ, ◌+◌, ◌-◌, ◌≤◌, ◌<◌}
+use mathlib.Core.Path.{◌≡◌, refl, sym, ◌∙◌}
+use mathlib.Core.Bool.{Bool, false}
+use mathlib.Core.List.{List}
+use native.Mathlib.Omega.{arith}
+use lib.ListN.{get_or, length, drop, length-drop}
+use lib.Seq.{length-take-le}
+use Rattle.text.specs.Base.{part}
+use Rattle.text.specs.Parts.{same_bytes}
+use Rattle.text.specs.declared.parts.Span.{Span}
+use Rattle.text.proofs.LiteralLaws.{other_length}
+use Rattle.script.specs.Operations.{key_row}
+use Rattle.script.specs.Pieces.{bytes}
+use Rattle.script.specs.Inside.{In}
+use Rattle.script.proofs.Inside.{length-bytes}
+use Rattle.arguments.specs.KeyTables.{argument_keys, name_at, letters, Starts}
+use borrow.Author.Rules.{rules}
+use Rattle.arguments.proofs.keys.is_named.Goals as goal
+
+letters-length : length (letters argument_keys) ≡ 257
+unfolding letters key_row
+letters-length = refl
+
+module _ (n : ℕ) (small : n < 26) (table : List ℕ) (t : Starts table) where
+  forward : get_or table n 0 ≤ get_or table (n + 1) 0
+  forward = (t.rule n small).forward
+
+  inside : (names : List ℕ) → length names ≡ 257 → get_or table (n + 1) 0 ≤ length names
+  inside names l = rw l (t.rule n small).inside
+
+  compared : (names s : List ℕ) (r : Bool) → names ≡ letters argument_keys
+      → r ≡ same_bytes s (part names (get_or table n 0) (get_or table (n + 1) 0 - get_or table n 0)) → r ≡ same_bytes s (name_at n)
+  compared names s r l e = rw (l, (t.rule n small).bytes) at e
+
+  name-length : length (name_at n) ≡ get_or table (n + 1) 0 - get_or table n 0
+  name-length = let k = t.rule n small in rw (← k.bytes) (length-take-le _ (drop (get_or table n 0) (letters argument_keys)) (omega (arith, length-drop (get_or table n 0) (letters argument_keys), k.inside, letters-length)))
+
+  longer : (text : List ℕ) (p : Span) → In text p → (p.end - p.start ≡ get_or table (n + 1) 0 - get_or table n 0 → ⊥) → false ≡ same_bytes (bytes text p) (name_at n)
+  longer text p i h = other_length (bytes text p) (name_at n) (λ e. h (sym (length-bytes text p i) ∙ e ∙ name-length))
+
+ruleset places = (forward, inside, compared, longer)
+
+pub overflow_sub-end : goal.overflow_sub-end
+overflow_sub-end c = search (rules, places)
+
+pub returns-then-p-end : goal.returns-then-p-end
+returns-then-p-end c = search (rules, places)
+
+pub slice_bounds-is_word-count : goal.slice_bounds-is_word-count
+slice_bounds-is_word-count c = search (rules, places)
+
+pub slice_bounds-is_word-start : goal.slice_bounds-is_word-start
+slice_bounds-is_word-start c = search (rules, places)
+
+pub slice_bounds-is_word-end : goal.slice_bounds-is_word-end
+slice_bounds-is_word-end c = search (rules, places)
+
+pub returns : goal.returns
+returns c = search (rules, places)

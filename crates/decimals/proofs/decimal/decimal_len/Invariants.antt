@@ -1,0 +1,13 @@
+use Prim.Native.Nat.{◌+◌}
+use mathlib.Core.Path.{◌≡◌}
+use native.Mathlib.Omega.{arith}
+use lib.ListN.{length}
+use Rattle.values.specs.Decimal.{decimal}
+use Rattle.writing.proofs.DecimalLaws.{digits_one, digits_longer, tenth_less, decimal-length}
+use Rattle.decimals.proofs.decimal.decimal_len.Given as goal
+
+abbrev pub invariant-loop-rest : goal.invariant-loop-rest
+invariant-loop-rest l = l.len + length (decimal l.rest) ≡ length (decimal l.n) + 1
+
+abbrev pub decreases-loop-rest : goal.decreases-loop-rest
+decreases-loop-rest l = l.rest

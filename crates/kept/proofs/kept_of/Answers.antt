@@ -1,0 +1,6 @@
+-- `kept::kept_of` meets its contract. Assumes nothing.
+use borrow.Author.Rules.{rules}
+use Rattle.kept.proofs.kept_of.Goals as goal
+
+pub returns : goal.returns
+returns c = rw c.place_number.ensures

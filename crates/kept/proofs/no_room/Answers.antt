@@ -1,0 +1,7 @@
+-- `kept::no_room` meets its contract. Assumes nothing.
+use Rattle.kept.proofs.KeptLaws.{blank_memo}
+use borrow.Author.Rules.{rules}
+use Rattle.kept.proofs.no_room.Goals as goal
+
+pub returns : goal.returns
+returns c = λ text. rw c.blank.ensures (blank_memo text 1)

@@ -1,0 +1,57 @@
+-- `openings::named_role` meets its contract. Assumes nothing.
+use Prim.Native.Nat.{ℕ}
+use mathlib.Core.Path.{◌≡◌, sym, ◌∙◌}
+use mathlib.Core.Bool.{Bool, true, false}
+use mathlib.Core.List.{List}
+use Rattle.text.specs.Base.{if◌then◌else◌, BLANK}
+use Rattle.text.specs.declared.parts.Span.{Span}
+use Rattle.wire.specs.Operations.{named, op_of}
+use Rattle.wire.specs.declared.ops.Op.{Op}
+use Rattle.wire.specs.declared.ops.OpFound.{OpFound}
+use Rattle.wire.specs.declared.ops.OpFound.TheVariants as op
+use Rattle.script.specs.Answers.{given}
+use Rattle.script.specs.Operations.{form_of}
+use Rattle.script.specs.Pieces.{bytes, trim, cut_or}
+use Rattle.script.specs.Roles.{opening, set_on, open_on, with_name, with_stamp}
+use Rattle.script.specs.Timestamps.{stamped_as}
+use Rattle.script.specs.declared.records.Stamp.{Stamp}
+use Rattle.script.specs.declared.roles.Role.TheVariants.{Opens, Bad}
+use Rattle.openings.specs.OpeningRead.{halves}
+use Rattle.openings.specs.declared.Halves.{Halves}
+use borrow.Author.Rules.{rules}
+use Rattle.openings.proofs.named_role.Goals as goal
+
+module _ (text : List ℕ) (stamp : Stamp) (rest : Span) (c : Halves) (e : halves c ≡ cut_or text BLANK rest)
+    (f : OpFound) (g : op_of f ≡ named (bytes text c.before)) where
+  at_name : with_stamp text (given (stamped_as stamp rest)) ≡ with_name text stamp (op_of f) (trim text c.after)
+  unfolding with_stamp
+  at_name = rw (← e, g)
+
+  unknown : f ≡ op.Nothing → Bad 9 ≡ with_stamp text (given (stamped_as stamp rest))
+  unfolding with_name op_of
+  unknown n = sym (at_name ∙ rw n)
+
+  module _ (o : Op) (h : f ≡ op.Is o) (args : Span) (a : args ≡ trim text c.after) (b : Bool) (k : b ≡ open_on text (set_on text (form_of o).syntax args)) where
+    at_set : with_stamp text (given (stamped_as stamp rest)) ≡ (if b then Bad 10 else Opens (opening stamp o args))
+    unfolding with_name op_of
+    at_set = at_name ∙ rw (h, k, a)
+
+    open-set : b ≡ true → Bad 10 ≡ with_stamp text (given (stamped_as stamp rest))
+    open-set t = sym (at_set ∙ rw t)
+
+    opens : b ≡ false → Opens (opening stamp o args) ≡ with_stamp text (given (stamped_as stamp rest))
+    opens t = sym (at_set ∙ rw t)
+
+ruleset walk = (unknown, open-set, opens)
+
+pub returns-in_default : goal.returns-in_default
+unfolding bytes
+returns-in_default c = search (rules, walk)
+
+pub returns-then-set_open : goal.returns-then-set_open
+unfolding bytes
+returns-then-set_open c = search (rules, walk)
+
+pub returns : goal.returns
+unfolding bytes
+returns c = search (rules, walk)

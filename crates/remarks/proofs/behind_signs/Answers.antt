@@ -1,0 +1,23 @@
+-- `remarks::behind_signs` meets its contract. The loop's invariant: the signs from here end where those of the whole do. Assumes nothing.
+use Prim.Native.Nat.{◌-◌, ◌≤◌}
+use mathlib.Core.Path.{◌≡◌, refl}
+use lib.ListN.{length}
+use Rattle.text.specs.Parts.{span}
+use Rattle.script.specs.Pieces.{bytes}
+use Rattle.script.specs.Roles.{behind_signs}
+use Rattle.remarks.proofs.PreambleLaws.{sign_steps}
+use borrow.Author.Rules.{rules}
+use Rattle.remarks.proofs.behind_signs.Goals as goal
+
+pub loop-i-init : goal.loop-i-init
+loop-i-init c = (search rules, search rules, refl)
+
+pub returns-then-text-i-ne35 : goal.returns-then-text-i-ne35
+returns-then-text-i-ne35 c = search (rules, sign_steps)
+
+pub loop-i-preserved : goal.loop-i-preserved
+loop-i-preserved c = search (rules, sign_steps)
+
+pub returns : goal.returns
+unfolding bytes
+returns c = search (rules, sign_steps)

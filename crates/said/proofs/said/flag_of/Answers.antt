@@ -1,0 +1,13 @@
+-- `said::said::flag_of` meets its contract. Assumes nothing.
+use Rattle.said.proofs.SaidLaws.{said_laws}
+use borrow.Author.Rules.{rules}
+use Rattle.said.proofs.said.flag_of.Goals as goal
+
+pub is_word-requires : goal.is_word-requires
+is_word-requires c = search (rules, said_laws)
+
+pub returns-in-Absent : goal.returns-in-Absent
+returns-in-Absent c = search (rules, said_laws)
+
+pub returns-in-Is : goal.returns-in-Is
+returns-in-Is c = search (rules, said_laws)

@@ -1,0 +1,60 @@
+-- `sought::fields::path_info_value` meets its contract. Assumes nothing.
+use Rattle.sought.specs.Values.{value_bytes}
+use Rattle.verdicts.specs.Held.{path_info_of}
+use Rattle.verdicts.specs.Lookup.{fields, value_in}
+use Rattle.sought.proofs.ValueLaws.{told_same}
+use borrow.Author.Rules.{rules}
+use Rattle.sought.proofs.fields.path_info_value.Goals as goal
+
+pub returns-then-same : goal.returns-then-same
+unfolding value_bytes value_in fields path_info_of
+returns-then-same c = λ bytes lists. rw (told_same "valid" _ _ _ c.same.ensures c.if-same.true) (c.flag_value.ensures bytes lists)
+
+pub returns-then-same-2 : goal.returns-then-same-2
+unfolding value_bytes value_in fields path_info_of
+returns-then-same-2 c =
+    λ bytes lists. rw (
+      told_same "valid" _ _ _ c.same.ensures c.if-same.false,
+      told_same "deriver" _ _ _ c.same-2.ensures c.if-same-2.true,
+    ) (c.text_value.ensures bytes lists)
+
+pub returns-then-same-3 : goal.returns-then-same-3
+unfolding value_bytes value_in fields path_info_of
+returns-then-same-3 c =
+    λ bytes lists. rw (
+      told_same "valid" _ _ _ c.same.ensures c.if-same.false,
+      told_same "deriver" _ _ _ c.same-2.ensures c.if-same-2.false,
+      told_same "narHash" _ _ _ c.same-3.ensures c.if-same-3.true,
+    ) (c.text_value-then-same-3.ensures bytes lists)
+
+pub returns-then-same-4 : goal.returns-then-same-4
+unfolding value_bytes value_in fields path_info_of
+returns-then-same-4 c =
+    λ bytes lists. rw (
+      told_same "valid" _ _ _ c.same.ensures c.if-same.false,
+      told_same "deriver" _ _ _ c.same-2.ensures c.if-same-2.false,
+      told_same "narHash" _ _ _ c.same-3.ensures c.if-same-3.false,
+      told_same "narSize" _ _ _ c.same-4.ensures c.if-same-4.true,
+    ) (c.number_value.ensures bytes lists)
+
+pub returns-then-same-5 : goal.returns-then-same-5
+unfolding value_bytes value_in fields path_info_of
+returns-then-same-5 c =
+    λ bytes lists. rw (
+      told_same "valid" _ _ _ c.same.ensures c.if-same.false,
+      told_same "deriver" _ _ _ c.same-2.ensures c.if-same-2.false,
+      told_same "narHash" _ _ _ c.same-3.ensures c.if-same-3.false,
+      told_same "narSize" _ _ _ c.same-4.ensures c.if-same-4.false,
+      told_same "references" _ _ _ c.same-5.ensures c.if-same-5.true,
+    ) (c.list_value.ensures bytes lists)
+
+pub returns : goal.returns
+unfolding value_bytes value_in fields path_info_of
+returns c =
+    λ bytes lists. rw (
+      told_same "valid" _ _ _ c.same.ensures c.if-same.false,
+      told_same "deriver" _ _ _ c.same-2.ensures c.if-same-2.false,
+      told_same "narHash" _ _ _ c.same-3.ensures c.if-same-3.false,
+      told_same "narSize" _ _ _ c.same-4.ensures c.if-same-4.false,
+      told_same "references" _ _ _ c.same-5.ensures c.if-same-5.false,
+    )
