@@ -12,7 +12,7 @@ use text::lines::Line;
 use text::parts::Span;
 
 // The text, the place where the next line begins, and that line's number.
-#[derive(Drop)]
+#[derive(Clone, Copy)]
 pub struct Lines<'a> {
     text: &'a [u8],
     at: usize,

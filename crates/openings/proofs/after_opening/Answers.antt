@@ -2,8 +2,6 @@
 use Prim.Native.Nat.{ℕ}
 use mathlib.Core.Path.{◌≡◌, refl, sym, ap, ◌∙◌}
 use mathlib.Core.List.{List, [], ◌∷◌}
-use types.Run.{OneOf, miss}
-use denote.Enum.Declared.{tag_of}
 use Rattle.script.specs.Operations.{form_of}
 use Rattle.script.specs.Roles.{below, after_opening}
 use Rattle.script.specs.declared.roles.Opening.{Opening}
@@ -12,23 +10,18 @@ use Rattle.script.specs.declared.roles.Role.TheVariants.{Nothing, Says, Expects,
 use Rattle.script.specs.declared.roles.Takes.{Takes}
 use Rattle.script.specs.declared.roles.Where.{Where}
 use Rattle.script.specs.declared.roles.Where.TheVariants.{Outside}
-use Rattle.script.specs.contracts.roles.Role.{the_type}
 use borrow.Author.Rules.{rules}
 use Rattle.openings.proofs.after_opening.Goals as goal
 
 opens : (r : Role) (o : Opening) → r ≡ Opens o → (k : Takes) → k ≡ (form_of o.op).takes → (w : Where) → w ≡ below k → w ≡ after_opening r
 opens r o e k f w g = g ∙ ap below f ∙ ap after_opening (sym e)
 
--- the cases of the last arm
-abbrev others : List ℕ
-others = 0 ∷ 1 ∷ 2 ∷ 4 ∷ []
-
-other : (r : Role) → OneOf others (tag_of the_type r) → Outside ≡ after_opening r
-other Nothing h = refl
-other (Says s) h = refl
-other (Expects e) h = refl
-other (Opens o) h = absurd (miss others 3 tt h)
-other (Bad n) h = refl
+other : (r : Role) → (((o : ?) → r ≡ Opens o → ⊥) → Outside ≡ after_opening r
+other Nothing _ = refl
+other (Says s) _ = refl
+other (Expects e) _ = refl
+other (Opens o) h = absurd (h refl)
+other (Bad n) _ = refl
 
 ruleset walk = (opens)
 
@@ -36,4 +29,4 @@ pub returns-in-Opens : goal.returns-in-Opens
 returns-in-Opens c = search (rules, walk)
 
 pub returns-in_default : goal.returns-in_default
-returns-in_default c = other c.args.role c.in_default.in_default-own.keys2
+returns-in_default c = other c.args.role c.in_default.not-Opens

@@ -2,10 +2,7 @@
 use Prim.Native.Nat.{ℕ}
 use mathlib.Core.Path.{◌≡◌, refl, sym, ap}
 use mathlib.Core.List.{List, [], ◌∷◌}
-use types.Run.{OneOf, miss}
-use denote.Enum.Declared.{tag_of}
 use Rattle.wire.specs.declared.ops.Op.{Op}
-use Rattle.wire.specs.contracts.ops.Op.{the_type}
 use Rattle.wire.specs.declared.ops.Op.TheVariants.{IsValidPath, QueryReferrers, AddToStore, AddTextToStore, BuildPaths, EnsurePath, AddTempRoot, AddIndirectRoot, SyncWithGC, FindRoots, QueryDeriver, SetOptions, CollectGarbage, QuerySubstitutablePathInfo, QueryDerivationOutputs, QueryAllValidPaths, QueryPathInfo, QueryDerivationOutputNames, QueryPathFromHashPart, QuerySubstitutablePathInfos, QueryValidPaths, QuerySubstitutablePaths, QueryValidDerivers, OptimiseStore, VerifyStore, BuildDerivation, AddSignatures, NarFromPath, AddToStoreNar, QueryMissing, QueryDerivationOutputMap, RegisterDrvOutput, QueryRealisation, AddMultipleToStore, AddBuildLog, BuildPathsWithResults, AddPermRoot}
 use Rattle.script.specs.Operations.{form_of}
 use Rattle.openings.specs.OpeningRead.{set_place}
@@ -17,49 +14,45 @@ use Rattle.openings.proofs.set_place.Goals as goal
 is : (o op : Op) → op ≡ o → set_place (form_of o).syntax ≡ set_place (form_of op).syntax
 is o op e = ap (λ (p : Op). set_place (form_of p).syntax) (sym e)
 
--- the cases of its last arm
-abbrev others : List ℕ
-others = 0 ∷ 1 ∷ 2 ∷ 3 ∷ 5 ∷ 6 ∷ 7 ∷ 8 ∷ 9 ∷ 10 ∷ 11 ∷ 12 ∷ 13 ∷ 14 ∷ 15 ∷ 16 ∷ 17 ∷ 18 ∷ 22 ∷ 23 ∷ 24 ∷ 25 ∷ 27 ∷ 28 ∷ 30 ∷ 31 ∷ 32 ∷ 33 ∷ 34 ∷ 36 ∷ []
-
-other : (op : Op) → OneOf others (tag_of the_type op) → NoSet ≡ set_place (form_of op).syntax
+other : (op : Op) → (op ≡ BuildPaths → ⊥) → (op ≡ QuerySubstitutablePathInfos → ⊥) → (op ≡ QueryValidPaths → ⊥) → (op ≡ QuerySubstitutablePaths → ⊥) → (op ≡ AddSignatures → ⊥) → (op ≡ QueryMissing → ⊥) → (op ≡ BuildPathsWithResults → ⊥) → NoSet ≡ set_place (form_of op).syntax
 unfolding set_place form_of
-other IsValidPath h = refl
-other QueryReferrers h = refl
-other AddToStore h = refl
-other AddTextToStore h = refl
-other BuildPaths h = absurd (miss others 4 tt h)
-other EnsurePath h = refl
-other AddTempRoot h = refl
-other AddIndirectRoot h = refl
-other SyncWithGC h = refl
-other FindRoots h = refl
-other QueryDeriver h = refl
-other SetOptions h = refl
-other CollectGarbage h = refl
-other QuerySubstitutablePathInfo h = refl
-other QueryDerivationOutputs h = refl
-other QueryAllValidPaths h = refl
-other QueryPathInfo h = refl
-other QueryDerivationOutputNames h = refl
-other QueryPathFromHashPart h = refl
-other QuerySubstitutablePathInfos h = absurd (miss others 19 tt h)
-other QueryValidPaths h = absurd (miss others 20 tt h)
-other QuerySubstitutablePaths h = absurd (miss others 21 tt h)
-other QueryValidDerivers h = refl
-other OptimiseStore h = refl
-other VerifyStore h = refl
-other BuildDerivation h = refl
-other AddSignatures h = absurd (miss others 26 tt h)
-other NarFromPath h = refl
-other AddToStoreNar h = refl
-other QueryMissing h = absurd (miss others 29 tt h)
-other QueryDerivationOutputMap h = refl
-other RegisterDrvOutput h = refl
-other QueryRealisation h = refl
-other AddMultipleToStore h = refl
-other AddBuildLog h = refl
-other BuildPathsWithResults h = absurd (miss others 35 tt h)
-other AddPermRoot h = refl
+other IsValidPath _ _ _ _ _ _ _ = refl
+other QueryReferrers _ _ _ _ _ _ _ = refl
+other AddToStore _ _ _ _ _ _ _ = refl
+other AddTextToStore _ _ _ _ _ _ _ = refl
+other BuildPaths h0 _ _ _ _ _ _ = absurd (h0 refl)
+other EnsurePath _ _ _ _ _ _ _ = refl
+other AddTempRoot _ _ _ _ _ _ _ = refl
+other AddIndirectRoot _ _ _ _ _ _ _ = refl
+other SyncWithGC _ _ _ _ _ _ _ = refl
+other FindRoots _ _ _ _ _ _ _ = refl
+other QueryDeriver _ _ _ _ _ _ _ = refl
+other SetOptions _ _ _ _ _ _ _ = refl
+other CollectGarbage _ _ _ _ _ _ _ = refl
+other QuerySubstitutablePathInfo _ _ _ _ _ _ _ = refl
+other QueryDerivationOutputs _ _ _ _ _ _ _ = refl
+other QueryAllValidPaths _ _ _ _ _ _ _ = refl
+other QueryPathInfo _ _ _ _ _ _ _ = refl
+other QueryDerivationOutputNames _ _ _ _ _ _ _ = refl
+other QueryPathFromHashPart _ _ _ _ _ _ _ = refl
+other QuerySubstitutablePathInfos _ h1 _ _ _ _ _ = absurd (h1 refl)
+other QueryValidPaths _ _ h2 _ _ _ _ = absurd (h2 refl)
+other QuerySubstitutablePaths _ _ _ h3 _ _ _ = absurd (h3 refl)
+other QueryValidDerivers _ _ _ _ _ _ _ = refl
+other OptimiseStore _ _ _ _ _ _ _ = refl
+other VerifyStore _ _ _ _ _ _ _ = refl
+other BuildDerivation _ _ _ _ _ _ _ = refl
+other AddSignatures _ _ _ _ h4 _ _ = absurd (h4 refl)
+other NarFromPath _ _ _ _ _ _ _ = refl
+other AddToStoreNar _ _ _ _ _ _ _ = refl
+other QueryMissing _ _ _ _ _ h5 _ = absurd (h5 refl)
+other QueryDerivationOutputMap _ _ _ _ _ _ _ = refl
+other RegisterDrvOutput _ _ _ _ _ _ _ = refl
+other QueryRealisation _ _ _ _ _ _ _ = refl
+other AddMultipleToStore _ _ _ _ _ _ _ = refl
+other AddBuildLog _ _ _ _ _ _ _ = refl
+other BuildPathsWithResults _ _ _ _ _ _ h6 = absurd (h6 refl)
+other AddPermRoot _ _ _ _ _ _ _ = refl
 
 pub returns-in-BuildPaths : goal.returns-in-BuildPaths
 unfolding set_place form_of
@@ -90,4 +83,4 @@ unfolding set_place form_of
 returns-in-BuildPathsWithResults c = is BuildPathsWithResults _ c.in-BuildPathsWithResults.is
 
 pub returns-in_default : goal.returns-in_default
-returns-in_default c = other c.args.op c.in_default.in_default-own.keys8
+returns-in_default c = other c.args.op c.in_default.not-BuildPaths c.in_default.not-QuerySubstitutablePathInfos c.in_default.not-QueryValidPaths c.in_default.not-QuerySubstitutablePaths c.in_default.not-AddSignatures c.in_default.not-QueryMissing c.in_default.not-BuildPathsWithResults

@@ -2,10 +2,7 @@
 use Prim.Native.Nat.{ℕ}
 use mathlib.Core.Path.{◌≡◌, refl, sym, ap}
 use mathlib.Core.List.{List, [], ◌∷◌}
-use types.Run.{OneOf, miss}
-use denote.Enum.Declared.{tag_of}
 use Rattle.wire.specs.declared.ops.Op.{Op}
-use Rattle.wire.specs.contracts.ops.Op.{the_type}
 use Rattle.wire.specs.declared.ops.Op.TheVariants.{IsValidPath, QueryReferrers, AddToStore, AddTextToStore, BuildPaths, EnsurePath, AddTempRoot, AddIndirectRoot, SyncWithGC, FindRoots, QueryDeriver, SetOptions, CollectGarbage, QuerySubstitutablePathInfo, QueryDerivationOutputs, QueryAllValidPaths, QueryPathInfo, QueryDerivationOutputNames, QueryPathFromHashPart, QuerySubstitutablePathInfos, QueryValidPaths, QuerySubstitutablePaths, QueryValidDerivers, OptimiseStore, VerifyStore, BuildDerivation, AddSignatures, NarFromPath, AddToStoreNar, QueryMissing, QueryDerivationOutputMap, RegisterDrvOutput, QueryRealisation, AddMultipleToStore, AddBuildLog, BuildPathsWithResults, AddPermRoot}
 use Rattle.script.specs.Operations.{form_of}
 use Rattle.script.specs.declared.roles.Takes.TheVariants.{NoLines}
@@ -16,49 +13,45 @@ use Rattle.openings.proofs.takes_of.Goals as goal
 is : (o op : Op) → op ≡ o → (form_of o).takes ≡ (form_of op).takes
 is o op e = ap (λ (p : Op). (form_of p).takes) (sym e)
 
--- the cases of its last arm
-abbrev others : List ℕ
-others = 0 ∷ 1 ∷ 4 ∷ 5 ∷ 6 ∷ 7 ∷ 8 ∷ 9 ∷ 10 ∷ 13 ∷ 14 ∷ 15 ∷ 16 ∷ 17 ∷ 18 ∷ 19 ∷ 20 ∷ 21 ∷ 22 ∷ 23 ∷ 26 ∷ 27 ∷ 29 ∷ 30 ∷ 31 ∷ 32 ∷ 35 ∷ 36 ∷ []
-
-other : (op : Op) → OneOf others (tag_of the_type op) → NoLines ≡ (form_of op).takes
+other : (op : Op) → (op ≡ AddToStore → ⊥) → (op ≡ AddTextToStore → ⊥) → (op ≡ SetOptions → ⊥) → (op ≡ CollectGarbage → ⊥) → (op ≡ VerifyStore → ⊥) → (op ≡ BuildDerivation → ⊥) → (op ≡ AddToStoreNar → ⊥) → (op ≡ AddMultipleToStore → ⊥) → (op ≡ AddBuildLog → ⊥) → NoLines ≡ (form_of op).takes
 unfolding form_of
-other IsValidPath h = refl
-other QueryReferrers h = refl
-other AddToStore h = absurd (miss others 2 tt h)
-other AddTextToStore h = absurd (miss others 3 tt h)
-other BuildPaths h = refl
-other EnsurePath h = refl
-other AddTempRoot h = refl
-other AddIndirectRoot h = refl
-other SyncWithGC h = refl
-other FindRoots h = refl
-other QueryDeriver h = refl
-other SetOptions h = absurd (miss others 11 tt h)
-other CollectGarbage h = absurd (miss others 12 tt h)
-other QuerySubstitutablePathInfo h = refl
-other QueryDerivationOutputs h = refl
-other QueryAllValidPaths h = refl
-other QueryPathInfo h = refl
-other QueryDerivationOutputNames h = refl
-other QueryPathFromHashPart h = refl
-other QuerySubstitutablePathInfos h = refl
-other QueryValidPaths h = refl
-other QuerySubstitutablePaths h = refl
-other QueryValidDerivers h = refl
-other OptimiseStore h = refl
-other VerifyStore h = absurd (miss others 24 tt h)
-other BuildDerivation h = absurd (miss others 25 tt h)
-other AddSignatures h = refl
-other NarFromPath h = refl
-other AddToStoreNar h = absurd (miss others 28 tt h)
-other QueryMissing h = refl
-other QueryDerivationOutputMap h = refl
-other RegisterDrvOutput h = refl
-other QueryRealisation h = refl
-other AddMultipleToStore h = absurd (miss others 33 tt h)
-other AddBuildLog h = absurd (miss others 34 tt h)
-other BuildPathsWithResults h = refl
-other AddPermRoot h = refl
+other IsValidPath _ _ _ _ _ _ _ _ _ = refl
+other QueryReferrers _ _ _ _ _ _ _ _ _ = refl
+other AddToStore h0 _ _ _ _ _ _ _ _ = absurd (h0 refl)
+other AddTextToStore _ h1 _ _ _ _ _ _ _ = absurd (h1 refl)
+other BuildPaths _ _ _ _ _ _ _ _ _ = refl
+other EnsurePath _ _ _ _ _ _ _ _ _ = refl
+other AddTempRoot _ _ _ _ _ _ _ _ _ = refl
+other AddIndirectRoot _ _ _ _ _ _ _ _ _ = refl
+other SyncWithGC _ _ _ _ _ _ _ _ _ = refl
+other FindRoots _ _ _ _ _ _ _ _ _ = refl
+other QueryDeriver _ _ _ _ _ _ _ _ _ = refl
+other SetOptions _ _ h2 _ _ _ _ _ _ = absurd (h2 refl)
+other CollectGarbage _ _ _ h3 _ _ _ _ _ = absurd (h3 refl)
+other QuerySubstitutablePathInfo _ _ _ _ _ _ _ _ _ = refl
+other QueryDerivationOutputs _ _ _ _ _ _ _ _ _ = refl
+other QueryAllValidPaths _ _ _ _ _ _ _ _ _ = refl
+other QueryPathInfo _ _ _ _ _ _ _ _ _ = refl
+other QueryDerivationOutputNames _ _ _ _ _ _ _ _ _ = refl
+other QueryPathFromHashPart _ _ _ _ _ _ _ _ _ = refl
+other QuerySubstitutablePathInfos _ _ _ _ _ _ _ _ _ = refl
+other QueryValidPaths _ _ _ _ _ _ _ _ _ = refl
+other QuerySubstitutablePaths _ _ _ _ _ _ _ _ _ = refl
+other QueryValidDerivers _ _ _ _ _ _ _ _ _ = refl
+other OptimiseStore _ _ _ _ _ _ _ _ _ = refl
+other VerifyStore _ _ _ _ h4 _ _ _ _ = absurd (h4 refl)
+other BuildDerivation _ _ _ _ _ h5 _ _ _ = absurd (h5 refl)
+other AddSignatures _ _ _ _ _ _ _ _ _ = refl
+other NarFromPath _ _ _ _ _ _ _ _ _ = refl
+other AddToStoreNar _ _ _ _ _ _ h6 _ _ = absurd (h6 refl)
+other QueryMissing _ _ _ _ _ _ _ _ _ = refl
+other QueryDerivationOutputMap _ _ _ _ _ _ _ _ _ = refl
+other RegisterDrvOutput _ _ _ _ _ _ _ _ _ = refl
+other QueryRealisation _ _ _ _ _ _ _ _ _ = refl
+other AddMultipleToStore _ _ _ _ _ _ _ h7 _ = absurd (h7 refl)
+other AddBuildLog _ _ _ _ _ _ _ _ h8 = absurd (h8 refl)
+other BuildPathsWithResults _ _ _ _ _ _ _ _ _ = refl
+other AddPermRoot _ _ _ _ _ _ _ _ _ = refl
 
 pub returns-in-AddToStore : goal.returns-in-AddToStore
 unfolding form_of
@@ -97,4 +90,4 @@ unfolding form_of
 returns-in-AddBuildLog c = is AddBuildLog _ c.in-AddBuildLog.is
 
 pub returns-in_default : goal.returns-in_default
-returns-in_default c = other c.args.op c.in_default.in_default-own.keys10
+returns-in_default c = other c.args.op c.in_default.not-AddToStore c.in_default.not-AddTextToStore c.in_default.not-SetOptions c.in_default.not-CollectGarbage c.in_default.not-VerifyStore c.in_default.not-BuildDerivation c.in_default.not-AddToStoreNar c.in_default.not-AddMultipleToStore c.in_default.not-AddBuildLog
