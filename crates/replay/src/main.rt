@@ -4,8 +4,10 @@
 #![tactic(auto)]
 
 ghost use Rattle.std.specs.Prelude.{◌+◌, ◌≤◌, length};
+ghost use Rattle.std.specs.Io.{ReadsAtMost};
 
-use libc::STDOUT_FILENO;
+use std::io;
+use std::io::Read;
 
 // What a line of the input came to.
 #[derive(Clone, Copy)]
@@ -263,20 +265,35 @@ fn codes_wrong(codes: &[u32]) -> u32 {
     wrong
 }
 
-fn say(words: &[u8], n: u64) {
-    io::write_all(STDOUT_FILENO, words);
-    io::print_decimal(STDOUT_FILENO, n);
+fn say(rt: &impl Print, words: &[u8], n: u64) -> io::Result<()> {
+    rt.write_all(words)?;
+    rt.print(n)
 }
 
-fn main() {
-    let mut input = io::large_buffer();
-    let n = io::read_full(0, &mut input);
+// Reads until the room is full or the input ends: how many bytes stand at the front of the room.
+fn read_full(input: &mut impl Read, room: &mut [u8]) -> io::Result<usize>
+    ensures { ReadsAtMost result room.new }
+{
+    let mut done = 0;
+    while done < room.len() {
+        let n = input.read(&mut room[done..])?;
+        if n == 0 {
+            break;
+        }
+        done += n;
+    }
+    Ok(done)
+}
+
+fn main(rt: HostRuntime) -> io::Result<()> {
+    let mut input = [0u8; 65536];
+    let n = read_full(&mut rt.stdin(), &mut input)?;
     let mut codes = [0xFFFF_FFFFu32; 32];
     let tally = read_cases(&input[..n], &mut codes);
-    say(b"white space ", tally.white as u64);
-    say(b"\ngood ", tally.good as u64);
-    say(b"\nbad ", tally.bad as u64);
-    say(b"\nwrong ", tally.wrong as u64);
-    say(b"\ncode points wrong ", codes_wrong(&codes) as u64);
-    io::write_all(STDOUT_FILENO, b"\n");
+    say(&rt, b"white space ", tally.white as u64)?;
+    say(&rt, b"\ngood ", tally.good as u64)?;
+    say(&rt, b"\nbad ", tally.bad as u64)?;
+    say(&rt, b"\nwrong ", tally.wrong as u64)?;
+    say(&rt, b"\ncode points wrong ", codes_wrong(&codes) as u64)?;
+    rt.write_all(b"\n")
 }

@@ -6,6 +6,7 @@
 #![tactic(auto)]
 
 ghost use Rattle.std.specs.Prelude.{◌≡◌, ◌≤◌, length};
+ghost use Rattle.std.specs.Io.{ReadsAtMost};
 ghost use Rattle.cases.specs.Cases.{total};
 ghost use Rattle.replay_script.specs.Answers.{read_replayed, judged_replayed, line_replayed};
 ghost use Rattle.replay_script.specs.Tallies.{all_counted};
@@ -15,7 +16,8 @@ mod judged;
 mod measured;
 
 use cases::{Case, Tally};
-use libc::STDOUT_FILENO;
+use std::io;
+use std::io::Read;
 
 // What follows the word `read`.
 fn replay_read(line: &[u8], from: usize) -> Case
@@ -82,20 +84,35 @@ fn replay_all(input: &[u8]) -> Tally
     tally
 }
 
+// Reads until the room is full or the input ends: how many bytes stand at the front of the room.
+fn read_full(input: &mut impl Read, room: &mut [u8]) -> io::Result<usize>
+    ensures { ReadsAtMost result room.new }
+{
+    let mut done = 0;
+    while done < room.len() {
+        let n = input.read(&mut room[done..])?;
+        if n == 0 {
+            break;
+        }
+        done += n;
+    }
+    Ok(done)
+}
+
 // An input that does not fit is not replayed to its end: that is one case wrong.
-fn with_unread(tally: Tally) -> Tally
+fn with_unread(input: &mut impl Read, tally: Tally) -> io::Result<Tally>
     requires { total tally ≤ 0x100000 }
 {
     let mut beyond = [0u8; 1];
-    if io::read_full(0, &mut beyond) == 0 {
-        return tally;
+    if read_full(input, &mut beyond)? == 0 {
+        return Ok(tally);
     }
-    tally.with(Case::Wrong)
+    Ok(tally.with(Case::Wrong))
 }
 
-fn say(words: &[u8], n: usize) {
-    io::write_all(STDOUT_FILENO, words);
-    io::print_decimal(STDOUT_FILENO, n as u64);
+fn say(rt: &impl Print, words: &[u8], n: usize) -> io::Result<()> {
+    rt.write_all(words)?;
+    rt.print(n)
 }
 
 // A room for the input, made apart: a proof that has it at hand looks at each of its bytes.
@@ -103,14 +120,15 @@ fn room() -> [u8; 0x100000] {
     [0u8; 0x100000]
 }
 
-fn main() {
+fn main(rt: HostRuntime) -> io::Result<()> {
+    let mut stdin = rt.stdin();
     let mut input = room();
-    let n = io::read_full(0, &mut input);
-    let tally = with_unread(replay_all(&input[..n]));
-    say(b"read ", tally.read);
-    say(b"\nrefused ", tally.refused);
-    say(b"\ndumped ", tally.dumped);
-    say(b"\njudged ", tally.judged);
-    say(b"\nwrong ", tally.wrong);
-    io::write_all(STDOUT_FILENO, b"\n");
+    let n = read_full(&mut stdin, &mut input)?;
+    let tally = with_unread(&mut stdin, replay_all(&input[..n]))?;
+    say(&rt, b"read ", tally.read)?;
+    say(&rt, b"\nrefused ", tally.refused)?;
+    say(&rt, b"\ndumped ", tally.dumped)?;
+    say(&rt, b"\njudged ", tally.judged)?;
+    say(&rt, b"\nwrong ", tally.wrong)?;
+    rt.write_all(b"\n")
 }
