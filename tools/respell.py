@@ -1,7 +1,8 @@
 #!/usr/bin/env python3
 """Spells this repository's own definitions and lemmas as today's Rattle does: words in snake case, a dash only between two names, `'` for a prime.
 
-usage: tools/respell.py [--check]     at the top of the repository, once, after /opt/rattle/port/port.py
+usage: tools/respell.py [--check]          at the top of the repository, once, after /opt/rattle/port/port.py
+       tools/respell.py --constructors     once, later: the names of CONSTRUCTORS, in must-fail edits too
 
 It reads what specs/ and the lemma files of proofs/ declare and writes the new spellings in every .antt file and in the clauses and `ghost` lines of every .rt
 file. Functions of src/, exported names, strings, inputs and outputs keep theirs. It prints names that would fall together and stops before it writes then.
@@ -18,6 +19,11 @@ nothing-checked of-handshake one-of pair-in piece-length place-in preamble-expec
 OTHER = {n: n.replace("-", "_") + "_lem" for n in LEMMAS}
 # A field of a lemma's record, beside the definition `allWhite`.
 OTHER["all_white"] = "is_all_white"
+# Constructors and fields that stand several on a line, and local names: no declaration of a line shows them.
+CONSTRUCTORS = """aFeatureSet aFlag aHex aList aQuoted aSet aText aVersion addBuildLog addMultipleToStore addPermRoot addSignatures addTextToStore addToStore
+behindColon behindDot behindResult bytesFreed downloadSize greaterOrEqual greaterThan inBraces inList lessOrEqual lessThan listOpen oneSet oneText pathSetFlag
+pathSetMode pathThenSet pathThenText queryRealisation querySubstitutablePathInfo querySubstitutablePathInfos rawBytes registerDrvOutput setOptions singlePath
+singleString someData verifyStore""".split()
 TOKEN = re.compile(r"[^\s(){}.;,@\"«»]+")
 DECLARED = re.compile(r"^( *)(?:(?:unfoldable|abbrev|pub|data|record|ruleset|open) +)*([^\s(){}.;,@\"«»:=]+)(?: +\{[^{}\n]*\})*\s*(?::(?!:)|=)")
 QUIET = re.compile(r'--[^\n]*|"(?:[^"\\\n]|\\.)*"')
@@ -141,7 +147,24 @@ def clashes(rows):
     return found
 
 
+def constructors():
+    rows = {n: snake(n) for n in CONSTRUCTORS}
+    found = clashes(rows)
+    for (n, olds), where in sorted(found.items()):
+        print(f"falls together: {n} <- {', '.join(olds)}: {' '.join(where[:4])}")
+    if found or "--check" in sys.argv:
+        return 1 if found else 0
+    for p in texts("antt") + texts("rt") + sorted(glob.glob("crates/*/must-fail/*.edit")):
+        new = spell(read(p), rows) if p.endswith(".edit") else turned(p, rows)
+        if new != read(p):
+            with open(p, "w", encoding="utf-8") as f:
+                f.write(new)
+    return 0
+
+
 def main():
+    if "--constructors" in sys.argv:
+        return constructors()
     rows, names = table()
     found = clashes(rows)
     for (n, olds), where in sorted(found.items()):

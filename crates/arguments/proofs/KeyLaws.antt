@@ -18,7 +18,6 @@ use Rattle.script.specs.Operations.{key_row, same_key, keys_of, key_in}
 use Rattle.script.specs.declared.roles.Takes.{Takes}
 use Rattle.script.specs.declared.roles.Takes.TheVariants.{NoLines, Options, Garbage, Verify, Texts, Store, Multiple, FirstData, FirstRaw}
 use Rattle.script.specs.declared.roles.Key.{Key}
-use Rattle.script.specs.declared.roles.Key.TheVariants as Key
 use Rattle.arguments.specs.KeyTables.{argument_keys, key_at, name_at, letters, Spelt, Starts, name_sum, Meant, Hints}
 
 -- ---- one test for all

@@ -6,7 +6,6 @@ use Rattle.text.specs.Parts.{same_bytes}
 use Rattle.text.proofs.LiteralLaws.{codes}
 use Rattle.script.specs.Operations.{key_row, keys_of, key_in}
 use Rattle.script.specs.declared.roles.Key.{Key}
-use Rattle.script.specs.declared.roles.Key.TheVariants as Key
 use Rattle.script.specs.declared.roles.Takes.{Takes}
 use Rattle.script.specs.declared.roles.Takes.TheVariants.{NoLines, Options, Garbage, Verify, Texts, Store, Multiple, FirstData, FirstRaw}
 

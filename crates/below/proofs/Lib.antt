@@ -1,2 +1,1 @@
 pub mod LinesLaws
-pub mod Made

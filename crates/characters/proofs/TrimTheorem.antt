@@ -11,10 +11,9 @@ use Rattle.text.proofs.Scan.{both, by_cases}
 use Rattle.characters.proofs.Scalars.{coded}
 use Rattle.text.proofs.TrimLaws.{strip_on, strip_done}
 use Rattle.characters.proofs.TrimChars.{off}
-use Rattle.characters.proofs.Unicode.{encodings_are_well_formed, well_formed_are_encodings}
 use Rattle.text.specs.Base.{if◌then◌else◌}
-use Rattle.text.specs.Utf8.{Range, well_formed}
-use Rattle.text.specs.Unicode.{scalar, all_scalars, encoded, spread, encoded_all, scalars, white}
+use Rattle.text.specs.Utf8.{Range}
+use Rattle.text.specs.Unicode.{scalar, all_scalars, encoded, spread, encoded_all, white}
 use Rattle.text.specs.Trim.{front_trimmed, scalars_trimmed, white_bytes, backwards, size_of, strip_from, trimmed_front, trimmed_back, trimmed}
 
 -- ---- one end: by the rows, and how a scalar value is written when read from that end
@@ -75,7 +74,7 @@ scalars-reverse (c ∷ cs) v =
     let p = both (scalar c) (all_scalars cs) v in
     rw (reverse-append (c ∷ []) cs) (scalars-append (reverse cs) (c ∷ []) (scalars-reverse cs p.1) (rw p.0))
 
-both_scalars : (cs : List ℕ) → all_scalars cs ≡ true → all_scalars (scalars_trimmed cs) ≡ true
+pub both_scalars : (cs : List ℕ) → all_scalars cs ≡ true → all_scalars (scalars_trimmed cs) ≡ true
 unfolding scalars_trimmed
 both_scalars cs v = scalars-reverse _ (front_scalars _ (scalars-reverse _ (front_scalars cs v)))
 
@@ -98,13 +97,3 @@ at_back cs v =
 pub trimmed_encodings : (cs : List ℕ) → all_scalars cs ≡ true → trimmed (encoded_all cs) ≡ encoded_all (scalars_trimmed cs)
 unfolding trimmed encoded_all scalars_trimmed
 trimmed_encodings cs v = ap trimmed_back (at_front cs v) ∙ at_back (front_trimmed cs) (front_scalars cs v)
-
--- of a well-formed text: its scalar values are trimmed
-pub trimmed-text : (s : List ℕ) → well_formed s ≡ true → trimmed s ≡ encoded_all (scalars_trimmed (scalars s))
-trimmed-text s w = let d = well_formed_are_encodings s w in ap trimmed d.is ∙ trimmed_encodings (scalars s) d.valid
-
--- and what is left is well formed
-pub trimmed_is_well_formed : (s : List ℕ) → well_formed s ≡ true → well_formed (trimmed s) ≡ true
-trimmed_is_well_formed s w =
-    let d = well_formed_are_encodings s w in
-    ap well_formed (trimmed-text s w) ∙ encodings_are_well_formed (scalars_trimmed (scalars s)) (both_scalars (scalars s) d.valid)

@@ -9,7 +9,7 @@ use Rattle.text.specs.Utf8.{well_formed}
 use Rattle.text.specs.Unicode.{all_scalars, encoded_all, scalars}
 use Rattle.text.specs.Trim.{scalars_trimmed, trimmed}
 use Rattle.characters.proofs.Unicode.{encodings_are_well_formed, encodings_are_decoded, well_formed_are_encodings}
-use Rattle.characters.proofs.TrimTheorem.{trimmed-text}
+use Rattle.characters.proofs.TrimmedTexts.{trimmed-text}
 use Rattle.script.specs.Reading.{read_into}
 use Rattle.script.specs.declared.records.Entry.{Entry}
 use Rattle.script.specs.declared.records.Expectation.{Expectation}
@@ -46,13 +46,13 @@ use Rattle.tell.specs.contracts.message.handshake_message_at as handshake-messag
 use Rattle.tell.proofs.message.handshake_message_at.Symbol as handshake-message-code
 use Rattle.tell.proofs.message.handshake_message_at.Met as handshake-message-theorem
 use Rattle.listing.specs.contracts.whole.list as list
-use Rattle.listing.proofs.whole.list.Symbol as List-code
+use Rattle.listing.proofs.whole.list.Symbol as list-code
 use Rattle.listing.proofs.whole.list.Met as list-theorem
 use Rattle.script_run.specs.contracts.running.run_script as run
 use Rattle.script_run.proofs.running.run_script.Symbol as run-code
 use Rattle.script_run.proofs.running.run_script.Met as run-theorem
 use Rattle.ran.proofs.DemandThree as three
-use Rattle.claims.specs.Total.{Total}
+use Rattle.claims.specs.Total.{TotalWherever}
 use Rattle.claims.specs.WhiteSpace.{Trimmed}
 use Rattle.claims.proofs.DemandOne.{total}
 use Rattle.table.proofs.Table.{Rows, table}
@@ -61,31 +61,32 @@ use Rattle.claims.proofs.WhiteSpace.{trimmed-is}
 -- ---- DEMAND 1: total and in bounds
 
 -- Whatever text, table or response a public entry is handed, it ends, does not trap, and reads and writes nothing outside what it was lent (`Total`,
--- specs/Total.antt, says it of the machine's run). Shown by each function's theorem, that it meets its contract; no contract here has a `requires`.
+-- specs/Total.antt, says it of the machine's run; `TotalWherever`, wherever its code stands). Shown by each function's theorem, that it meets its contract;
+-- no contract here has a `requires`.
 -- In this order: Measure; Read; a fresh tally; Judge, of the handshake and of an entry; Close; Message, of an entry and of the handshake; a text
 -- read and judged by a list of calls; the listing.
 pub demand_one :
-    Total measure.signature measure-code.routine
-    × Total read.signature read-code.routine
-    × Total new.signature new-code.routine
-    × Total handshake.signature handshake-code.routine
-    × Total entry.signature entry-code.routine
-    × Total close.signature close-code.routine
-    × Total entry-message.signature entry-message-code.routine
-    × Total handshake-message.signature handshake-message-code.routine
-    × Total run.signature run-code.routine
-    × Total list.signature List-code.routine
+    TotalWherever measure.signature measure-code.code measure-code.name
+    × TotalWherever read.signature read-code.code read-code.name
+    × TotalWherever new.signature new-code.code new-code.name
+    × TotalWherever handshake.signature handshake-code.code handshake-code.name
+    × TotalWherever entry.signature entry-code.code entry-code.name
+    × TotalWherever close.signature close-code.code close-code.name
+    × TotalWherever entry-message.signature entry-message-code.code entry-message-code.name
+    × TotalWherever handshake-message.signature handshake-message-code.code handshake-message-code.name
+    × TotalWherever run.signature run-code.code run-code.name
+    × TotalWherever list.signature list-code.code list-code.name
 demand_one = (
-  total measure.signature measure-code.routine (λ M 𝓤 𝓛. measure.spec 𝓛) (λ M. measure-theorem.met) (λ M 𝓤 𝓛 mem run κs a. (tt, refl)),
-  total read.signature read-code.routine (λ M 𝓤 𝓛. read.spec 𝓛) (λ M. read-theorem.met) (λ M 𝓤 𝓛 mem run κs a. (tt, refl)),
-  total new.signature new-code.routine (λ M 𝓤 𝓛. new.spec 𝓛) (λ M. new-theorem.met) (λ M 𝓤 𝓛 mem run κs a. (tt, refl)),
-  total handshake.signature handshake-code.routine (λ M 𝓤 𝓛. handshake.spec 𝓛) (λ M. handshake-theorem.met) (λ M 𝓤 𝓛 mem run κs a. (tt, refl)),
-  total entry.signature entry-code.routine (λ M 𝓤 𝓛. entry.spec 𝓛) (λ M. entry-theorem.met) (λ M 𝓤 𝓛 mem run κs a. (tt, refl)),
-  total close.signature close-code.routine (λ M 𝓤 𝓛. close.spec 𝓛) (λ M. close-theorem.met) (λ M 𝓤 𝓛 mem run κs a. (tt, refl)),
-  total entry-message.signature entry-message-code.routine (λ M 𝓤 𝓛. entry-message.spec 𝓛) (λ M. entry-message-theorem.met) (λ M 𝓤 𝓛 mem run κs a. (tt, refl)),
-  total handshake-message.signature handshake-message-code.routine (λ M 𝓤 𝓛. handshake-message.spec 𝓛) (λ M. handshake-message-theorem.met) (λ M 𝓤 𝓛 mem run κs a. (tt, refl)),
-  total run.signature run-code.routine (λ M 𝓤 𝓛. run.spec 𝓛) (λ M. run-theorem.met) (λ M 𝓤 𝓛 mem run κs a. (tt, refl)),
-  total list.signature List-code.routine (λ M 𝓤 𝓛. list.spec 𝓛) (λ M. list-theorem.met) (λ M 𝓤 𝓛 mem run κs a. (tt, refl)),
+  total measure.signature measure-code.code measure-code.name (λ M 𝓤 𝓛. measure.spec 𝓛) (λ M. measure-theorem.met) (λ M 𝓤 𝓛 mem run κs a. (tt, refl)),
+  total read.signature read-code.code read-code.name (λ M 𝓤 𝓛. read.spec 𝓛) (λ M. read-theorem.met) (λ M 𝓤 𝓛 mem run κs a. (tt, refl)),
+  total new.signature new-code.code new-code.name (λ M 𝓤 𝓛. new.spec 𝓛) (λ M. new-theorem.met) (λ M 𝓤 𝓛 mem run κs a. (tt, refl)),
+  total handshake.signature handshake-code.code handshake-code.name (λ M 𝓤 𝓛. handshake.spec 𝓛) (λ M. handshake-theorem.met) (λ M 𝓤 𝓛 mem run κs a. (tt, refl)),
+  total entry.signature entry-code.code entry-code.name (λ M 𝓤 𝓛. entry.spec 𝓛) (λ M. entry-theorem.met) (λ M 𝓤 𝓛 mem run κs a. (tt, refl)),
+  total close.signature close-code.code close-code.name (λ M 𝓤 𝓛. close.spec 𝓛) (λ M. close-theorem.met) (λ M 𝓤 𝓛 mem run κs a. (tt, refl)),
+  total entry-message.signature entry-message-code.code entry-message-code.name (λ M 𝓤 𝓛. entry-message.spec 𝓛) (λ M. entry-message-theorem.met) (λ M 𝓤 𝓛 mem run κs a. (tt, refl)),
+  total handshake-message.signature handshake-message-code.code handshake-message-code.name (λ M 𝓤 𝓛. handshake-message.spec 𝓛) (λ M. handshake-message-theorem.met) (λ M 𝓤 𝓛 mem run κs a. (tt, refl)),
+  total run.signature run-code.code run-code.name (λ M 𝓤 𝓛. run.spec 𝓛) (λ M. run-theorem.met) (λ M 𝓤 𝓛 mem run κs a. (tt, refl)),
+  total list.signature list-code.code list-code.name (λ M 𝓤 𝓛. list.spec 𝓛) (λ M. list-theorem.met) (λ M 𝓤 𝓛 mem run κs a. (tt, refl)),
 )
 
 -- ---- DEMAND 2, as far as it is proved: Unicode's own data. (That the answers are those of the Rust is shown by runs, docs/DIFFERENCES.md.)

@@ -5,10 +5,13 @@ use mir.Val.{Val}
 use base.Logic.{SProp, sep}
 use prog.Memory.{Memory}
 use prog.Machine.{done}
+use prog.Masks.{Masks}
 use prog.Model.{Model}
-use prog.Routine.{Routine}
+use prog.Routine.{Callee, Env, Routine, step}
+use prog.Wired.{Code, Wired}
 use types.Logic.{Logic}
 use contract.Adequate.{Satisfies}
+use contract.Running.{Carries}
 use denote.Signature.{Signature}
 use denote.Triple.Entry.{on_entry}
 use denote.Triple.Bound.{Bound, passed}
@@ -18,7 +21,11 @@ use denote.Triple.Bound.{Bound, passed}
 -- them, with some fuel it is done; and whatever else held of that memory holds still.
 unfoldable pub Total : Signature → Routine → Type 2
 Total signature routine =
-    (M : Type 1) (𝓤 : Ura M) (𝓛 : Logic 𝓤) (𝓜 : Model 𝓤 𝓛.H)
+    (M : Type 1) (𝓤 : Ura M) (𝓛 : Logic 𝓤) (𝓜 : Model 𝓤 𝓛.H) (𝓒 : Carries 𝓤 𝓛.H 𝓜 𝓛.H.turn) (𝓚 : Masks 𝓤 𝓛.H 𝓒.inner)
     (given : Bound 𝓛 signature) (memory : Memory) (else' : SProp 𝓤)
     → Satisfies 𝓤 𝓛.H 𝓜 memory (sep 𝓤 (on_entry 𝓛 signature given.0 given.1 given.3 given.4) else')
-    → ∥ ((fuel : ℕ) × (value : Val) × (after : Memory) × (routine.step fuel (passed 𝓛 signature given) memory ≡ done (value, after)) × Satisfies 𝓤 𝓛.H 𝓜 after else') ∥₁
+    → ∥ ((fuel : ℕ) × (value : Val) × (after : Memory) × (step routine fuel (passed 𝓛 signature given) memory ≡ done (value, after)) × Satisfies 𝓤 𝓛.H 𝓜 after else') ∥₁
+
+-- In every environment that has the function's code, and that of all below it, what its name means there is total.
+unfoldable pub TotalWherever : Signature → Code → Callee → Type 2
+TotalWherever signature code name = (environment : Env) → Wired environment code → Total signature (environment name)

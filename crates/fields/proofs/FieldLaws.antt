@@ -18,20 +18,13 @@ use Rattle.text.proofs.WordLaws.{known}
 use Rattle.values.specs.Numbers.{number, signed, number_of, integer_of}
 use Rattle.values.specs.Hex.{hex_decoded}
 use Rattle.values.specs.declared.number.Number.{Number}
-use Rattle.values.specs.declared.number.Number.TheVariants as Number
 use Rattle.values.specs.declared.number.Integer.{Integer}
-use Rattle.values.specs.declared.number.Integer.TheVariants as Integer
 use Rattle.hexadecimal.proofs.HexLaws.{hex_half}
 use Rattle.fields.specs.declared.numbers.NumberAt.{NumberAt}
-use Rattle.fields.specs.declared.numbers.NumberAt.TheVariants as NumberAt
 use Rattle.fields.specs.declared.numbers.IntegerAt.{IntegerAt}
-use Rattle.fields.specs.declared.numbers.IntegerAt.TheVariants as IntegerAt
 use Rattle.fields.specs.declared.numbers.NumbersAt.{NumbersAt}
-use Rattle.fields.specs.declared.numbers.NumbersAt.TheVariants as NumbersAt
 use Rattle.fields.specs.declared.bytes.BytesAt.{BytesAt}
-use Rattle.fields.specs.declared.bytes.BytesAt.TheVariants as BytesAt
 use Rattle.fields.specs.declared.bytes.Bytes.{Bytes}
-use Rattle.fields.specs.declared.bytes.Bytes.TheVariants as Bytes
 use Rattle.fields.specs.Fields.{Field, field, bad, after, field_of, behind, word_bytes, number_at, integer_at, numbers_at, hex_for, marked_hex, bytes_at, number_field, integer_field, numbers_field, bytes_in, byte_count, bytes_field, field_count}
 
 -- ---- numbers

@@ -42,9 +42,7 @@ use Rattle.script.specs.declared.records.Expect.TheVariants as Expect
 use Rattle.script.specs.declared.records.MaybeItems.TheVariants as MaybeItems
 use Rattle.script.specs.declared.records.Maybe.TheVariants as Maybe
 use Rattle.script.specs.declared.response.MaybeNumber.{MaybeNumber}
-use Rattle.script.specs.declared.response.MaybeNumber.TheVariants as MaybeNumber
 use Rattle.script.specs.declared.response.ResultData.{ResultData}
-use Rattle.script.specs.declared.response.ResultData.TheVariants as ResultData
 use Rattle.verdicts.specs.Decisions as verdicts-Decisions
 use Rattle.verdicts.specs.Held as verdicts-Held
 use Rattle.verdicts.specs.Lookup as verdicts-Lookup

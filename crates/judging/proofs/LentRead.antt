@@ -292,6 +292,7 @@ module _ (sizes : Script.Counts) (entries : List Entry) (expectations : List Exp
       ap (λ s. s.preamble.expects) a.script
       ∙ plain.handshake
       ∙ ap₂ range (sym (earlier_none 0 0 (owned_lines text) (le_refl 0) rises)) (leading_belong (said_on text) 0 ps)
+  range-is zero (Response x) x4 = elim x4 [ ]
   range-is (suc i) (Response x) (entry g) =
       let l : i < length r.tables.entries = omega (arith, plain.entries) in
       let m : suc i - 1 ≡ i = omega arith in

@@ -14,7 +14,6 @@ use Rattle.verdicts.specs.Expected.{Expected}
 use Rattle.verdicts.specs.Told.{Subject}
 use Rattle.verdicts.specs.Verdicts.{verdict, code, decode}
 use Rattle.verdicts.specs.declared.Verdict.{Verdict}
-use Rattle.verdicts.specs.declared.Verdict.TheVariants as Verdict
 use Rattle.written.specs.Written.{written_at}
 use Rattle.tallies.specs.declared.tally.Counts.{Counts}
 use Rattle.tallies.specs.declared.tally.Outcome.TheVariants as Outcome

@@ -23,7 +23,6 @@ use Rattle.script.specs.Reading.{Parsed, refused_at, read, refusal, refused_by, 
 use Rattle.script.specs.declared.records.Counts.{Counts}
 use Rattle.script.specs.declared.records.Refusal.{Refusal}
 use Rattle.script.specs.declared.roles.Key.{Key}
-use Rattle.script.specs.declared.roles.Key.TheVariants as Key
 use Rattle.script.specs.declared.roles.Where.{Where}
 use Rattle.script.specs.declared.roles.Where.TheVariants.{InPreamble}
 use Rattle.script.specs.declared.roles.Saying.{Saying}

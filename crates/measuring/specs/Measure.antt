@@ -16,7 +16,6 @@ use Rattle.measuring.specs.declared.What.{What}
 use Rattle.measuring.specs.declared.What.TheVariants.{ThePreamble, AnEntry}
 use Rattle.measuring.specs.declared.Open.{Open}
 use Rattle.script.specs.declared.roles.Key.{Key}
-use Rattle.script.specs.declared.roles.Key.TheVariants as Key
 use Rattle.script.specs.declared.roles.Where.{Where}
 use Rattle.script.specs.declared.roles.Where.TheVariants.{InPreamble}
 use Rattle.script.specs.declared.roles.Saying.{Saying}

@@ -21,13 +21,10 @@ use Rattle.script.specs.declared.records.Items.{Items}
 use Rattle.script.specs.declared.records.Matcher.{Matcher}
 use Rattle.script.specs.declared.records.Matcher.TheVariants.{Exact, Regex, GreaterThan, LessThan, GreaterOrEqual, LessOrEqual}
 use Rattle.script.specs.declared.records.Maybe.{Maybe}
-use Rattle.script.specs.declared.records.Maybe.TheVariants as Maybe
 use Rattle.script.specs.declared.records.MaybeItems.{MaybeItems}
-use Rattle.script.specs.declared.records.MaybeItems.TheVariants as MaybeItems
 use Rattle.script.specs.declared.records.Place.{Place}
 use Rattle.script.specs.declared.records.Script.{Script}
 use Rattle.script.specs.declared.records.Stamp.{Stamp}
-use Rattle.script.specs.declared.records.Stamp.TheVariants as Stamp
 use Rattle.script.specs.declared.records.Time.{Time}
 use Rattle.script.specs.Reading.{Parsed, refused_at, read}
 use Rattle.wire.specs.declared.ops.Op.{Op}

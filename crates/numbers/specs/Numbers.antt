@@ -4,16 +4,13 @@ use mathlib.Core.List.{List, [], ◌∷◌, ◌++◌, flat_map}
 use Rattle.wire.specs.Operations.{operation}
 use Rattle.script.specs.Reading.{Parsed, refused_at, read}
 use Rattle.script.specs.declared.records.Maybe.{Maybe}
-use Rattle.script.specs.declared.records.Maybe.TheVariants as Maybe
 use Rattle.script.specs.declared.records.MaybeItems.{MaybeItems}
-use Rattle.script.specs.declared.records.MaybeItems.TheVariants as MaybeItems
 use Rattle.script.specs.declared.records.Matcher.{Matcher}
 use Rattle.script.specs.declared.records.Matcher.TheVariants.{Exact, Regex, GreaterThan, LessThan, GreaterOrEqual, LessOrEqual}
 use Rattle.script.specs.declared.records.Expect.{Expect}
 use Rattle.script.specs.declared.records.Expect.TheVariants.{Terminal, Result, ResultField, Error, StderrCount, Daemon, Trust, ServerFeatures}
 use Rattle.script.specs.declared.records.Expectation.{Expectation}
 use Rattle.script.specs.declared.records.Stamp.{Stamp}
-use Rattle.script.specs.declared.records.Stamp.TheVariants as Stamp
 use Rattle.script.specs.declared.records.OpCall.{OpCall}
 use Rattle.script.specs.declared.records.OpCall.TheVariants.{SinglePath, SingleString, PathSet, PathSetFlag, PathSetMode, NoArgs, SetOptions, CollectGarbage, VerifyStore, AddPermRoot, AddSignatures, AddTextToStore, AddToStore, AddMultipleToStore, AddBuildLog, RegisterDrvOutput, QueryRealisation, QuerySubstitutablePathInfo, QuerySubstitutablePathInfos, RawBytes}
 use Rattle.script.specs.declared.records.Entry.{Entry}

@@ -26,9 +26,7 @@ use Rattle.script.specs.declared.records.FramedData.{FramedData}
 use Rattle.script.specs.declared.records.Options.{Options}
 use Rattle.script.specs.declared.records.OpCall.{OpCall}
 use Rattle.script.specs.declared.roles.Key.{Key}
-use Rattle.script.specs.declared.roles.Key.TheVariants as Key
 use Rattle.script.specs.declared.roles.Takes.{Takes}
-use Rattle.script.specs.declared.roles.Takes.TheVariants as Takes
 use Rattle.openings.specs.OpeningRead.{halves, set_place}
 use Rattle.openings.specs.declared.Halves.{Halves}
 use Rattle.openings.specs.declared.SetPlace.{SetPlace}

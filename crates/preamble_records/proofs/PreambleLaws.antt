@@ -25,7 +25,6 @@ use Rattle.script.specs.declared.records.Maybe.{Maybe}
 use Rattle.script.specs.declared.records.MaybeItems.{MaybeItems}
 use Rattle.script.specs.declared.records.Preamble.{Preamble}
 use Rattle.script.specs.declared.roles.Key.{Key}
-use Rattle.script.specs.declared.roles.Key.TheVariants as Key
 use Rattle.said.specs.declared.said.Piece.{Piece}
 use Rattle.said.specs.declared.said.Piece.TheVariants.{Absent, Is}
 use Rattle.said.specs.Said.{piece_from, piece_at, piece_of}

@@ -3,4 +3,3 @@ pub mod RangeLaws
 pub mod EveryLaws
 pub mod CheckLaws
 pub mod StepLaws
-pub mod Made

@@ -15,7 +15,6 @@ use Rattle.script.specs.declared.records.Items.{Items}
 use Rattle.script.specs.declared.records.Expectation.{Expectation}
 use Rattle.script.specs.declared.records.Script.{Script}
 use Rattle.script.specs.declared.records.Refusal.{Refusal}
-use Rattle.told.specs.Told.{counted}
 use Rattle.verdicts.specs.Expected.{Expected}
 use Rattle.verdicts.specs.Lookup.{looked}
 use Rattle.verdicts.specs.Verdicts.{verdict, code}

@@ -7,9 +7,8 @@ use mathlib.Core.Option.{Option, some}
 use Rattle.text.specs.Parts.{span, starts_with}
 use Rattle.text.specs.declared.parts.Span.{Span}
 use Rattle.text.proofs.LiteralLaws.{codes}
-use Rattle.wire.specs.declared.ops.Op.TheVariants.{AddToStore, AddTextToStore, CollectGarbage, VerifyStore, AddMultipleToStore}
 use Rattle.script.specs.Answers.{first_of}
-use Rattle.script.specs.Pieces.{place_of, place, bytes, is}
+use Rattle.script.specs.Pieces.{place_of, place, bytes}
 use Rattle.script.specs.Values.{inline_of, framed}
 use Rattle.script.specs.Contents.{number_of, flag_of, given_data, data_of}
 use Rattle.script.specs.Layout.{range}
@@ -20,7 +19,6 @@ use Rattle.script.specs.declared.records.FramedData.{FramedData}
 use Rattle.script.specs.declared.records.Options.{Options}
 use Rattle.script.specs.declared.records.OpCall.{OpCall}
 use Rattle.script.specs.declared.roles.Key.{Key}
-use Rattle.script.specs.declared.roles.Key.TheVariants as Key
 use Rattle.pieces.proofs.BehindLaws.{behind-none, behind-some, behind_in}
 use Rattle.said.specs.declared.said.Piece.{Piece}
 use Rattle.said.specs.declared.said.Piece.TheVariants.{Absent, Is}

@@ -12,7 +12,6 @@ use Rattle.script.specs.Roles.{Marked}
 use Rattle.script.specs.Contents.{sayings, value_of, features_in, or_none, call_of, preamble_of}
 use Rattle.script.specs.Layout.{listed, stored_of, framed_at, laid, maybe_items, laid_preamble}
 use Rattle.script.specs.declared.roles.Key.{Key}
-use Rattle.script.specs.declared.roles.Key.TheVariants as Key
 use Rattle.script.specs.declared.roles.Saying.{Saying}
 use Rattle.records.specs.declared.calls.Sizes.{Sizes}
 use Rattle.records.specs.Records.{sizes_of, sized_at, framed_sized, options_record, garbage_record, verify_record, store_record, multiple_record, root_record, texts_record, record_of, maybe_sized, preamble_record}

@@ -17,7 +17,6 @@ use Rattle.script.specs.declared.records.Options.{Options}
 use Rattle.script.specs.declared.records.OpCall.{OpCall}
 use Rattle.script.specs.declared.records.Preamble.{Preamble}
 use Rattle.script.specs.declared.roles.Key.{Key}
-use Rattle.script.specs.declared.roles.Key.TheVariants as Key
 use Rattle.records.specs.declared.calls.Sizes.{Sizes}
 
 -- ---- how many items and bytes an operation takes

@@ -23,7 +23,6 @@ use Rattle.script.specs.Answers.{first_of}
 use Rattle.script.specs.Pieces.{bytes, is_empty, is, begins, behind, trim}
 use Rattle.script.specs.Roles.{step, expect_role, behind_signs, version_role, saying, comment_role, protocol_role, word_role, preamble_expect, preamble_role, preamble_step}
 use Rattle.script.specs.declared.roles.Key.{Key}
-use Rattle.script.specs.declared.roles.Key.TheVariants as Key
 use Rattle.script.specs.declared.roles.Saying.TheVariants.{Known}
 use Rattle.script.specs.declared.roles.Where.TheVariants.{InPreamble, Outside}
 use Rattle.script.specs.declared.roles.Role.{Role}

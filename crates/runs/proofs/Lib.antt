@@ -1,3 +1,2 @@
 pub mod CallingLaws
 pub mod RunLaws
-pub mod Made

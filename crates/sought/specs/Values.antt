@@ -6,7 +6,6 @@ use Rattle.values.specs.Decimal.{decimal}
 use Rattle.verdicts.specs.Lookup.{bracketed, braced}
 use Rattle.verdicts.specs.Held.{text_at, texts_in}
 use Rattle.sought.specs.declared.value.Value.{Value}
-use Rattle.sought.specs.declared.value.Value.TheVariants as Value
 
 module _ (bytes : List ℕ) (lists : List (List ℕ)) where
   -- the bytes of a value, unless it is missing

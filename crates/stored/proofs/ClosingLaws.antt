@@ -17,7 +17,6 @@ use Rattle.script.specs.Contents.{sayings, value_of, pairs, items_in, set_of, or
 use Rattle.script.specs.Layout.{listed, stored_of, laid}
 use Rattle.script.specs.declared.records.Expectation.{Expectation}
 use Rattle.script.specs.declared.roles.Key.{Key}
-use Rattle.script.specs.declared.roles.Key.TheVariants as Key
 use Rattle.script.specs.declared.roles.Opening.{Opening}
 use Rattle.script.specs.declared.roles.Saying.{Saying}
 use Rattle.records.specs.Records.{sizes_of, record_of}

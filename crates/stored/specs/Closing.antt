@@ -11,7 +11,6 @@ use Rattle.script.specs.Contents.{pairs, items_in, set_of, features_in, or_none,
 use Rattle.script.specs.Layout.{range, stored_of}
 use Rattle.script.specs.declared.records.Entry.{Entry}
 use Rattle.script.specs.declared.roles.Key.{Key}
-use Rattle.script.specs.declared.roles.Key.TheVariants as Key
 use Rattle.script.specs.declared.roles.Opening.{Opening}
 use Rattle.script.specs.declared.roles.Saying.{Saying}
 use Rattle.records.specs.Records.{sizes, record_of}

@@ -8,7 +8,6 @@ use Rattle.script.specs.Values.{plain_rules}
 use Rattle.script.specs.Contents.{items_in, set_of, unquoted_of, hex_of, data_of}
 use Rattle.script.specs.Layout.{stored_of}
 use Rattle.script.specs.declared.roles.Key.{Key}
-use Rattle.script.specs.declared.roles.Key.TheVariants as Key
 use Rattle.script.specs.declared.roles.Takes.{Takes}
 use Rattle.script.specs.declared.roles.Takes.TheVariants.{NoLines, Options, Garbage, Verify, Texts, Store, Multiple, FirstData, FirstRaw}
 use Rattle.openings.specs.declared.SetPlace.{SetPlace}

@@ -48,7 +48,6 @@ use Rattle.script.specs.Layout.{Reading}
 use Rattle.script.specs.Reading.{Parsed, refused_at, read, refusal, parsed}
 use Rattle.script.specs.declared.records.Counts.{Counts}
 use Rattle.script.specs.declared.records.OpCall.{OpCall}
-use Rattle.script.specs.declared.records.OpCall.TheVariants as OpCall
 use Rattle.script.specs.declared.response.HandshakeInfo.{HandshakeInfo}
 use Rattle.verdicts.specs.Expected.{Expected, exact, regex, greaterOrEqual, result, trust, server_features}
 use Rattle.verdicts.specs.Told.{Subject, greeting}

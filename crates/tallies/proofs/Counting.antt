@@ -11,7 +11,6 @@ use Rattle.verdicts.specs.declared.Verdict.{Verdict}
 use Rattle.verdicts.specs.declared.Verdict.TheVariants.{Passed, Failed, Undecided}
 use Rattle.tallies.specs.declared.tally.Counts.{Counts}
 use Rattle.tallies.specs.declared.tally.Outcome.{Outcome}
-use Rattle.tallies.specs.declared.tally.Outcome.TheVariants as Outcome
 use Rattle.tallies.specs.Tally.{no_counts, added, added_all, outcome_of, over_limit}
 
 -- ---- kind by kind

@@ -3,7 +3,6 @@
 use Rattle.std.specs.Prelude.{◌+◌, Bool, List, [], ◌∷◌, ltb, eqb}
 use Rattle.text.specs.Base.{if◌then◌else◌, ◌or◌}
 use Rattle.verdicts.specs.declared.Verdict.{Verdict}
-use Rattle.verdicts.specs.declared.Verdict.TheVariants as Verdict
 use Rattle.tallies.specs.declared.tally.Counts.{Counts}
 use Rattle.tallies.specs.declared.tally.Outcome.{Outcome}
 use Rattle.tallies.specs.declared.tally.Outcome.TheVariants.{Failed, Undecided, NothingChecked, Passed}

@@ -14,7 +14,6 @@ use Rattle.script.specs.Inside.{In, SayingIn}
 use Rattle.script.specs.Operations.{same_key, Shape, singlePath, singleString, path_set, pathSetFlag, pathSetMode, no_args, setOptions, collect_garbage, verifyStore, addPermRoot, addSignatures, addTextToStore, addToStore, addMultipleToStore, addBuildLog, registerDrvOutput, queryRealisation, querySubstitutablePathInfo, querySubstitutablePathInfos, rawBytes, form_of}
 use Rattle.script.specs.declared.records.Counts.{Counts}
 use Rattle.script.specs.declared.roles.Key.{Key}
-use Rattle.script.specs.declared.roles.Key.TheVariants as Key
 use Rattle.script.specs.declared.roles.Saying.{Saying}
 use Rattle.script.specs.declared.roles.Saying.TheVariants.{Known, Pair, NoColon, Unknown, NoPair, NoRaw}
 use Rattle.measuring.specs.declared.What.{What}

@@ -7,7 +7,6 @@ use Rattle.script.specs.Inside.{In, SayingIn}
 use Rattle.wire.specs.declared.ops.Op.{Op}
 use Rattle.script.specs.Operations.{same_key, key_row, form_of}
 use Rattle.script.specs.declared.roles.Key.{Key}
-use Rattle.script.specs.declared.roles.Key.TheVariants as Key
 use Rattle.script.specs.declared.roles.Saying.{Saying}
 use Rattle.script.specs.declared.roles.Saying.TheVariants.{Known, Pair}
 use Rattle.script.specs.declared.records.Counts.{Counts}

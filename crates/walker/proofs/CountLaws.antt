@@ -1,14 +1,11 @@
 -- Laws of the count of lines that begin with `expect`: what one line more does to it, and what holds before each turn of the loop that counts.
 -- Assumes nothing.
-use Prim.Native.Nat.{ℕ, ◌+◌, ◌-◌, ◌≤◌, ◌<◌, ◌^◌}
+use Prim.Native.Nat.{ℕ, ◌+◌, ◌-◌, ◌≤◌, ◌<◌}
 use mathlib.Core.Path.{◌≡◌, refl, sym, ap, ◌∙◌}
 use mathlib.Core.Bool.{Bool, true, false}
 use mathlib.Core.List.{List, ◌∷◌}
-use mathlib.Core.WellFounded.InvImage
-use mathlib.Core.WellFounded.{WellFounded}
 use native.Mathlib.Omega.{arith}
 use lib.ListN.{length}
-use lib.WfN.{lt-wf_rel}
 use denote.Ref.{Bor}
 use Rattle.text.specs.Base.{if◌then◌else◌}
 use Rattle.text.specs.Parts.{starts_with}
@@ -20,7 +17,7 @@ use Rattle.script.specs.Pieces.{bytes}
 use Rattle.script.specs.Plain.{trimmed_line, expectation_line, plain_lines, expectation_lines, beginning_lines}
 use Rattle.script.proofs.ExpectLines.{expect_lines}
 use Rattle.pieces.proofs.BehindLaws.{begins-is}
-use Rattle.walker.specs.Walk.{left, has_more, line_here, past, count_one}
+use Rattle.walker.specs.Walk.{left, has_more, begun, line_here, past, count_one}
 use Rattle.walker.specs.declared.Lines.{Lines}
 use Rattle.walker.proofs.WalkLaws.{all_left, here, next-left, nothing_left}
 
@@ -62,75 +59,59 @@ all text = length (beginning_lines text (lines text))
 pub as_judged : (text : List ℕ) → all text ≡ length (expectation_lines (plain_lines text))
 as_judged text = ap length (sym (expect_lines text))
 
--- the walker over a text at a place, with a number
-abbrev pub walker : Bor (List ℕ) → (at number : ℕ) → Lines
-walker s at number = record { text = s; at = at; number = number }
-
 -- What holds before a turn, of a walker over the text and the count so far: n of the lines that begin with `expect` are past, and the others are among those left.
-pub record Turn (s : Bor (List ℕ)) : Type 0 where
-  pub at : ℕ
-  pub number : ℕ
-  pub n : ℕ
-  pub inside : at ≤ length s.now
-  pub low : number ≤ at + 1
-  pub few : n ≤ at
-  pub counted : n + length (beginning_lines s.now (left (walker s at number))) ≡ all s.now
+pub record Turn (text : List ℕ) (w : Lines) (n : ℕ) : Type 0 where
+  pub over : w.text.now ≡ text
+  pub inside : w.at ≤ length text
+  pub low : w.number ≤ w.at + 1
+  pub few : n ≤ w.at
+  pub counted : n + length (beginning_lines text (left w)) ≡ all text
 
-module _ (s : Bor (List ℕ)) where
-  -- the walker goes forward
-  abbrev pub to_go : Turn s → ℕ
-  to_go t = length s.now - t.at
+pub first_turn : (s : Bor (List ℕ)) → Turn s.now (begun s) 0
+first_turn s = record {
+  over = refl;
+  inside = omega arith;
+  low = omega arith;
+  few = omega arith;
+  counted = omega (arith, ap (λ (ls : List Line). length (beginning_lines s.now ls)) (all_left s));
+}
 
-  abbrev pub Less : Turn s → Turn s → Type 0
-  Less t' t = to_go t' < to_go t
+module _ (text : List ℕ) (w : Lines) (n : ℕ) (t : Turn text w n) where
+  -- no line is left: all are counted
+  pub at_end : has_more (left w) ≡ false → n ≡ all text
+  unfolding beginning_lines
+  at_end m = omega (arith, t.counted, ap (λ (ls : List Line). length (beginning_lines text ls)) (nothing_left w m))
 
-  pub falling : WellFounded Less
-  falling = InvImage.wf to_go lt-wf_rel.wf
+  module _ (m : has_more (left w) ≡ true) where
+    -- the line here lies inside the text
+    pub within : (line_here w).next ≤ length text
+    within = omega (arith, ap length t.over, (here w m).within)
 
-  abbrev pub first_turn : Turn s
-  first_turn = record {
-    at = 0;
-    number = 1;
-    n = 0;
-    inside = omega arith;
-    low = omega arith;
-    few = omega arith;
-    counted = omega (arith, ap (λ (ls : List Line). length (beginning_lines s.now ls)) (all_left s));
-  }
+    pub next_turn : Turn text (past w) (count_one text (line_here w) n)
+    next_turn =
+        let k = here w m in
+        record {
+          over = t.over;
+          inside = within;
+          low = omega (arith, t.low, k.later);
+          few = omega (arith, t.few, at_most_one text (line_here w) n, k.later);
+          counted = one_more text (line_here w) n (left (past w)) ∙ ap (λ (ls : List Line). n + length (beginning_lines text ls)) (sym (next-left w m)) ∙ t.counted;
+        }
 
-  module _ (t : Turn s) where
-    abbrev pub w : Lines
-    w = walker s t.at t.number
+    -- the walker goes forward
+    pub less : length text - (past w).at < length text - w.at
+    less = omega (arith, (here w m).later, within)
 
-    abbrev pub l : Line
-    l = line_here w
+    -- l is the line here, v the walker past it, and k the count with it
+    module _ (l : Line) (v : Lines) (k : ℕ) (q : l ≡ line_here w) (p : v ≡ past w) where
+      pub forward : l.start ≤ l.end
+      forward = rw q (here w m).forward
 
-    -- no line is left: all are counted
-    pub at_end : has_more (left w) ≡ false → t.n ≡ all s.now
-    unfolding beginning_lines
-    at_end m = omega (arith, t.counted, ap (λ (ls : List Line). length (beginning_lines s.now ls)) (nothing_left w m))
+      pub in_text : l.end ≤ length text
+      in_text = rw q (omega (arith, ap length t.over, (here w m).inside))
 
-    module _ (m : has_more (left w) ≡ true) where
-      abbrev pub next_turn : Turn s
-      next_turn =
-          let k = here w m in
-          record {
-            at = l.next;
-            number = t.number + 1;
-            n = count_one s.now l t.n;
-            inside = k.within;
-            low = omega (arith, t.low, k.later);
-            few = omega (arith, t.few, at_most_one s.now l t.n, k.later);
-            counted = one_more s.now l t.n (left (past w)) ∙ ap (λ (ls : List Line). t.n + length (beginning_lines s.now ls)) (sym (next-left w m)) ∙ t.counted;
-          }
+      pub turned : k ≡ count_one text l n → Turn text v k
+      turned r = rw (p, r, q) next_turn
 
-      pub less : Less next_turn t
-      less = omega (arith, (here w m).later, (here w m).within)
-
-      -- the numbers fit, where the text has room
-      module _ (room : length s.now < 2 ^ 63) where
-        pub number_fits : t.number + 1 < 2 ^ 64
-        number_fits = omega (arith, t.low, (here w m).later, (here w m).within)
-
-        pub n_fits : t.n + 1 < 2 ^ 64
-        n_fits = omega (arith, t.few, (here w m).later, (here w m).within)
+      pub nearer : length text - v.at < length text - w.at
+      nearer = rw p less

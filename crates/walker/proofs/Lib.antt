@@ -1,4 +1,2 @@
 pub mod CountLaws
-pub mod Facts
-pub mod Lending
 pub mod WalkLaws

@@ -1,6 +1,6 @@
 -- Laws of a walker over lines: whether a line is left, that the next line is the first of those left, and where it lies.
 -- Assumes nothing.
-use Prim.Native.Nat.{ℕ}
+use Prim.Native.Nat.{ℕ, ◌+◌}
 use mathlib.Core.Path.{◌≡◌, refl, sym, ap, ◌∙◌}
 use mathlib.Core.Bool.{Bool, true, false}
 use mathlib.Core.List.{List, [], ◌∷◌}
@@ -53,3 +53,17 @@ module _ (w : Lines) where
     -- so what comes first of them is the line
     pub first-is : (l : Line) (ls : List Line) → left w ≡ l ∷ ls → l ≡ line_here w
     first-is l ls e = ap (first_or l) (sym e ∙ next-left)
+
+    -- past a line that is the one here
+    abbrev after : Line → ℕ → Lines
+    after l n = record { text = w.text; at = l.next; number = n + 1 }
+
+    module _ (l : Line) (e : l ≡ line_here w) where
+      pub called-is : l.number ≡ w.number
+      called-is = ap (λ (k : Line). k.number) e ∙ here.called
+
+      pub past-is : after l l.number ≡ past w
+      past-is = ap (λ (k : Line). after k l.number) e ∙ ap (λ (n : ℕ). after (line_here w) n) called-is
+
+      pub left-is : left w ≡ l ∷ left (after l l.number)
+      left-is = next-left ∙ ap (λ (k : Line). k ∷ left (past w)) (sym e) ∙ ap (λ (v : Lines). l ∷ left v) (sym past-is)

@@ -1,7 +1,6 @@
 -- `blanks::blank_entries` meets its contract. Assumes nothing.
 use mathlib.Core.Path.{ap}
 use lib.ListN.{replicate}
-use borrow.Author.Rules.{rules}
 use Rattle.blanks.proofs.blank_entries.Goals as goal
 
 pub returns : goal.returns

@@ -1,8 +1,4 @@
 -- `blocks::eight_at` meets its contract. The loop's invariant: the bytes passed are those of the part. Assumes nothing.
-use Prim.Native.Nat.{◌-◌, ◌≤◌}
-use mathlib.Core.Path.{◌≡◌}
-use lib.ListN.{length, take}
-use Rattle.text.specs.Base.{part}
 use Rattle.blocks.proofs.BlockLaws.{part_more, part_all}
 use borrow.Author.Rules.{rules}
 use Rattle.blocks.proofs.eight_at.Goals as goal

@@ -1,9 +1,5 @@
 -- `blocks::put_blocks` meets its contract. The loop's invariant: the bytes passed are written. The measure is what is left of the word.
 -- Assumes nothing.
-use Prim.Native.Nat.{◌-◌, ◌≤◌}
-use mathlib.Core.Path.{◌≡◌}
-use lib.ListN.{length, take}
-use Rattle.written.specs.Written.{written_at}
 use Rattle.written.proofs.WrittenLaws.{word_begun}
 use Rattle.blocks.proofs.BlockLaws.{part_over, part_last}
 use borrow.Author.Rules.{rules}

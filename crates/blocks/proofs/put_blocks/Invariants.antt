@@ -2,9 +2,6 @@ use Prim.Native.Nat.{◌-◌, ◌≤◌}
 use mathlib.Core.Path.{◌≡◌}
 use lib.ListN.{length, take}
 use Rattle.written.specs.Written.{written_at}
-use Rattle.written.proofs.WrittenLaws.{word_begun}
-use Rattle.blocks.proofs.BlockLaws.{part_over, part_last}
-use borrow.Author.Rules.{rules}
 use Rattle.blocks.proofs.put_blocks.Given as goal
 
 abbrev pub invariant-loop-i : goal.invariant-loop-i

@@ -2,8 +2,6 @@ use Prim.Native.Nat.{◌-◌, ◌≤◌}
 use mathlib.Core.Path.{◌≡◌}
 use lib.ListN.{length, take}
 use Rattle.text.specs.Base.{part}
-use Rattle.blocks.proofs.BlockLaws.{part_more, part_all}
-use borrow.Author.Rules.{rules}
 use Rattle.blocks.proofs.wide_at.Given as goal
 
 abbrev pub invariant-loop-k : goal.invariant-loop-k

@@ -1,6 +1,5 @@
 -- `call_fields::data_fields` meets its contract. Assumes nothing.
 use Rattle.call_fields.proofs.FieldLaws.{data_few}
-use borrow.Author.Rules.{rules}
 use Rattle.call_fields.proofs.data_fields.Goals as goal
 
 pub returns : goal.returns

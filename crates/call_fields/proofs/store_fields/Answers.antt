@@ -1,7 +1,6 @@
 -- `call_fields::store_fields` meets its contract. Assumes nothing.
 use Rattle.call_fields.specs.CallFields.{place_numbers, items_numbers}
 use Rattle.call_fields.proofs.FieldLaws.{data_store}
-use borrow.Author.Rules.{rules}
 use Rattle.call_fields.proofs.store_fields.Goals as goal
 
 pub returns : goal.returns

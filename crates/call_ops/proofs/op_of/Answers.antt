@@ -1,6 +1,5 @@
 -- `call_ops::op_of` meets its contract: each arm is its case of the definition. Assumes nothing.
 use mathlib.Core.Path.{sym, ap}
-use borrow.Author.Rules.{rules}
 use Rattle.call_ops.specs.CallOps.{op_of}
 use Rattle.call_ops.proofs.op_of.Goals as goal
 

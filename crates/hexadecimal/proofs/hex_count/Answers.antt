@@ -1,13 +1,12 @@
 -- `hex::hex_count` meets its contract. The loop's invariant: the bytes counted, and those that the rest becomes with what is held, are
 -- as many as the text becomes. The measure is what is left of the text. Assumes nothing.
-use Prim.Native.Nat.{ℕ, ◌+◌, ◌-◌, ◌≤◌, ◌<◌}
+use Prim.Native.Nat.{ℕ, ◌+◌, ◌≤◌, ◌<◌}
 use mathlib.Core.Path.{◌≡◌, ap, ◌∙◌}
 use mathlib.Core.List.{List}
 use native.Mathlib.Nat.{zero-add}
 use native.Mathlib.Omega.{arith}
 use lib.ListN.{length, get_or, drop}
 use borrow.Author.Rules.{rules}
-use Rattle.values.specs.Hex.{hex_decoded}
 use Rattle.hexadecimal.specs.HexWalk.{hex_step, hex_from}
 use Rattle.hexadecimal.specs.declared.HexStep.{HexStep}
 use Rattle.hexadecimal.specs.declared.HexStep.TheVariants.{Held, Byte}

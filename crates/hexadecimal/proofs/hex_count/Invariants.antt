@@ -1,15 +1,8 @@
-use Prim.Native.Nat.{ℕ, ◌+◌, ◌-◌, ◌≤◌, ◌<◌}
-use mathlib.Core.Path.{◌≡◌, ap, ◌∙◌}
-use mathlib.Core.List.{List}
-use native.Mathlib.Nat.{zero-add}
-use native.Mathlib.Omega.{arith}
-use lib.ListN.{length, get_or, drop}
-use borrow.Author.Rules.{rules}
+use Prim.Native.Nat.{◌+◌, ◌-◌, ◌≤◌}
+use mathlib.Core.Path.{◌≡◌}
+use lib.ListN.{length, drop}
 use Rattle.values.specs.Hex.{hex_decoded}
-use Rattle.hexadecimal.specs.HexWalk.{hex_step, hex_from}
-use Rattle.hexadecimal.specs.declared.HexStep.{HexStep}
-use Rattle.hexadecimal.specs.declared.HexStep.TheVariants.{Held, Byte}
-use Rattle.hexadecimal.proofs.HexLaws.{walked, at_held, at_byte, none_left}
+use Rattle.hexadecimal.specs.HexWalk.{hex_from}
 use Rattle.hexadecimal.proofs.hex_count.Given as goal
 
 abbrev pub invariant-loop-i : goal.invariant-loop-i

@@ -1,11 +1,10 @@
 -- `hex::hex_fill` meets its contract. The loop's invariant: what is written, and then what the rest becomes with what is held, is what
 -- the text becomes. The measure is what is left of the text. Assumes nothing.
-use Prim.Native.Nat.{ℕ, ◌+◌, ◌-◌, ◌≤◌, ◌<◌}
+use Prim.Native.Nat.{ℕ, ◌+◌, ◌≤◌, ◌<◌}
 use mathlib.Core.Path.{◌≡◌}
 use mathlib.Core.List.{List}
 use lib.ListN.{length, get_or, drop, set}
 use borrow.Author.Rules.{rules}
-use Rattle.values.specs.Hex.{hex_decoded}
 use Rattle.hexadecimal.specs.HexWalk.{hex_step, hex_from}
 use Rattle.hexadecimal.specs.declared.HexStep.{HexStep}
 use Rattle.hexadecimal.specs.declared.HexStep.TheVariants.{Held, Byte}

@@ -1,5 +1,4 @@
 -- `hex::hex_value` meets its contract, by the table's rule. Assumes nothing.
-use borrow.Author.Rules.{rules}
 use Rattle.hexadecimal.proofs.hex_value.Goals as goal
 
 pub returns : goal.returns

@@ -1,5 +1,4 @@
 -- `kept::kept_of` meets its contract. Assumes nothing.
-use borrow.Author.Rules.{rules}
 use Rattle.kept.proofs.kept_of.Goals as goal
 
 pub returns : goal.returns

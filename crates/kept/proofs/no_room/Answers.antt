@@ -1,6 +1,5 @@
 -- `kept::no_room` meets its contract. Assumes nothing.
 use Rattle.kept.proofs.KeptLaws.{blank_memo}
-use borrow.Author.Rules.{rules}
 use Rattle.kept.proofs.no_room.Goals as goal
 
 pub returns : goal.returns

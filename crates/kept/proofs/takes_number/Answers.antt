@@ -2,7 +2,6 @@
 use mathlib.Core.Path.{sym, ap}
 use Rattle.kept.specs.Kept.{takes_number}
 use native.Mathlib.Omega.{arith}
-use borrow.Author.Rules.{rules}
 use Rattle.kept.proofs.takes_number.Goals as goal
 
 pub returns-in-NoLines-clause-value : goal.returns-in-NoLines-clause-value

@@ -5,7 +5,6 @@ use mathlib.Core.List.{List}
 use Rattle.verdicts.specs.Decisions as decisions
 use Rattle.verdicts.specs.Held.{texts_in}
 use Rattle.list_pieces.proofs.PieceLaws.{in_brackets, in_braces}
-use borrow.Author.Rules.{rules}
 use Rattle.list_search.proofs.contains.Goals as goal
 
 pub returns-then-braces : goal.returns-then-braces

@@ -1,12 +1,8 @@
 -- `list_search::found` meets its contract. The loop's invariant: the pattern stands in the row from here on just where it stands in the whole row.
 -- Assumes nothing.
-use Prim.Native.Nat.{◌-◌}
-use mathlib.Core.Path.{◌≡◌, refl}
-use lib.ListN.{length, drop}
+use mathlib.Core.Path.{refl}
 use borrow.Author.Rules.{rules}
-use Rattle.verdicts.specs.Decisions.{contains}
 use Rattle.finding.proofs.SearchLaws.{empty_in}
-use Rattle.list_pieces.specs.Pieces.{pieces_of, row}
 use Rattle.list_pieces.proofs.PieceLaws.{count_is}
 use Rattle.list_search.proofs.FindLaws.{list_search}
 use Rattle.list_search.proofs.found.Goals as goal

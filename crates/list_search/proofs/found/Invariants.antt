@@ -1,12 +1,8 @@
 use Prim.Native.Nat.{◌-◌}
-use mathlib.Core.Path.{◌≡◌, refl}
+use mathlib.Core.Path.{◌≡◌}
 use lib.ListN.{length, drop}
-use borrow.Author.Rules.{rules}
 use Rattle.verdicts.specs.Decisions.{contains}
-use Rattle.finding.proofs.SearchLaws.{empty_in}
 use Rattle.list_pieces.specs.Pieces.{pieces_of, row}
-use Rattle.list_pieces.proofs.PieceLaws.{count_is}
-use Rattle.list_search.proofs.FindLaws.{list_search}
 use Rattle.list_search.proofs.found.Given as goal
 
 abbrev pub invariant-loop-j : goal.invariant-loop-j

@@ -1,16 +1,14 @@
 -- `list_search::found_in` meets its contract. The loop's invariant: the pattern stands in the row from here on just where it stands in the row from
 -- the piece on. Assumes nothing.
-use Prim.Native.Nat.{◌-◌, ◌≤◌, ◌<◌}
-use mathlib.Core.Path.{◌≡◌, ap}
-use mathlib.Core.List.{[]}
-use lib.ListN.{length, get_or, drop}
-use mathlib.Core.Logic.{⊎_elim}
+use Prim.Native.Nat.{◌<◌}
+use mathlib.Core.Path.{ap}
+use lib.ListN.{length}
 use borrow.Author.Rules.{rules}
-use Rattle.verdicts.specs.Decisions.{contains}
-use Rattle.list_pieces.specs.Pieces.{pieces_of, row, row_from}
+use Rattle.list_pieces.specs.Pieces.{pieces_of}
 use Rattle.list_pieces.proofs.PieceLaws.{in_count}
 use Rattle.list_search.proofs.FindLaws.{piece_begun, piece_later, piece_other, piece_turns}
 use Rattle.list_search.proofs.found_in.Goals as goal
+use Rattle.list_search.proofs.found_in.Goals.{then-piece-i+else-opens_at, else-piece-i}
 
 pub returns-then-contains : goal.returns-then-contains
 returns-then-contains c = search (rules, in_count, piece_turns)
@@ -43,10 +41,10 @@ loop-i-preserved c =
       L.invariant.0,
       L.invariant.1,
       search rules,
-      ⊎_elim
-          (λ w. piece_later ps A.j A.pattern.now piece.result.now L.invariant.0 piece.ensures g L.i L.invariant.3 _ w.1.ensures c.loop-i-test.true s.result w.2.left s.ensures.lower_bound s.ensures.upper_bound s.ensures.without)
-          (λ w. piece_other ps A.j A.pattern.now piece.result.now L.invariant.0 piece.ensures g L.i L.invariant.3 s.result w.left s.ensures.lower_bound s.ensures.upper_bound s.ensures.without)
-          c.if-piece-i.branch,
+      elim c.if-piece-i.branch [
+        | then-piece-i+else-opens_at w ↦ piece_later ps A.j A.pattern.now piece.result.now L.invariant.0 piece.ensures g L.i L.invariant.3 _ w.opens_at.ensures c.loop-i-test.true s.result w.if-opens_at.false s.ensures.lower_bound s.ensures.upper_bound s.ensures.without
+        | else-piece-i w ↦ piece_other ps A.j A.pattern.now piece.result.now L.invariant.0 piece.ensures g L.i L.invariant.3 s.result w.if-piece-i.false s.ensures.lower_bound s.ensures.upper_bound s.ensures.without
+      ],
     )
 
 pub returns : goal.returns

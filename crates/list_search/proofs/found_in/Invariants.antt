@@ -1,13 +1,9 @@
 use Prim.Native.Nat.{◌-◌, ◌≤◌, ◌<◌}
-use mathlib.Core.Path.{◌≡◌, ap}
+use mathlib.Core.Path.{◌≡◌}
 use mathlib.Core.List.{[]}
 use lib.ListN.{length, get_or, drop}
-use mathlib.Core.Logic.{⊎_elim}
-use borrow.Author.Rules.{rules}
 use Rattle.verdicts.specs.Decisions.{contains}
 use Rattle.list_pieces.specs.Pieces.{pieces_of, row, row_from}
-use Rattle.list_pieces.proofs.PieceLaws.{in_count}
-use Rattle.list_search.proofs.FindLaws.{piece_begun, piece_later, piece_other, piece_turns}
 use Rattle.list_search.proofs.found_in.Given as goal
 
 abbrev pub invariant-loop-i : goal.invariant-loop-i

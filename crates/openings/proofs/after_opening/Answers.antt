@@ -1,7 +1,5 @@
 -- `openings::after_opening` meets its contract. Assumes nothing.
-use Prim.Native.Nat.{ℕ}
 use mathlib.Core.Path.{◌≡◌, refl, sym, ap, ◌∙◌}
-use mathlib.Core.List.{List, [], ◌∷◌}
 use Rattle.script.specs.Operations.{form_of}
 use Rattle.script.specs.Roles.{below, after_opening}
 use Rattle.script.specs.declared.roles.Opening.{Opening}
@@ -16,11 +14,11 @@ use Rattle.openings.proofs.after_opening.Goals as goal
 opens : (r : Role) (o : Opening) → r ≡ Opens o → (k : Takes) → k ≡ (form_of o.op).takes → (w : Where) → w ≡ below k → w ≡ after_opening r
 opens r o e k f w g = g ∙ ap below f ∙ ap after_opening (sym e)
 
-other : (r : Role) → (((o : ?) → r ≡ Opens o → ⊥) → Outside ≡ after_opening r
+other : (r : Role) → ((o : Opening) → r ≡ Opens o → ⊥) → Outside ≡ after_opening r
 other Nothing _ = refl
 other (Says s) _ = refl
 other (Expects e) _ = refl
-other (Opens o) h = absurd (h refl)
+other (Opens o) h = absurd (h o refl)
 other (Bad n) _ = refl
 
 ruleset walk = (opens)

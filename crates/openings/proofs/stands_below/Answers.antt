@@ -3,7 +3,6 @@ use mathlib.Core.Path.{◌≡◌, sym, ap}
 use Rattle.script.specs.Roles.{below}
 use Rattle.script.specs.declared.roles.Takes.{Takes}
 use Rattle.script.specs.declared.roles.Takes.TheVariants.{Options, Garbage, Verify, Texts, Store, Multiple, FirstData, FirstRaw}
-use borrow.Author.Rules.{rules}
 use Rattle.openings.proofs.stands_below.Goals as goal
 
 is : (t u : Takes) → u ≡ t → below t ≡ below u

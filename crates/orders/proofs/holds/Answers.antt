@@ -4,7 +4,6 @@ use lib.IntN.{ℤ}
 use lib.Signed.{lt_z, le_z}
 use mir.Syntax.{w64}
 use mir.Val.{SFits}
-use borrow.Author.Rules.{rules}
 use Rattle.orders.specs.Orders.{holding}
 use Rattle.orders.specs.declared.Order.{Order}
 use Rattle.orders.specs.declared.Order.TheVariants.{GreaterThan, LessThan, GreaterOrEqual, LessOrEqual}

@@ -1,10 +1,6 @@
 -- `remarks::behind_signs` meets its contract. The loop's invariant: the signs from here end where those of the whole do. Assumes nothing.
-use Prim.Native.Nat.{◌-◌, ◌≤◌}
-use mathlib.Core.Path.{◌≡◌, refl}
-use lib.ListN.{length}
-use Rattle.text.specs.Parts.{span}
+use mathlib.Core.Path.{refl}
 use Rattle.script.specs.Pieces.{bytes}
-use Rattle.script.specs.Roles.{behind_signs}
 use Rattle.remarks.proofs.PreambleLaws.{sign_steps}
 use borrow.Author.Rules.{rules}
 use Rattle.remarks.proofs.behind_signs.Goals as goal

@@ -1,11 +1,9 @@
 use Prim.Native.Nat.{◌-◌, ◌≤◌}
-use mathlib.Core.Path.{◌≡◌, refl}
+use mathlib.Core.Path.{◌≡◌}
 use lib.ListN.{length}
 use Rattle.text.specs.Parts.{span}
 use Rattle.script.specs.Pieces.{bytes}
 use Rattle.script.specs.Roles.{behind_signs}
-use Rattle.remarks.proofs.PreambleLaws.{sign_steps}
-use borrow.Author.Rules.{rules}
 use Rattle.remarks.proofs.behind_signs.Given as goal
 
 abbrev pub invariant-loop-i : goal.invariant-loop-i

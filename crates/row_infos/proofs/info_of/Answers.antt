@@ -1,5 +1,4 @@
 -- `row_infos::info_of` meets its contract. Assumes nothing.
-use borrow.Author.Rules.{rules}
 use Rattle.rows.specs.Rows.{info_row}
 use Rattle.row_infos.proofs.info_of.Goals as goal
 

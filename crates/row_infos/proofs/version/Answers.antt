@@ -1,5 +1,4 @@
 -- `row_infos::version` meets its contract. Assumes nothing.
-use borrow.Author.Rules.{rules}
 use mathlib.Core.Path.{refl}
 use Rattle.rows.specs.Rows.{version_of}
 use Rattle.row_infos.proofs.version.Goals as goal

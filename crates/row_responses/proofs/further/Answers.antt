@@ -1,5 +1,4 @@
 -- `row_responses::further` meets its contract. Assumes nothing.
-use borrow.Author.Rules.{rules}
 use borrow.Author.Tests.{eq-eqb, ne_eqb}
 use Rattle.rows.specs.Rows.{further_of}
 use Rattle.row_responses.proofs.further.Goals as goal

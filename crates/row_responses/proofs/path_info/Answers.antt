@@ -1,5 +1,4 @@
 -- `row_responses::path_info` meets its contract. Assumes nothing.
-use borrow.Author.Rules.{rules}
 use Rattle.rows.specs.Rows.{path_info_of, on}
 use Rattle.row_responses.proofs.path_info.Goals as goal
 

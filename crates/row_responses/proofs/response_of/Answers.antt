@@ -1,5 +1,4 @@
 -- `row_responses::response_of` meets its contract. Assumes nothing.
-use borrow.Author.Rules.{rules}
 use Rattle.rows.specs.Rows.{response_row}
 use Rattle.row_responses.proofs.response_of.Goals as goal
 

@@ -1,5 +1,4 @@
 -- `row_responses::result_of` meets its contract. Assumes nothing.
-use borrow.Author.Rules.{rules}
 use borrow.Author.Tests.{eq-eqb, ne_eqb}
 use Rattle.rows.specs.Rows.{result_of}
 use Rattle.row_responses.proofs.result_of.Goals as goal

@@ -1,5 +1,4 @@
 -- `row_responses::substitutable` meets its contract. Assumes nothing.
-use borrow.Author.Rules.{rules}
 use Rattle.rows.specs.Rows.{substitutable_of, on}
 use Rattle.row_responses.proofs.substitutable.Goals as goal
 

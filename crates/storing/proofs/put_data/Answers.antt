@@ -1,7 +1,6 @@
 -- `storing::put_data` meets its contract. Assumes nothing.
 use Rattle.written.proofs.WrittenLaws.{same_room, same_count, same_written, none_count, none_written}
 use Rattle.storing.proofs.ValueLaws.{data_hex, data_none, data_in}
-use borrow.Author.Rules.{rules}
 use Rattle.storing.proofs.put_data.Goals as goal
 
 pub put_hex-requires-clause-fact : goal.put_hex-requires-clause-fact
@@ -9,14 +8,14 @@ put_hex-requires-clause-fact c =
     let P = c.requires in
     let e = c.begins.ensures.value in
     let t = c.if-begins.true in
-    data_in _ _ _ e P.0 t
+    data_in _ _ _ e P.fact t
 
 pub put_hex-requires-clause-v_in_bounds : goal.put_hex-requires-clause-v_in_bounds
 put_hex-requires-clause-v_in_bounds c =
     let P = c.requires in
     let e = c.begins.ensures.value in
     let t = c.if-begins.true in
-    same_room _ _ (data_hex _ _ _ e t) _ _ P.1
+    same_room _ _ (data_hex _ _ _ e t) _ _ P.v_in_bounds
 
 pub returns-then-begins-clause-value : goal.returns-then-begins-clause-value
 returns-then-begins-clause-value c =
@@ -38,4 +37,4 @@ returns-clause-value c =
 pub returns-clause-store_after : goal.returns-clause-store_after
 returns-clause-store_after c =
     let h = data_none _ _ _ c.begins.ensures.value c.if-begins.false in
-    none_written _ _ _ h c.requires.1
+    none_written _ _ _ h c.requires.v_in_bounds

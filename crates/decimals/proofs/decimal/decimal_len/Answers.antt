@@ -1,10 +1,6 @@
 -- `decimals::decimal::decimal_len` meets its contract. The loop's invariant: the digits counted and those of the rest are those of the number, and one
 -- more. The measure is the rest. Assumes nothing.
-use Prim.Native.Nat.{◌+◌}
-use mathlib.Core.Path.{◌≡◌}
 use native.Mathlib.Omega.{arith}
-use lib.ListN.{length}
-use Rattle.values.specs.Decimal.{decimal}
 use Rattle.writing.proofs.DecimalLaws.{digits_one, digits_longer, tenth_less, decimal-length}
 use Rattle.decimals.proofs.decimal.decimal_len.Goals as goal
 

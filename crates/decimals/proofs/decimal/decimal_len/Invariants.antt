@@ -1,9 +1,7 @@
 use Prim.Native.Nat.{◌+◌}
 use mathlib.Core.Path.{◌≡◌}
-use native.Mathlib.Omega.{arith}
 use lib.ListN.{length}
 use Rattle.values.specs.Decimal.{decimal}
-use Rattle.writing.proofs.DecimalLaws.{digits_one, digits_longer, tenth_less, decimal-length}
 use Rattle.decimals.proofs.decimal.decimal_len.Given as goal
 
 abbrev pub invariant-loop-rest : goal.invariant-loop-rest

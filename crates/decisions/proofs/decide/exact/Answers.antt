@@ -1,7 +1,6 @@
 -- `decisions::decide::exact` meets its contract. Assumes nothing.
 use mathlib.Core.Path.{ap, ◌∙◌}
 use Rattle.verdicts.specs.Decisions.{passed_if, decides}
-use borrow.Author.Rules.{rules}
 use Rattle.decisions.proofs.decide.exact.Goals as goal
 
 pub returns : goal.returns

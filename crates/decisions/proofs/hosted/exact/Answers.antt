@@ -1,7 +1,6 @@
 -- `decisions::hosted::exact` meets its contract. Assumes nothing.
 use mathlib.Core.Path.{ap, ◌∙◌}
 use Rattle.verdicts.specs.Verdicts.{code}
-use borrow.Author.Rules.{rules}
 use Rattle.decisions.proofs.hosted.exact.Goals as goal
 
 pub returns : goal.returns

@@ -1,7 +1,6 @@
 -- `decisions::hosted::pattern` meets its contract. Assumes nothing.
 use mathlib.Core.Path.{ap, ◌∙◌}
 use Rattle.verdicts.specs.Verdicts.{code}
-use borrow.Author.Rules.{rules}
 use Rattle.decisions.proofs.hosted.pattern.Goals as goal
 
 pub returns : goal.returns

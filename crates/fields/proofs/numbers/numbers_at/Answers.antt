@@ -1,8 +1,5 @@
 -- `fields::numbers::numbers_at` meets its contract. The loop's invariant: the numbers filled, and those from `at` on, are all numbers. Assumes nothing.
-use Prim.Native.Nat.{◌-◌, ◌≤◌}
-use mathlib.Core.Path.{◌≡◌}
-use lib.ListN.{length}
-use Rattle.fields.proofs.FieldLaws.{Filling, still_long, one_filled, numbers_laws}
+use Rattle.fields.proofs.FieldLaws.{still_long, one_filled, numbers_laws}
 use borrow.Author.Rules.{rules}
 use Rattle.fields.proofs.numbers.numbers_at.Goals as goal
 

@@ -1,8 +1,7 @@
 use Prim.Native.Nat.{◌-◌, ◌≤◌}
 use mathlib.Core.Path.{◌≡◌}
 use lib.ListN.{length}
-use Rattle.fields.proofs.FieldLaws.{Filling, still_long, one_filled, numbers_laws}
-use borrow.Author.Rules.{rules}
+use Rattle.fields.proofs.FieldLaws.{Filling}
 use Rattle.fields.proofs.numbers.numbers_at.Given as goal
 
 abbrev pub invariant-loop-i : goal.invariant-loop-i

@@ -1,16 +1,7 @@
 use Prim.Native.Nat.{ℕ, ◌+◌, ◌-◌, ◌≤◌}
 use mathlib.Core.Path.{◌≡◌}
-use mathlib.Core.Bool.{true}
 use mathlib.Core.List.{List}
-use native.Mathlib.Nat.{add-zero}
-use native.Mathlib.Omega.{arith}
-use lib.Bits.{bit_or}
-use lib.Dec.{eqb}
-use lib.ListN.{get_or}
-use borrow.Author.Tests.{eqb-true}
-use Rattle.finding.specs.Places.{Apart, one_if_both}
-use Rattle.finding.proofs.PlaceLaws.{apart_none, apart_more}
-use borrow.Author.Rules.{rules}
+use Rattle.finding.specs.Places.{Apart}
 use Rattle.finding.proofs.search.apart.Given as goal
 
 -- from `at` on; k places are behind

@@ -1,16 +1,7 @@
-use Prim.Native.Nat.{ℕ, ◌+◌, ◌-◌, ◌≤◌, ◌<◌}
-use mathlib.Core.Path.{◌≡◌, refl, sym, ◌∙◌}
-use mathlib.Core.Bool.{Bool, true, false}
-use mathlib.Core.List.{List}
-use native.Mathlib.Omega.{arith}
-use lib.ListN.{length, get_or, take, drop}
-use Rattle.text.specs.Parts.{starts_with}
+use Prim.Native.Nat.{◌+◌, ◌-◌, ◌≤◌}
+use mathlib.Core.Path.{◌≡◌}
+use lib.ListN.{length, drop}
 use Rattle.verdicts.specs.Decisions.{contains}
-use Rattle.finding.specs.Places.{Apart}
-use Rattle.same_values.proofs.EqualLaws.{rest-is}
-use Rattle.finding.proofs.SearchLaws.{empty_in}
-use Rattle.finding.proofs.PlaceLaws.{short_left, found_at, not_at, passed_by}
-use borrow.Author.Rules.{rules}
 use Rattle.finding.proofs.search.contains.Given as goal
 
 abbrev pub invariant-loop-i : goal.invariant-loop-i

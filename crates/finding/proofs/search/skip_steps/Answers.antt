@@ -1,7 +1,4 @@
 -- `finding::search::skip_steps` meets its contract. The loop's invariant: the places so far are passed by. Assumes nothing.
-use Prim.Native.Nat.{◌+◌, ◌-◌, ◌≤◌}
-use lib.ListN.{length}
-use Rattle.finding.specs.Places.{Apart}
 use Rattle.finding.proofs.PlaceLaws.{apart_steps}
 use borrow.Author.Rules.{rules}
 use Rattle.finding.proofs.search.skip_steps.Goals as goal

@@ -1,8 +1,6 @@
 use Prim.Native.Nat.{◌+◌, ◌-◌, ◌≤◌}
 use lib.ListN.{length}
 use Rattle.finding.specs.Places.{Apart}
-use Rattle.finding.proofs.PlaceLaws.{apart_steps}
-use borrow.Author.Rules.{rules}
 use Rattle.finding.proofs.search.skip_steps.Given as goal
 
 abbrev pub invariant-loop-i : goal.invariant-loop-i

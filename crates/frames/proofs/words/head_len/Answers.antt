@@ -1,5 +1,4 @@
 -- `frames::words::head_len` meets its contract: each arm is the length of its word, computed. Assumes nothing.
-use borrow.Author.Rules.{rules}
 use mathlib.Core.Path.{sym, ap}
 use lib.ListN.{length}
 use Rattle.text.specs.Unicode.{encoded}

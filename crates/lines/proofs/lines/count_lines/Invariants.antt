@@ -1,13 +1,8 @@
-use Prim.Native.Nat.{ℕ, ◌+◌, ◌-◌, ◌≤◌, ◌<◌}
-use mathlib.Core.Path.{◌≡◌, ap}
-use mathlib.Core.List.{List}
-use native.Mathlib.Omega.{arith}
-use native.Mathlib.Nat.{zero-add}
+use Prim.Native.Nat.{◌+◌, ◌-◌, ◌≤◌}
+use mathlib.Core.Path.{◌≡◌}
 use lib.ListN.{length}
-use borrow.Author.Rules.{rules}
-use Rattle.text.specs.declared.lines.Line.{Line}
-use Rattle.text.specs.Lines.{line_at, lines}
-use Rattle.text.proofs.LineLaws.{lines_at, known, lines_none, line_steps}
+use Rattle.text.specs.Lines.{lines}
+use Rattle.text.proofs.LineLaws.{lines_at}
 use Rattle.lines.proofs.lines.count_lines.Given as goal
 
 abbrev pub invariant-loop-at : goal.invariant-loop-at

@@ -1,11 +1,7 @@
 -- `lines::lines::line_at` meets its contract. The loop's invariant: the walk from here answers what the walk from `at` answers.
 -- Assumes nothing.
-use Prim.Native.Nat.{◌-◌, ◌≤◌}
-use mathlib.Core.Path.{◌≡◌}
-use lib.ListN.{length, drop}
 use borrow.Author.Rules.{rules}
-use Rattle.text.specs.Lines.{line_from, line_at}
-use Rattle.text.specs.LinesWalk.{end_at}
+use Rattle.text.specs.Lines.{line_at}
 use Rattle.text.proofs.LineLaws.{Line-walk}
 use Rattle.lines.proofs.lines.line_at.Goals as goal
 

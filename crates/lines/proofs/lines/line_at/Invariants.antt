@@ -1,10 +1,8 @@
 use Prim.Native.Nat.{◌-◌, ◌≤◌}
 use mathlib.Core.Path.{◌≡◌}
 use lib.ListN.{length, drop}
-use borrow.Author.Rules.{rules}
 use Rattle.text.specs.Lines.{line_from, line_at}
 use Rattle.text.specs.LinesWalk.{end_at}
-use Rattle.text.proofs.LineLaws.{Line-walk}
 use Rattle.lines.proofs.lines.line_at.Given as goal
 
 abbrev pub invariant-loop-i : goal.invariant-loop-i

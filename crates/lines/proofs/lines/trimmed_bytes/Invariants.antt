@@ -1,16 +1,8 @@
-use Prim.Native.Nat.{ℕ, ◌+◌, ◌-◌, ◌≤◌, ◌<◌}
-use mathlib.Core.Path.{◌≡◌, ap}
-use mathlib.Core.List.{List}
-use native.Mathlib.Omega.{arith}
-use native.Mathlib.Nat.{zero-add}
-use lib.ListN.{length, drop, length-drop, length-take}
-use Rattle.text.specs.Base.{part}
-use Rattle.text.specs.declared.lines.Line.{Line}
-use Rattle.text.specs.Trim.{trimmed}
-use Rattle.text.specs.Lines.{line_at, lines, line_bytes, trimmed_length}
-use Rattle.text.proofs.LineLaws.{lines_at, known, lines_none, line_steps}
-use Rattle.text.proofs.TrimLaws.{trimmed-fits}
-use borrow.Author.Rules.{rules}
+use Prim.Native.Nat.{◌+◌, ◌-◌, ◌≤◌}
+use mathlib.Core.Path.{◌≡◌}
+use lib.ListN.{length}
+use Rattle.text.specs.Lines.{lines, trimmed_length}
+use Rattle.text.proofs.LineLaws.{lines_at}
 use Rattle.lines.proofs.lines.trimmed_bytes.Given as goal
 
 abbrev pub invariant-loop-at : goal.invariant-loop-at

@@ -1,14 +1,11 @@
 -- `list_pieces::compare::opens_at` meets its contract. The loop's invariant: what is left of the pattern opens what is left of the list just where the whole
 -- pattern opens the list from the place given. Assumes nothing.
-use Prim.Native.Nat.{◌-◌, ◌≤◌}
-use mathlib.Core.Path.{◌≡◌, refl, ap}
-use mathlib.Core.List.{[]}
+use mathlib.Core.Path.{refl, ap}
 use native.Mathlib.Omega.{arith}
-use lib.ListN.{length, get_or, drop}
+use lib.ListN.{length}
 use borrow.Author.Rules.{rules}
 use Rattle.list_pieces.proofs.PieceLaws.{count_is}
 use Rattle.list_pieces.proofs.OpenLaws.{list_turns}
-use Rattle.list_pieces.specs.Pieces.{pieces_of, row_from, opens}
 use Rattle.list_pieces.proofs.compare.opens_at.Goals as goal
 
 pub loop-k-init : goal.loop-k-init

@@ -1,11 +1,7 @@
 use Prim.Native.Nat.{◌-◌, ◌≤◌}
-use mathlib.Core.Path.{◌≡◌, refl, ap}
+use mathlib.Core.Path.{◌≡◌}
 use mathlib.Core.List.{[]}
-use native.Mathlib.Omega.{arith}
 use lib.ListN.{length, get_or, drop}
-use borrow.Author.Rules.{rules}
-use Rattle.list_pieces.proofs.PieceLaws.{count_is}
-use Rattle.list_pieces.proofs.OpenLaws.{list_turns}
 use Rattle.list_pieces.specs.Pieces.{pieces_of, row_from, opens}
 use Rattle.list_pieces.proofs.compare.opens_at.Given as goal
 

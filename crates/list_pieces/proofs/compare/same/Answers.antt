@@ -6,7 +6,6 @@ use Rattle.text.specs.Parts.{same_bytes}
 use Rattle.verdicts.specs.Held.{texts_in}
 use Rattle.list_pieces.specs.Pieces.{opens}
 use Rattle.list_pieces.proofs.PieceLaws.{some-pieces, in_brackets, in_braces}
-use borrow.Author.Rules.{rules}
 use Rattle.list_pieces.proofs.compare.same.Goals as goal
 
 pub opens_at-requires-clause-j_bound : goal.opens_at-requires-clause-j_bound

@@ -1,7 +1,6 @@
 -- `list_pieces::pieces::piece_count` meets its contract. Assumes nothing.
 use Prim.Native.Nat.{ℕ, zero, suc, ◌+◌, ◌*◌}
 use mathlib.Core.Path.{◌≡◌, refl}
-use borrow.Author.Rules.{rules}
 use Rattle.list_pieces.specs.Pieces.{piece_count}
 use Rattle.list_pieces.proofs.pieces.piece_count.Goals as goal
 

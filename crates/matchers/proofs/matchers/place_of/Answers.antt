@@ -2,7 +2,6 @@
 use Prim.Native.Nat.{ℕ, zero, suc}
 use mathlib.Core.Path.{◌≡◌, refl, sym}
 use Rattle.script.specs.Pieces.{place, place_of}
-use borrow.Author.Rules.{rules}
 use Rattle.matchers.proofs.matchers.place_of.Goals as goal
 
 placed : (start n : ℕ) → (n ≡ 0 → ⊥) → place_of start n ≡ record { start = start; len = n }

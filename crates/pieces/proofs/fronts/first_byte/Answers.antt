@@ -1,6 +1,5 @@
 -- `pieces::fronts::first_byte` meets its contract. Assumes nothing.
 use Rattle.script.specs.Pieces.{bytes}
-use borrow.Author.Rules.{rules}
 use Rattle.pieces.proofs.fronts.first_byte.Goals as goal
 
 pub returns : goal.returns

@@ -1,7 +1,6 @@
 -- `pieces::pieces::trimmed` meets its contract. Assumes nothing.
 use native.Mathlib.Omega.{arith}
 use Rattle.pieces.proofs.PieceLaws.{trim-is, trim_end, trim_in}
-use borrow.Author.Rules.{rules}
 use Rattle.pieces.proofs.pieces.trimmed.Goals as goal
 
 pub overflow_add-first : goal.overflow_add-first

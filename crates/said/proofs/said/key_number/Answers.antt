@@ -7,133 +7,133 @@ use Rattle.script.specs.declared.roles.Key.TheVariants as Key
 use Rattle.said.proofs.SaidLaws.{number_small}
 use Rattle.said.proofs.said.key_number.Goals as goal
 
-is : (j k : Key) → k ≡ j → ((key_row j).number ≡ (key_row k).number) × ((key_row j).number < 33)
-is j k e = (ap (λ (i : Key). (key_row i).number) (sym e), number_small j)
+is : (j k : Key) → k ≡ j → (key_row j).number ≡ (key_row k).number
+is j k e = ap (λ (i : Key). (key_row i).number) (sym e)
 
 pub returns-in-KeepFailed : goal.returns-in-KeepFailed
 unfolding key_row
-returns-in-KeepFailed c = c.in-KeepFailed.in-KeepFailed-own.keys1
+returns-in-KeepFailed c = record { value = is Key.KeepFailed _ c.in-KeepFailed.is; upper_bound = number_small Key.KeepFailed }
 
 pub returns-in-KeepGoing : goal.returns-in-KeepGoing
 unfolding key_row
-returns-in-KeepGoing c = c.in-KeepGoing.in-KeepGoing-own.keys2
+returns-in-KeepGoing c = record { value = is Key.KeepGoing _ c.in-KeepGoing.is; upper_bound = number_small Key.KeepGoing }
 
 pub returns-in-TryFallback : goal.returns-in-TryFallback
 unfolding key_row
-returns-in-TryFallback c = c.in-TryFallback.in-TryFallback-own.keys3
+returns-in-TryFallback c = record { value = is Key.TryFallback _ c.in-TryFallback.is; upper_bound = number_small Key.TryFallback }
 
 pub returns-in-Verbosity : goal.returns-in-Verbosity
 unfolding key_row
-returns-in-Verbosity c = c.in-Verbosity.in-Verbosity-own.keys4
+returns-in-Verbosity c = record { value = is Key.Verbosity _ c.in-Verbosity.is; upper_bound = number_small Key.Verbosity }
 
 pub returns-in-MaxBuildJobs : goal.returns-in-MaxBuildJobs
 unfolding key_row
-returns-in-MaxBuildJobs c = c.in-MaxBuildJobs.in-MaxBuildJobs-own.keys5
+returns-in-MaxBuildJobs c = record { value = is Key.MaxBuildJobs _ c.in-MaxBuildJobs.is; upper_bound = number_small Key.MaxBuildJobs }
 
 pub returns-in-MaxSilentTime : goal.returns-in-MaxSilentTime
 unfolding key_row
-returns-in-MaxSilentTime c = c.in-MaxSilentTime.in-MaxSilentTime-own.keys6
+returns-in-MaxSilentTime c = record { value = is Key.MaxSilentTime _ c.in-MaxSilentTime.is; upper_bound = number_small Key.MaxSilentTime }
 
 pub returns-in-UseBuildHook : goal.returns-in-UseBuildHook
 unfolding key_row
-returns-in-UseBuildHook c = c.in-UseBuildHook.in-UseBuildHook-own.keys7
+returns-in-UseBuildHook c = record { value = is Key.UseBuildHook _ c.in-UseBuildHook.is; upper_bound = number_small Key.UseBuildHook }
 
 pub returns-in-VerboseBuild : goal.returns-in-VerboseBuild
 unfolding key_row
-returns-in-VerboseBuild c = c.in-VerboseBuild.in-VerboseBuild-own.keys8
+returns-in-VerboseBuild c = record { value = is Key.VerboseBuild _ c.in-VerboseBuild.is; upper_bound = number_small Key.VerboseBuild }
 
 pub returns-in-LogType : goal.returns-in-LogType
 unfolding key_row
-returns-in-LogType c = c.in-LogType.in-LogType-own.keys9
+returns-in-LogType c = record { value = is Key.LogType _ c.in-LogType.is; upper_bound = number_small Key.LogType }
 
 pub returns-in-PrintBuildTrace : goal.returns-in-PrintBuildTrace
 unfolding key_row
-returns-in-PrintBuildTrace c = c.in-PrintBuildTrace.in-PrintBuildTrace-own.keys10
+returns-in-PrintBuildTrace c = record { value = is Key.PrintBuildTrace _ c.in-PrintBuildTrace.is; upper_bound = number_small Key.PrintBuildTrace }
 
 pub returns-in-BuildCores : goal.returns-in-BuildCores
 unfolding key_row
-returns-in-BuildCores c = c.in-BuildCores.in-BuildCores-own.keys11
+returns-in-BuildCores c = record { value = is Key.BuildCores _ c.in-BuildCores.is; upper_bound = number_small Key.BuildCores }
 
 pub returns-in-UseSubstitutes : goal.returns-in-UseSubstitutes
 unfolding key_row
-returns-in-UseSubstitutes c = c.in-UseSubstitutes.in-UseSubstitutes-own.keys12
+returns-in-UseSubstitutes c = record { value = is Key.UseSubstitutes _ c.in-UseSubstitutes.is; upper_bound = number_small Key.UseSubstitutes }
 
 pub returns-in-Overrides : goal.returns-in-Overrides
 unfolding key_row
-returns-in-Overrides c = c.in-Overrides.in-Overrides-own.keys13
+returns-in-Overrides c = record { value = is Key.Overrides _ c.in-Overrides.is; upper_bound = number_small Key.Overrides }
 
 pub returns-in-Action : goal.returns-in-Action
 unfolding key_row
-returns-in-Action c = c.in-Action.in-Action-own.keys14
+returns-in-Action c = record { value = is Key.Action _ c.in-Action.is; upper_bound = number_small Key.Action }
 
 pub returns-in-Paths : goal.returns-in-Paths
 unfolding key_row
-returns-in-Paths c = c.in-Paths.in-Paths-own.keys15
+returns-in-Paths c = record { value = is Key.Paths _ c.in-Paths.is; upper_bound = number_small Key.Paths }
 
 pub returns-in-IgnoreLiveness : goal.returns-in-IgnoreLiveness
 unfolding key_row
-returns-in-IgnoreLiveness c = c.in-IgnoreLiveness.in-IgnoreLiveness-own.keys16
+returns-in-IgnoreLiveness c = record { value = is Key.IgnoreLiveness _ c.in-IgnoreLiveness.is; upper_bound = number_small Key.IgnoreLiveness }
 
 pub returns-in-MaxFreed : goal.returns-in-MaxFreed
 unfolding key_row
-returns-in-MaxFreed c = c.in-MaxFreed.in-MaxFreed-own.keys17
+returns-in-MaxFreed c = record { value = is Key.MaxFreed _ c.in-MaxFreed.is; upper_bound = number_small Key.MaxFreed }
 
 pub returns-in-CheckContents : goal.returns-in-CheckContents
 unfolding key_row
-returns-in-CheckContents c = c.in-CheckContents.in-CheckContents-own.keys18
+returns-in-CheckContents c = record { value = is Key.CheckContents _ c.in-CheckContents.is; upper_bound = number_small Key.CheckContents }
 
 pub returns-in-Repair : goal.returns-in-Repair
 unfolding key_row
-returns-in-Repair c = c.in-Repair.in-Repair-own.keys19
+returns-in-Repair c = record { value = is Key.Repair _ c.in-Repair.is; upper_bound = number_small Key.Repair }
 
 pub returns-in-Suffix : goal.returns-in-Suffix
 unfolding key_row
-returns-in-Suffix c = c.in-Suffix.in-Suffix-own.keys20
+returns-in-Suffix c = record { value = is Key.Suffix _ c.in-Suffix.is; upper_bound = number_small Key.Suffix }
 
 pub returns-in-Text : goal.returns-in-Text
 unfolding key_row
-returns-in-Text c = c.in-Text.in-Text-own.keys21
+returns-in-Text c = record { value = is Key.Text _ c.in-Text.is; upper_bound = number_small Key.Text }
 
 pub returns-in-Refs : goal.returns-in-Refs
 unfolding key_row
-returns-in-Refs c = c.in-Refs.in-Refs-own.keys22
+returns-in-Refs c = record { value = is Key.Refs _ c.in-Refs.is; upper_bound = number_small Key.Refs }
 
 pub returns-in-Name : goal.returns-in-Name
 unfolding key_row
-returns-in-Name c = c.in-Name.in-Name-own.keys23
+returns-in-Name c = record { value = is Key.Name _ c.in-Name.is; upper_bound = number_small Key.Name }
 
 pub returns-in-CamStr : goal.returns-in-CamStr
 unfolding key_row
-returns-in-CamStr c = c.in-CamStr.in-CamStr-own.keys24
+returns-in-CamStr c = record { value = is Key.CamStr _ c.in-CamStr.is; upper_bound = number_small Key.CamStr }
 
 pub returns-in-Data : goal.returns-in-Data
 unfolding key_row
-returns-in-Data c = c.in-Data.in-Data-own.keys25
+returns-in-Data c = record { value = is Key.Data _ c.in-Data.is; upper_bound = number_small Key.Data }
 
 pub returns-in-DontCheckSigs : goal.returns-in-DontCheckSigs
 unfolding key_row
-returns-in-DontCheckSigs c = c.in-DontCheckSigs.in-DontCheckSigs-own.keys26
+returns-in-DontCheckSigs c = record { value = is Key.DontCheckSigs _ c.in-DontCheckSigs.is; upper_bound = number_small Key.DontCheckSigs }
 
 pub returns-in-Raw : goal.returns-in-Raw
 unfolding key_row
-returns-in-Raw c = c.in-Raw.in-Raw-own.keys27
+returns-in-Raw c = record { value = is Key.Raw _ c.in-Raw.is; upper_bound = number_small Key.Raw }
 
 pub returns-in-Protocol : goal.returns-in-Protocol
 unfolding key_row
-returns-in-Protocol c = c.in-Protocol.in-Protocol-own.keys28
+returns-in-Protocol c = record { value = is Key.Protocol _ c.in-Protocol.is; upper_bound = number_small Key.Protocol }
 
 pub returns-in-Features : goal.returns-in-Features
 unfolding key_row
-returns-in-Features c = c.in-Features.in-Features-own.keys29
+returns-in-Features c = record { value = is Key.Features _ c.in-Features.is; upper_bound = number_small Key.Features }
 
 pub returns-in-DaemonVersion : goal.returns-in-DaemonVersion
 unfolding key_row
-returns-in-DaemonVersion c = c.in-DaemonVersion.in-DaemonVersion-own.keys30
+returns-in-DaemonVersion c = record { value = is Key.DaemonVersion _ c.in-DaemonVersion.is; upper_bound = number_small Key.DaemonVersion }
 
 pub returns-in-TrustStatus : goal.returns-in-TrustStatus
 unfolding key_row
-returns-in-TrustStatus c = c.in-TrustStatus.in-TrustStatus-own.keys31
+returns-in-TrustStatus c = record { value = is Key.TrustStatus _ c.in-TrustStatus.is; upper_bound = number_small Key.TrustStatus }
 
 pub returns-in-ServerFeatures : goal.returns-in-ServerFeatures
 unfolding key_row
-returns-in-ServerFeatures c = c.in-ServerFeatures.in-ServerFeatures-own.keys32
+returns-in-ServerFeatures c = record { value = is Key.ServerFeatures _ c.in-ServerFeatures.is; upper_bound = number_small Key.ServerFeatures }

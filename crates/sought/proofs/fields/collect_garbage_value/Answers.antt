@@ -2,7 +2,6 @@
 use Rattle.sought.specs.Values.{value_bytes}
 use Rattle.verdicts.specs.Lookup.{fields, value_in}
 use Rattle.sought.proofs.ValueLaws.{told_same}
-use borrow.Author.Rules.{rules}
 use Rattle.sought.proofs.fields.collect_garbage_value.Goals as goal
 
 pub returns-then-same : goal.returns-then-same

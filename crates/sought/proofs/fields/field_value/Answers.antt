@@ -4,7 +4,6 @@ use Rattle.sought.specs.Values.{value_bytes}
 use Rattle.script.specs.declared.response.ResultData.{ResultData}
 use Rattle.verdicts.specs.Held.{result_of}
 use Rattle.verdicts.specs.Lookup.{fields, value_in}
-use borrow.Author.Rules.{rules}
 use Rattle.sought.proofs.fields.field_value.Goals as goal
 
 pub returns-in-Absent : goal.returns-in-Absent
@@ -21,7 +20,7 @@ returns-in-Str c = λ bytes lists. ap (λ (x : ResultData). value_in (fields (re
 
 pub returns-in-PathInfo : goal.returns-in-PathInfo
 unfolding value_bytes value_in fields result_of
-returns-in-PathInfo c = λ bytes lists. c.path_info_value.ensures bytes lists ∙ ap (λ (x : ResultData). value_in (fields (result_of bytes lists x)) c.args.field.now) (sym c.result.given.1)
+returns-in-PathInfo c = λ bytes lists. c.path_info_value.ensures bytes lists ∙ ap (λ (x : ResultData). value_in (fields (result_of bytes lists x)) c.args.field.now) (sym c.in-PathInfo.is)
 
 pub returns-in-StringSet : goal.returns-in-StringSet
 unfolding value_bytes value_in fields result_of
@@ -37,15 +36,15 @@ returns-in-None c = λ bytes lists. ap (λ (x : ResultData). value_in (fields (r
 
 pub returns-in-CollectGarbage : goal.returns-in-CollectGarbage
 unfolding value_bytes value_in fields result_of
-returns-in-CollectGarbage c = λ bytes lists. c.collect_garbage_value.ensures bytes lists ∙ ap (λ (x : ResultData). value_in (fields (result_of bytes lists x)) c.args.field.now) (sym c.result2.given.1)
+returns-in-CollectGarbage c = λ bytes lists. c.collect_garbage_value.ensures bytes lists ∙ ap (λ (x : ResultData). value_in (fields (result_of bytes lists x)) c.args.field.now) (sym c.in-CollectGarbage.is)
 
 pub returns-in-SubstitutablePathInfo : goal.returns-in-SubstitutablePathInfo
 unfolding value_bytes value_in fields result_of
-returns-in-SubstitutablePathInfo c = λ bytes lists. c.substitutable_value.ensures bytes lists ∙ ap (λ (x : ResultData). value_in (fields (result_of bytes lists x)) c.args.field.now) (sym c.result3.given.1)
+returns-in-SubstitutablePathInfo c = λ bytes lists. c.substitutable_value.ensures bytes lists ∙ ap (λ (x : ResultData). value_in (fields (result_of bytes lists x)) c.args.field.now) (sym c.in-SubstitutablePathInfo.is)
 
 pub returns-in-Missing : goal.returns-in-Missing
 unfolding value_bytes value_in fields result_of
-returns-in-Missing c = λ bytes lists. c.missing_value.ensures bytes lists ∙ ap (λ (x : ResultData). value_in (fields (result_of bytes lists x)) c.args.field.now) (sym c.result4.given.1)
+returns-in-Missing c = λ bytes lists. c.missing_value.ensures bytes lists ∙ ap (λ (x : ResultData). value_in (fields (result_of bytes lists x)) c.args.field.now) (sym c.in-Missing.is)
 
 pub returns-in-Framed : goal.returns-in-Framed
 unfolding value_bytes value_in fields result_of

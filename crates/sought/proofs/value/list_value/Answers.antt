@@ -5,7 +5,6 @@ use Rattle.sought.specs.Values.{value_bytes}
 use Rattle.script.specs.declared.records.MaybeItems.{MaybeItems}
 use Rattle.verdicts.specs.Held.{texts_given}
 use Rattle.verdicts.specs.Lookup.{bracketed}
-use borrow.Author.Rules.{rules}
 use Rattle.sought.proofs.value.list_value.Goals as goal
 
 pub returns-in-Absent : goal.returns-in-Absent

@@ -5,7 +5,6 @@ use Rattle.sought.specs.Values.{value_bytes}
 use Rattle.script.specs.declared.response.MaybeNumber.{MaybeNumber}
 use Rattle.values.specs.Decimal.{decimal}
 use Rattle.verdicts.specs.Held.{number_given}
-use borrow.Author.Rules.{rules}
 use Rattle.sought.proofs.value.number_value.Goals as goal
 
 pub returns-in-Absent : goal.returns-in-Absent

@@ -2,7 +2,6 @@
 use mathlib.Core.Path.{sym, ap}
 use Rattle.sought.specs.Values.{value_bytes}
 use Rattle.verdicts.specs.Held.{text_given}
-use borrow.Author.Rules.{rules}
 use Rattle.sought.proofs.value.text_value.Goals as goal
 
 pub returns-in-Absent : goal.returns-in-Absent

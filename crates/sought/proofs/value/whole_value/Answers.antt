@@ -4,7 +4,6 @@ use Rattle.sought.specs.Values.{value_bytes}
 use Rattle.script.specs.declared.response.ResultData.{ResultData}
 use Rattle.verdicts.specs.Held.{result_of}
 use Rattle.verdicts.specs.Lookup.{whole_value}
-use borrow.Author.Rules.{rules}
 use Rattle.sought.proofs.value.whole_value.Goals as goal
 
 pub returns-in-Absent : goal.returns-in-Absent
@@ -13,11 +12,11 @@ returns-in-Absent c = λ bytes lists. ap (λ (x : ResultData). whole_value (resu
 
 pub returns-in-U64 : goal.returns-in-U64
 unfolding value_bytes whole_value result_of
-returns-in-U64 c = λ bytes lists. ap (λ (x : ResultData). whole_value (result_of bytes lists x)) (sym c.result.given.1)
+returns-in-U64 c = λ bytes lists. ap (λ (x : ResultData). whole_value (result_of bytes lists x)) (sym c.in-U64.is)
 
 pub returns-in-Str : goal.returns-in-Str
 unfolding value_bytes whole_value result_of
-returns-in-Str c = λ bytes lists. ap (λ (x : ResultData). whole_value (result_of bytes lists x)) (sym c.result2.given.1)
+returns-in-Str c = λ bytes lists. ap (λ (x : ResultData). whole_value (result_of bytes lists x)) (sym c.in-Str.is)
 
 pub returns-in-PathInfo : goal.returns-in-PathInfo
 unfolding value_bytes whole_value result_of
@@ -25,7 +24,7 @@ returns-in-PathInfo c = λ bytes lists. ap (λ (x : ResultData). whole_value (re
 
 pub returns-in-StringSet : goal.returns-in-StringSet
 unfolding value_bytes whole_value result_of
-returns-in-StringSet c = λ bytes lists. ap (λ (x : ResultData). whole_value (result_of bytes lists x)) (sym c.result3.given.1)
+returns-in-StringSet c = λ bytes lists. ap (λ (x : ResultData). whole_value (result_of bytes lists x)) (sym c.in-StringSet.is)
 
 pub returns-in-StringMap : goal.returns-in-StringMap
 unfolding value_bytes whole_value result_of

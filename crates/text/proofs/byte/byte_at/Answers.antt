@@ -1,5 +1,4 @@
 -- `text::byte::byte_at` meets its contract. Assumes nothing.
-use borrow.Author.Rules.{rules}
 use mathlib.Core.Path.{sym}
 use lib.ListN.{get_or-eq_default}
 use Rattle.text.proofs.byte.byte_at.Goals as goal

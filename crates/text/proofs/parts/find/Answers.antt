@@ -1,5 +1,5 @@
 -- `text::parts::find` meets its contract. The loop's invariant: the search from here answers what the search of the whole answers. Assumes nothing.
-use Prim.Native.Nat.{ℕ, ◌+◌, ◌-◌, ◌≤◌, ◌<◌}
+use Prim.Native.Nat.{ℕ, ◌+◌, ◌≤◌, ◌<◌}
 use mathlib.Core.Path.{◌≡◌}
 use mathlib.Core.List.{List}
 use lib.ListN.{length, get_or, drop}
@@ -7,7 +7,7 @@ use borrow.Author.Tests.{eq-eqb, ne_eqb}
 use Rattle.text.proofs.Scan.{rest_more, rest-none}
 use Rattle.text.proofs.SkipLaws.{passed}
 use mathlib.Core.Option.{Option, none, some}
-use Rattle.text.specs.Parts.{position_from, position, found_of}
+use Rattle.text.specs.Parts.{position_from, found_of}
 use borrow.Author.Rules.{rules}
 use Rattle.text.proofs.parts.find.Goals as goal
 

@@ -1,15 +1,7 @@
-use Prim.Native.Nat.{ℕ, ◌+◌, ◌-◌, ◌≤◌, ◌<◌}
-use mathlib.Core.Path.{◌≡◌, refl, ap, ◌∙◌}
-use mathlib.Core.List.{List, [], ◌∷◌}
-use lib.Dec.{eqb}
-use lib.ListN.{length, get_or, drop, length-drop}
-use borrow.Author.Tests.{eq-eqb, ne_eqb}
-use Rattle.text.proofs.Scan.{rest_more}
-use mathlib.Core.Option.{Option, none, some}
-use native.Mathlib.Omega.{arith}
-use Rattle.text.specs.Parts.{starts_with, pair_position_from, pair_position, found_of}
-use Rattle.text.proofs.Scan.{and_false}
-use borrow.Author.Rules.{rules}
+use Prim.Native.Nat.{◌+◌, ◌-◌}
+use mathlib.Core.Path.{◌≡◌}
+use lib.ListN.{length, drop}
+use Rattle.text.specs.Parts.{pair_position_from, pair_position}
 use Rattle.text.proofs.parts.find_pair.Given as goal
 
 abbrev pub invariant-loop-next : goal.invariant-loop-next

@@ -1,13 +1,7 @@
-use Prim.Native.Nat.{ℕ, ◌+◌, ◌-◌, ◌≤◌, ◌<◌}
-use mathlib.Core.Path.{◌≡◌, refl}
-use mathlib.Core.Bool.{true, false}
-use mathlib.Core.List.{List}
-use lib.ListN.{length, get_or, drop}
-use borrow.Author.Tests.{eq-eqb, ne_eqb}
-use Rattle.text.proofs.Scan.{rest_more, rest-none}
-use Rattle.text.specs.declared.parts.Part.{Part}
-use Rattle.text.specs.Parts.{part_of, part_from, part_at}
-use borrow.Author.Rules.{rules}
+use Prim.Native.Nat.{◌-◌}
+use mathlib.Core.Path.{◌≡◌}
+use lib.ListN.{length, drop}
+use Rattle.text.specs.Parts.{part_from, part_at}
 use Rattle.text.proofs.parts.part_at.Given as goal
 
 abbrev pub invariant-loop-i : goal.invariant-loop-i

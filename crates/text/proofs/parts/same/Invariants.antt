@@ -1,14 +1,7 @@
-use Prim.Native.Nat.{ℕ, ◌+◌, ◌-◌, ◌≤◌, ◌<◌}
-use mathlib.Core.Path.{◌≡◌, refl}
-use mathlib.Core.Bool.{Bool, true, false}
-use mathlib.Core.List.{List}
-use lib.ListN.{length, get_or, drop}
-use borrow.Author.Tests.{eq-eqb, ne_eqb}
-use Rattle.text.proofs.Scan.{rest_more, rest-none}
-use native.Mathlib.Omega.{arith}
+use Prim.Native.Nat.{◌-◌, ◌≤◌}
+use mathlib.Core.Path.{◌≡◌}
+use lib.ListN.{length, drop}
 use Rattle.text.specs.Parts.{same_bytes}
-use Rattle.text.proofs.LiteralLaws.{other_length}
-use borrow.Author.Rules.{rules}
 use Rattle.text.proofs.parts.same.Given as goal
 
 abbrev pub invariant-loop-i : goal.invariant-loop-i

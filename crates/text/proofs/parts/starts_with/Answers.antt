@@ -1,6 +1,6 @@
 -- `text::parts::starts_with` meets its contract. The loop's invariant: the rest of the prefix stands at the front of the rest of the text just
 -- where the whole prefix stands at the front of the text. Assumes nothing.
-use Prim.Native.Nat.{ℕ, ◌+◌, ◌-◌, ◌≤◌, ◌<◌}
+use Prim.Native.Nat.{ℕ, ◌+◌, ◌≤◌, ◌<◌}
 use mathlib.Core.Path.{◌≡◌, refl}
 use mathlib.Core.Bool.{Bool, true, false}
 use mathlib.Core.List.{List, [], ◌∷◌}

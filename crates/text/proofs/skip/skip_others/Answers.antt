@@ -1,7 +1,4 @@
 -- `text::skip::skip_others` meets its contract. The loop's invariant: the byte did not stand so far. Assumes nothing.
-use Prim.Native.Nat.{◌-◌, ◌≤◌}
-use lib.ListN.{length}
-use Rattle.text.specs.Skip.{Without}
 use Rattle.text.proofs.SkipLaws.{skip_steps}
 use borrow.Author.Rules.{rules}
 use Rattle.text.proofs.skip.skip_others.Goals as goal

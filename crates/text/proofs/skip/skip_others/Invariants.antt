@@ -1,8 +1,6 @@
 use Prim.Native.Nat.{◌-◌, ◌≤◌}
 use lib.ListN.{length}
 use Rattle.text.specs.Skip.{Without}
-use Rattle.text.proofs.SkipLaws.{skip_steps}
-use borrow.Author.Rules.{rules}
 use Rattle.text.proofs.skip.skip_others.Given as goal
 
 abbrev pub invariant-loop-i : goal.invariant-loop-i

@@ -1,0 +1,194 @@
+-- `entries::entries::read_entry` meets its contract. Assumes nothing.
+use lib.ListN.{length}
+use Rattle.script.specs.Contents.{entry_of}
+use Rattle.entries.specs.Entries.{entry_at}
+use Rattle.entries.proofs.EntryLaws.{lines-room, said_in, set_room, stored-room, entry_fits, advanced_fits, item_count, store_count, entry_laid, items_written, items_same, store_written, says-items, says-expects, says-store, says-ahead, says-next, entry_stored}
+use Rattle.stored.proofs.WriteLaws.{kept}
+use borrow.Author.Rules.{rules}
+use Rattle.entries.proofs.entries.read_entry.Goals as goal
+
+pub read_lines-ls-requires : goal.read_lines-ls-requires
+unfolding entry_at entry_of
+read_lines-ls-requires c =
+    let text = c.args.text.now in
+    let a = c.args.a in
+    let i = c.args.i in
+    let x = c.args.x in
+    let b = c.args.b in
+    let T = c.takes_pairs in (
+      search rules,
+      (
+        search rules,
+        (
+          search rules,
+          (
+            search rules,
+            (
+              search rules,
+              (
+                search rules,
+                (
+                  lines-room text a i x b T.result T.ensures _ (search rules),
+                  (
+                    search rules,
+                    (lines-room text a i x b T.result T.ensures _ (search rules), search rules),
+                  ),
+                ),
+              ),
+            ),
+          ),
+        ),
+      ),
+    )
+
+pub put_values-z-requires-clause-fact : goal.put_values-z-requires-clause-fact
+unfolding entry_at entry_of
+put_values-z-requires-clause-fact c =
+    let text = c.args.text.now in
+    let a = c.args.a in
+    let i = c.args.i in
+    let x = c.args.x in
+    let b = c.args.b in
+    let T = c.takes_pairs in
+    let R = c.read_lines-ls in
+    let U = R.ensures.k_after in
+    search rules
+
+pub put_values-z-requires-clause-said_in : goal.put_values-z-requires-clause-said_in
+unfolding entry_at entry_of
+put_values-z-requires-clause-said_in c =
+    let text = c.args.text.now in
+    let a = c.args.a in
+    let i = c.args.i in
+    let x = c.args.x in
+    let b = c.args.b in
+    let T = c.takes_pairs in
+    let R = c.read_lines-ls in
+    let U = R.ensures.k_after in
+    said_in text a i x b T.result T.ensures _ _ U (search rules)
+
+pub put_values-z-requires-clause-op_in_bounds : goal.put_values-z-requires-clause-op_in_bounds
+unfolding entry_at entry_of
+put_values-z-requires-clause-op_in_bounds c =
+    let text = c.args.text.now in
+    let a = c.args.a in
+    let i = c.args.i in
+    let x = c.args.x in
+    let b = c.args.b in
+    let T = c.takes_pairs in
+    let R = c.read_lines-ls in
+    let U = R.ensures.k_after in
+    set_room text a i x b T.result T.ensures _ _ U R.result.pairs R.ensures.pairs_value _ (search rules)
+
+pub put_values-z-requires-clause-op_in_bounds_2 : goal.put_values-z-requires-clause-op_in_bounds_2
+unfolding entry_at entry_of
+put_values-z-requires-clause-op_in_bounds_2 c =
+    let text = c.args.text.now in
+    let a = c.args.a in
+    let i = c.args.i in
+    let x = c.args.x in
+    let b = c.args.b in
+    let T = c.takes_pairs in
+    let R = c.read_lines-ls in
+    let U = R.ensures.k_after in
+    stored-room text a i x b T.result T.ensures _ _ U R.result.pairs R.ensures.pairs_value _ c.requires.a_in_bounds_3
+
+pub entry_of-e-requires-clause-fact : goal.entry_of-e-requires-clause-fact
+unfolding entry_at entry_of
+entry_of-e-requires-clause-fact c =
+    let text = c.args.text.now in
+    let a = c.args.a in
+    let i = c.args.i in
+    let x = c.args.x in
+    let b = c.args.b in
+    let T = c.takes_pairs in
+    let R = c.read_lines-ls in
+    let U = R.ensures.k_after in
+    let P = c.put_values-z in
+    search rules
+
+pub entry_of-e-requires-clause-said_in : goal.entry_of-e-requires-clause-said_in
+unfolding entry_at entry_of
+entry_of-e-requires-clause-said_in c =
+    let text = c.args.text.now in
+    let a = c.args.a in
+    let i = c.args.i in
+    let x = c.args.x in
+    let b = c.args.b in
+    let T = c.takes_pairs in
+    let R = c.read_lines-ls in
+    let U = R.ensures.k_after in
+    let P = c.put_values-z in
+    said_in text a i x b T.result T.ensures _ _ U (search rules)
+
+pub entry_of-e-requires-clause-second_bound : goal.entry_of-e-requires-clause-second_bound
+unfolding entry_at entry_of
+entry_of-e-requires-clause-second_bound c =
+    let text = c.args.text.now in
+    let a = c.args.a in
+    let i = c.args.i in
+    let x = c.args.x in
+    let b = c.args.b in
+    let T = c.takes_pairs in
+    let R = c.read_lines-ls in
+    let U = R.ensures.k_after in
+    let P = c.put_values-z in
+    entry_fits text a i x b T.result T.ensures _ _ U R.result.pairs R.ensures.pairs_value P.result P.ensures.value (length c.args.store.now) _ c.requires.a_in_bounds_3 (search (rules, c.well-formed.1.1.1.1.1.1.1.1.1.0))
+
+pub put_entry-requires : goal.put_entry-requires
+unfolding entry_at entry_of
+put_entry-requires c = c.requires.n_in_bounds
+
+pub advanced-requires : goal.advanced-requires
+unfolding entry_at entry_of
+advanced-requires c =
+    let text = c.args.text.now in
+    let a = c.args.a in
+    let i = c.args.i in
+    let x = c.args.x in
+    let b = c.args.b in
+    let T = c.takes_pairs in
+    let R = c.read_lines-ls in
+    let U = R.ensures.k_after in
+    let P = c.put_values-z in
+    advanced_fits text a i x b T.result T.ensures _ _ U R.result.pairs R.ensures.pairs_value P.result P.ensures.value (length c.args.store.now) _ c.requires.a_in_bounds_3 (search (rules, c.well-formed.1.1.1.1.1.1.1.1.1.0))
+
+pub returns : goal.returns
+unfolding entry_at entry_of
+returns c =
+    let text = c.args.text.now in
+    let a = c.args.a in
+    let i = c.args.i in
+    let x = c.args.x in
+    let b = c.args.b in
+    let T = c.takes_pairs in
+    let R = c.read_lines-ls in
+    let U = R.ensures.k_after in
+    let P = c.put_values-z in
+    let E = c.entry_of-e in
+    let Q = c.put_entry in
+    let A = c.advanced.ensures in (
+      says-items text P.result R.result.expects R.result.next c.advanced.result A _ (item_count text a i x b T.result T.ensures _ _ U R.result.pairs R.ensures.pairs_value P.result P.ensures.value),
+      (
+        says-expects text P.result R.result.expects R.result.next c.advanced.result A _ R.ensures.expects_value,
+        (
+          says-store text P.result R.result.expects R.result.next c.advanced.result A _ (store_count text a i x b T.result T.ensures _ _ U R.result.pairs R.ensures.pairs_value P.result P.ensures.value),
+          (
+            says-ahead text P.result R.result.expects R.result.next c.advanced.result A _ R.ensures.next_value,
+            (
+              says-next text P.result R.result.expects R.result.next c.advanced.result A a.at R.ensures.next_in,
+              (
+                entry_stored c.args.entries.now _ c.args.n E.result _ Q.ensures (entry_laid text a i x b T.result T.ensures _ _ U R.result.pairs R.ensures.pairs_value P.result P.ensures.value R.result.expects E.result R.ensures.expects_value E.ensures),
+                (
+                  items_written text a i x b T.result T.ensures _ _ U R.result.pairs R.ensures.pairs_value c.args.items.now _ _ c.requires.a_in_bounds R.ensures.after P.ensures.after,
+                  (
+                    R.ensures.expectations_after,
+                    store_written text a i x b T.result T.ensures _ _ U c.args.store.now _ P.ensures.store_after,
+                  ),
+                ),
+              ),
+            ),
+          ),
+        ),
+      ),
+    )

@@ -1,0 +1,105 @@
+-- `entries::scripts::read_script` meets its contract. Assumes nothing.
+use Rattle.stored.proofs.WriteLaws.{kept}
+use Rattle.entries.specs.Whole.{reading_of}
+use Rattle.entries.proofs.ScriptLaws.{pairs-room, early_room, said_in, front_room, front_fits, preamble-laid, entries-room, items-room, expectations-room, store-room, entries_written, store_written, expectations_written, items_written, script-laid, written_kept, places_kept}
+use borrow.Author.Rules.{rules}
+use Rattle.entries.proofs.scripts.read_script.Goals as goal
+
+pub read_lines-led-requires-clause-first_in_bounds : goal.read_lines-led-requires-clause-first_in_bounds
+read_lines-led-requires-clause-first_in_bounds c =
+    let text = c.args.text.now in
+    pairs-room text _
+
+pub read_lines-led-requires-clause-first_in_bounds_2 : goal.read_lines-led-requires-clause-first_in_bounds_2
+read_lines-led-requires-clause-first_in_bounds_2 c =
+    let text = c.args.text.now in
+    early_room text _ c.requires.text_in_bounds_3
+
+pub read_lines-led-requires-clause-first_bound_2 : goal.read_lines-led-requires-clause-first_bound_2
+read_lines-led-requires-clause-first_bound_2 c =
+    let text = c.args.text.now in
+    pairs-room text _
+
+pub read_lines-led-requires-clause-first_bound_3 : goal.read_lines-led-requires-clause-first_bound_3
+read_lines-led-requires-clause-first_bound_3 c =
+    let text = c.args.text.now in
+    early_room text _ c.requires.text_len_bound_4
+
+pub put_front-f-requires-clause-said_in : goal.put_front-f-requires-clause-said_in
+put_front-f-requires-clause-said_in c =
+    let text = c.args.text.now in
+    let R = c.read_lines-led in
+    let U = R.ensures.k_after in
+    said_in text _ _ U
+
+pub put_front-f-requires-clause-ends_in_bounds : goal.put_front-f-requires-clause-ends_in_bounds
+put_front-f-requires-clause-ends_in_bounds c =
+    let text = c.args.text.now in
+    let R = c.read_lines-led in
+    let U = R.ensures.k_after in
+    front_room text _ _ U _ (search (rules, c.requires.text_in_bounds_2, kept _ _ _ _ R.ensures.after (pairs-room text _)))
+
+pub preamble_of-preamble-requires : goal.preamble_of-preamble-requires
+preamble_of-preamble-requires c =
+    let text = c.args.text.now in
+    let R = c.read_lines-led in
+    let U = R.ensures.k_after in
+    let F = c.put_front-f in
+    said_in text _ _ U
+
+pub overflow_add-front : goal.overflow_add-front
+overflow_add-front c =
+    let text = c.args.text.now in
+    let R = c.read_lines-led in
+    let U = R.ensures.k_after in
+    let F = c.put_front-f in
+    search (rules, front_fits text _ _ U F.result.features F.result.server F.ensures.features_value F.ensures.server_value 0x8000 c.requires.text_len_bound_3)
+
+pub read_entries-requires : goal.read_entries-requires
+read_entries-requires c =
+    let text = c.args.text.now in
+    let R = c.read_lines-led in
+    let U = R.ensures.k_after in
+    let F = c.put_front-f in (
+      search rules,
+      (
+        search rules,
+        (
+          R.ensures.next_in,
+          (
+            entries-room text _ _ U F.result.features F.result.server F.ensures.features_value F.ensures.server_value R.result.expects R.ensures.expects_value R.result.next R.ensures.next_value _ c.requires.text_in_bounds,
+            (
+              entries-room text _ _ U F.result.features F.result.server F.ensures.features_value F.ensures.server_value R.result.expects R.ensures.expects_value R.result.next R.ensures.next_value _ c.requires.text_len_bound_2,
+              (
+                items-room text _ _ U F.result.features F.result.server F.ensures.features_value F.ensures.server_value R.result.expects R.ensures.expects_value R.result.next R.ensures.next_value _ (search (rules, c.requires.text_in_bounds_2, kept _ _ _ _ R.ensures.after (pairs-room text _), F)),
+                (
+                  items-room text _ _ U F.result.features F.result.server F.ensures.features_value F.ensures.server_value R.result.expects R.ensures.expects_value R.result.next R.ensures.next_value _ c.requires.text_len_bound_3,
+                  (expectations-room text _ _ U F.result.features F.result.server F.ensures.features_value F.ensures.server_value R.result.expects R.ensures.expects_value R.result.next R.ensures.next_value _ (search (rules, c.requires.text_in_bounds_3, kept _ _ _ _ R.ensures.expectations_after (early_room text _ c.requires.text_in_bounds_3))), (expectations-room text _ _ U F.result.features F.result.server F.ensures.features_value F.ensures.server_value R.result.expects R.ensures.expects_value R.result.next R.ensures.next_value _ c.requires.text_len_bound_4, store-room text _ _ U F.result.features F.result.server F.ensures.features_value F.ensures.server_value R.result.expects R.ensures.expects_value R.result.next R.ensures.next_value _ c.requires.text_in_bounds_4)),
+                ),
+              ),
+            ),
+          ),
+        ),
+      ),
+    )
+
+pub returns : goal.returns
+returns c =
+    let text = c.args.text.now in
+    let R = c.read_lines-led in
+    let U = R.ensures.k_after in
+    let F = c.put_front-f in
+    let Q = c.read_entries in
+    let P = c.preamble_of-preamble in (
+      script-laid text _ c.args.counts c.script_of.result (preamble-laid text _ _ U F.result.features F.result.server F.ensures.features_value F.ensures.server_value R.result.expects R.ensures.expects_value P.result P.ensures) c.requires.counts_value c.script_of.ensures,
+      (
+        entries_written text _ _ U F.result.features F.result.server F.ensures.features_value F.ensures.server_value R.result.expects R.ensures.expects_value R.result.next R.ensures.next_value _ _ Q.ensures.entries_after,
+        (
+          items_written text _ _ U F.result.features F.result.server F.ensures.features_value F.ensures.server_value R.result.expects R.ensures.expects_value R.result.next R.ensures.next_value _ _ _ _ c.requires.text_in_bounds_2 R.ensures.after F.ensures.after Q.ensures.after,
+          (
+            expectations_written text _ _ U F.result.features F.result.server F.ensures.features_value F.ensures.server_value R.result.expects R.ensures.expects_value R.result.next R.ensures.next_value _ _ _ c.requires.text_in_bounds_3 R.ensures.expectations_after Q.ensures.expectations_after,
+            store_written text _ _ U F.result.features F.result.server F.ensures.features_value F.ensures.server_value R.result.expects R.ensures.expects_value R.result.next R.ensures.next_value _ _ Q.ensures.store_after,
+          ),
+        ),
+      ),
+    )

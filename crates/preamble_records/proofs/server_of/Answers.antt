@@ -1,0 +1,10 @@
+-- `preamble_records::server_of` meets its contract. Assumes nothing.
+use Rattle.preamble_records.proofs.PreambleLaws.{preamble_laws}
+use borrow.Author.Rules.{rules}
+use Rattle.preamble_records.proofs.server_of.Goals as goal
+
+pub returns-in-Absent : goal.returns-in-Absent
+returns-in-Absent c = search (rules, preamble_laws)
+
+pub returns-in-Is : goal.returns-in-Is
+returns-in-Is c = search (rules, preamble_laws)
