@@ -61,8 +61,8 @@ use Rattle.claims.proofs.WhiteSpace.{trimmed-is}
 -- ---- DEMAND 1: total and in bounds
 
 -- Whatever text, table or response a public entry is handed, it ends, does not trap, and reads and writes nothing outside what it was lent (`Total`,
--- specs/Total.antt, says it of the machine's run; `TotalWherever`, wherever its code stands). Shown by each function's theorem, that it meets its contract;
--- no contract here has a `requires`.
+-- specs/Total.antt, says it of the machine's run; `TotalWherever`, wherever its code stands, so on the machine that runs a program which has that code:
+-- DemandOne.antt `in_programs`). Shown by each function's theorem, that it meets its contract; no contract here has a `requires`.
 -- In this order: Measure; Read; a fresh tally; Judge, of the handshake and of an entry; Close; Message, of an entry and of the handshake; a text
 -- read and judged by a list of calls; the listing.
 pub demand_one :

@@ -4,9 +4,11 @@ use mathlib.Core.Logic.{∥∥₁_map}
 use seplogic.Ra.Ura.{Ura}
 use base.Logic.{SProp, ent, sep, emp, id⊢, via, comm∗, mono_l, mono_r, emp∗, snd∗}
 use types.Logic.{Logic}
+use prog.Linked.{Has, Has-Wired, in_program, machine-Follows}
+use prog.Machine.{Program}
 use prog.Memory.{Memory}
 use prog.Model.{Model}
-use prog.Routine.{Callee, Routine, any_callee}
+use prog.Routine.{Callee, Routine, any_callee, machine}
 use prog.Wired.{Code, Wired}
 use contract.Adequate.{sat_weaken}
 use contract.Lifetimes.{Lfts}
@@ -45,3 +47,9 @@ module _ (signature : Signature) (code : Code) (name : Callee)
       ∥∥₁_map
       (adequate 𝓤 𝓛.H 𝓜 (alone 𝓤 𝓛.H 𝓜 𝓡 (γ name)) (λ s h. h, tt) any_callee k (met M 𝓤 𝓛 𝓜 𝓡 wired) (x, q.0) σ F (sat_weaken 𝓤 𝓛.H 𝓜 σ (mono_l 𝓤 F pre) s))
       (λ r. (r.0, r.1, r.2, r.3, sat_weaken 𝓤 𝓛.H 𝓜 r.2 (snd∗ 𝓤 (k.post (x, q.0) r.1) F) r.4))
+
+-- such an environment is the machine that runs a program which has the function's code
+pub in_programs : (signature : Signature) (code : Code) (name : Callee) → TotalWherever signature code name
+    → (program : Program) → Has (in_program program) code → Total signature (machine program name)
+unfolding TotalWherever
+in_programs signature code name h program has = h (machine program) (Has-Wired (in_program program) (machine program) (machine-Follows program) code has)

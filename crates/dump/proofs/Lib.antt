@@ -1,5 +1,4 @@
 pub mod BlankLaws
 pub mod DumpExamples
 pub mod DumpLaws
-pub mod Made
 pub mod TimesLaws

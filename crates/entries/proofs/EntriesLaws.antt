@@ -20,7 +20,6 @@ use Rattle.written.proofs.WrittenLaws.{Filling, filling_begun, filling_length, f
 use Rattle.below.specs.Below.{roles_at, ahead, ahead_of, NextIn}
 use Rattle.below.specs.declared.lines.Ahead.{Ahead}
 use Rattle.below.specs.declared.lines.Next.{Next}
-use Rattle.below.specs.declared.lines.Next.TheVariants as Next
 use Rattle.entries.specs.Entries.{entry_at, laid_entry, entries_ahead}
 
 -- ---- what is ahead

@@ -21,7 +21,6 @@ use Rattle.script.specs.declared.records.Place.{Place}
 use Rattle.script.specs.declared.records.Preamble.{Preamble}
 use Rattle.script.specs.declared.records.Script.{Script}
 use Rattle.script.specs.declared.roles.Key.{Key}
-use Rattle.script.specs.declared.roles.Key.TheVariants as Key
 use Rattle.script.specs.declared.roles.Where.TheVariants.{InPreamble}
 use Rattle.said.specs.Said.{piece_at, SaidIn}
 use Rattle.records.specs.Records.{preamble_record}

@@ -1,4 +1,4 @@
-// A whole script: the preamble, then the entries. It holds a slice of records: the derivation is made by tools/walk.py.
+// A whole script: the preamble, then the entries. It holds a slice of records.
 ghost use Rattle.std.specs.Prelude.{◌≡◌, map, ◌≤◌, length};
 ghost use Rattle.kept.specs.Kept.{Memo};
 ghost use Rattle.written.specs.Written.{written_at};

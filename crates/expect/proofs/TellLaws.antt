@@ -30,7 +30,6 @@ use Rattle.messages.specs.Lengths.{frame_length}
 use Rattle.messages.proofs.MessageLaws.{frame_length_lem}
 use Rattle.sought.specs.Values.{value_bytes, value_text}
 use Rattle.sought.specs.declared.value.Value.{Value}
-use Rattle.sought.specs.declared.value.Value.TheVariants as Value
 use Rattle.sought.proofs.ValueLaws.{text-is}
 use Rattle.told.specs.Told.{counted, told_of, unless_refused}
 use Rattle.told.proofs.ToldLaws.{Answers, judged, outside_bytes}

@@ -1,7 +1,6 @@
 -- What only the code of Message needs. Assumes nothing.
 use Rattle.std.specs.Prelude.{Bool, true, false}
 use Rattle.sought.specs.declared.value.Value.{Value}
-use Rattle.sought.specs.declared.value.Value.TheVariants as Value
 
 unfoldable pub no_value : Value → Bool
 no_value Value.Missing = true

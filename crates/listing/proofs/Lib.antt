@@ -1,6 +1,5 @@
 pub mod AnswerLaws
 pub mod ListingExamples
-pub mod Made
 pub mod ReadingLaws
 pub mod TopLaws
 pub mod WholeLaws

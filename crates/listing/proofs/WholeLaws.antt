@@ -8,7 +8,6 @@ use lib.ListN.{length, take, get_or}
 use lib.Seq.{take-suc}
 use Rattle.script.specs.declared.records.Entry.{Entry}
 use Rattle.script.specs.declared.records.Script.{Script}
-use Rattle.slots.specs.Blank.{blank_entry}
 use Rattle.written.specs.Written.{written_at}
 use Rattle.written.proofs.WrittenLaws.{written_none}
 use Rattle.printed.specs.Listing.{header_line, entry_line, entry_lines}
@@ -24,12 +23,12 @@ unfolding entry_lines
 lines_one e = append-nil (entry_line e)
 
 -- the line of one entry more
-lines_more : (es : List Entry) (i : ℕ) → i < length es → entry_lines (take (i + 1) es) ≡ entry_lines (take i es) ++ entry_line (get_or es i blank_entry)
-lines_more es i h =
+lines_more : (es : List Entry) (i : ℕ) (d : Entry) → i < length es → entry_lines (take (i + 1) es) ≡ entry_lines (take i es) ++ entry_line (get_or es i d)
+lines_more es i d h =
     ap (λ (k : ℕ). entry_lines (take k es)) (add-one i)
-    ∙ ap entry_lines (take-suc es i blank_entry h)
-    ∙ lines-append (take i es) (get_or es i blank_entry ∷ [])
-    ∙ ap (λ (zs : List ℕ). entry_lines (take i es) ++ zs) (lines_one (get_or es i blank_entry))
+    ∙ ap entry_lines (take-suc es i d h)
+    ∙ lines-append (take i es) (get_or es i d ∷ [])
+    ∙ ap (λ (zs : List ℕ). entry_lines (take i es) ++ zs) (lines_one (get_or es i d))
 
 -- The lines of the first i of n entries are written, each in at most 63 bytes; `first` is the table as it was, `now` as it is.
 pub record Printed (es : List Entry) (n at : ℕ) (first now : List ℕ) (next i : ℕ) : Type 0 where
@@ -60,16 +59,16 @@ module _ (es : List Entry) (n at : ℕ) (first : List ℕ) where
       pub printed_in : i < length es
       printed_in = omega (arith, p.there)
 
-      pub printed_more : (after : List ℕ) (b : ℕ) → Put next (entry_line (get_or es i blank_entry)) 63 now after b → Printed es n at first after b (i + 1)
-      printed_more after b q =
-          let z = put_then at (entry_lines (take i es)) (i * 63) first now next p.done (entry_line (get_or es i blank_entry)) 63 after b (omega (arith, p.room)) (λ r. q) in
+      pub printed_more : (d : Entry) (after : List ℕ) (b : ℕ) → Put next (entry_line (get_or es i d)) 63 now after b → Printed es n at first after b (i + 1)
+      printed_more d after b q =
+          let z = put_then at (entry_lines (take i es)) (i * 63) first now next p.done (entry_line (get_or es i d)) 63 after b (omega (arith, p.room)) (λ r. q) in
           record {
             few = omega arith;
             there = p.there;
             room = p.room;
             done = (
-              z.0 ∙ ap (λ (xs : List ℕ). at + length xs) (sym (lines_more es i printed_in)),
-              (z.1.0 ∙ ap (λ (xs : List ℕ). written_at at xs first) (sym (lines_more es i printed_in)), omega (arith, z.1.1)),
+              z.0 ∙ ap (λ (xs : List ℕ). at + length xs) (sym (lines_more es i d printed_in)),
+              (z.1.0 ∙ ap (λ (xs : List ℕ). written_at at xs first) (sym (lines_more es i d printed_in)), omega (arith, z.1.1)),
             );
           }
 

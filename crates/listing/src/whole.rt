@@ -1,4 +1,4 @@
-// A whole listing. Functions here hold a slice of entries: the derivations are made by tools/walk.py.
+// A whole listing. Functions here hold a slice of entries.
 ghost use Rattle.std.specs.Prelude.{◌≡◌, ◌++◌, ◌+◌, ◌*◌, ◌≤◌, length, take};
 ghost use Rattle.text.specs.Base.{overlaid};
 ghost use Rattle.written.specs.Written.{written_at};

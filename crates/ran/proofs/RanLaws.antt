@@ -17,7 +17,6 @@ use Rattle.tables.specs.Items.{item_of}
 use Rattle.written.proofs.WrittenLaws.{written_none}
 use Rattle.read.specs.Read.{lent_of, answer_of, script_or, tables_or}
 use Rattle.read.specs.declared.reading.Answer.{Answer}
-use Rattle.read.specs.declared.reading.Answer.TheVariants as Answer
 use Rattle.judge.specs.declared.tally.Tally.{Tally}
 use Rattle.tallies.specs.declared.calls.Answer as Told
 use Rattle.judging.specs.Calls.{Call, run}

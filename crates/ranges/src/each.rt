@@ -1,4 +1,4 @@
-// The expectations of a range, one after another. Functions here hold a slice of records: their derivations are made by tools/walk.py.
+// The expectations of a range, one after another. Functions here hold a slice of records.
 ghost use Rattle.std.specs.Prelude.{◌≡◌, false, not, map, ◌+◌, ◌≤◌, length};
 ghost use Rattle.written.specs.Written.{written_at};
 ghost use Rattle.verdicts.specs.Held.{ranged};

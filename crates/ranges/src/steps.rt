@@ -1,4 +1,4 @@
-// Judge: refusals first, then a range. Functions here hold a slice of records: their derivations are made by tools/walk.py.
+// Judge: refusals first, then a range. Functions here hold a slice of records.
 ghost use Rattle.std.specs.Prelude.{◌≡◌, [], ◌+◌, ◌-◌, ◌≤◌, length, get_or, ltb};
 ghost use Rattle.slots.specs.Blank.{blank_entry};
 ghost use Rattle.script.specs.Reading.{refusal};

@@ -26,7 +26,6 @@ use Rattle.written.specs.Written.{written_at}
 use Rattle.tables.specs.Items.{item_of}
 use Rattle.parse.specs.MeasureRead.{measured_of}
 use Rattle.parse.specs.declared.measure.Measured.{Measured}
-use Rattle.parse.specs.declared.measure.Measured.TheVariants as Measured
 use Rattle.read.specs.declared.reading.Answer.TheVariants as Answer
 use Rattle.fits.specs.declared.Fit.{Fit}
 use Rattle.fits.specs.declared.Fit.TheVariants.{Enough, Short}

@@ -7,7 +7,6 @@ use Rattle.script.specs.declared.records.Entry.{Entry}
 use Rattle.script.specs.declared.records.Expectation.{Expectation}
 use Rattle.script.specs.declared.records.Script.{Script}
 use Rattle.read.specs.declared.reading.Answer.{Answer}
-use Rattle.read.specs.declared.reading.Answer.TheVariants as Answer
 
 -- what the caller lends
 abbrev pub lent_of : List Entry → (items : List (List ℕ)) → List Expectation → (store : List ℕ) → Counts

@@ -1,14 +1,14 @@
 -- The laws of a dump on a line: a number in front, and the numbers one after another. Assumes nothing.
 use Prim.Native.Nat.{ℕ, ◌+◌, ◌-◌, ◌^◌, ◌≤◌, ◌<◌}
 use mathlib.Core.Path.{◌≡◌, refl, sym, ap, ◌∙◌}
-use mathlib.Core.Bool.{Bool, true, false, not}
+use mathlib.Core.Bool.{Bool, true, false}
 use mathlib.Core.List.{List, [], ◌∷◌}
 use mathlib.Core.Option.{Option, none, some}
 use native.Mathlib.Omega.{arith}
 use lib.Dec.{eqb}
 use lib.ListN.{length, take, drop, length-drop}
 use lib.Seq.{drop-drop}
-use borrow.Author.Tests.{eq-eqb, not-true, not-false}
+use borrow.Author.Tests.{eq-eqb}
 use Rattle.text.specs.Base.{◌&◌}
 use Rattle.text.specs.Parts.{starts_with, same_bytes}
 use Rattle.text.specs.Words.{words_from, word_at}
@@ -17,7 +17,6 @@ use Rattle.text.proofs.Scan.{rest-none, both, never}
 use Rattle.text.proofs.WordLaws.{words_at, known}
 use Rattle.values.specs.Numbers.{number, number_of}
 use Rattle.values.specs.declared.number.Number.{Number}
-use Rattle.values.specs.declared.number.Number.TheVariants as Number
 use Rattle.numbers.specs.Numbers.{low_bytes, bytes_of}
 use Rattle.fields.specs.Fields.{word_bytes}
 use Rattle.fields.proofs.FieldLaws.{rest_of}
@@ -71,13 +70,13 @@ module _ (line store found : List ℕ) (at p : ℕ) (whole : Bool) (here : is_du
       unfolding is_dump
       next = rw (g, rest_of found p) (rw ((known line at w i f).more d) at here)
 
-      pub other : not t ≡ true → false ≡ whole
-      other r = rw (not-true t r) at next
+      pub other : t ≡ false → false ≡ whole
+      other r = rw r at next
 
-      pub goes_on : not t ≡ false → is_dump line (words_at line w.end) store (drop (p + 8) found) ≡ whole
-      goes_on r = rw (← drop-drop 8 p found) (rw (not-false t r) at next)
+      pub goes_on : t ≡ true → is_dump line (words_at line w.end) store (drop (p + 8) found) ≡ whole
+      goes_on r = rw (← drop-drop 8 p found) (rw r at next)
 
-      pub has_room : not t ≡ false → p + 8 ≤ length found
+      pub has_room : t ≡ true → p + 8 ≤ length found
       has_room r =
-          let e = rw (rest_of found p) at (sym g ∙ not-false t r) in
+          let e = rw (rest_of found p) at (sym g ∙ r) in
           omega (arith, eight (number (2 ^ 64) (word_bytes line w)) (drop p found) e, length-drop p found)

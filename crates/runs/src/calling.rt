@@ -1,4 +1,4 @@
-// One call, and a list of calls. Functions here hold slices of records: their derivations are made by tools/walk.py.
+// One call, and a list of calls. Functions here hold slices of records.
 ghost use Rattle.std.specs.Prelude.{false, map, ◌≡◌, ◌≤◌, length};
 ghost use Rattle.written.specs.Written.{written_at};
 ghost use Rattle.rows.specs.Rows.{at};

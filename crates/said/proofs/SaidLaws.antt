@@ -24,7 +24,6 @@ use Rattle.script.specs.Operations.{key_row, same_key}
 use Rattle.script.specs.Contents.{number_of, flag_of}
 use Rattle.script.specs.Inside.{In}
 use Rattle.script.specs.declared.roles.Key.{Key}
-use Rattle.script.specs.declared.roles.Key.TheVariants as Key
 use Rattle.said.specs.declared.said.Piece.{Piece}
 use Rattle.said.specs.declared.said.Piece.TheVariants.{Absent, Is}
 use Rattle.said.specs.Said.{piece_from, piece_at, piece_of, OptIn, SaidIn}

@@ -1,4 +1,4 @@
-// Read, and then every call. The function here holds slices of records: its derivation is made by tools/walk.py.
+// Read, and then every call. The function here holds slices of records.
 ghost use Rattle.std.specs.Prelude.{map, ◌≡◌, length};
 ghost use Rattle.script.specs.Reading.{read_into};
 ghost use Rattle.written.specs.Written.{written_at};

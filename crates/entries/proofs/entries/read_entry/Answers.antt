@@ -2,8 +2,7 @@
 use lib.ListN.{length}
 use Rattle.script.specs.Contents.{entry_of}
 use Rattle.entries.specs.Entries.{entry_at}
-use Rattle.entries.proofs.EntryLaws.{lines-room, said_in, set_room, stored-room, entry_fits, advanced_fits, item_count, store_count, entry_laid, items_written, items_same, store_written, says-items, says-expects, says-store, says-ahead, says-next, entry_stored}
-use Rattle.stored.proofs.WriteLaws.{kept}
+use Rattle.entries.proofs.EntryLaws.{lines-room, said_in, set_room, stored-room, entry_fits, advanced_fits, item_count, store_count, entry_laid, items_written, store_written, says-items, says-expects, says-store, says-ahead, says-next, entry_stored}
 use borrow.Author.Rules.{rules}
 use Rattle.entries.proofs.entries.read_entry.Goals as goal
 
@@ -15,31 +14,19 @@ read_lines-ls-requires c =
     let i = c.args.i in
     let x = c.args.x in
     let b = c.args.b in
-    let T = c.takes_pairs in (
-      search rules,
-      (
-        search rules,
-        (
-          search rules,
-          (
-            search rules,
-            (
-              search rules,
-              (
-                search rules,
-                (
-                  lines-room text a i x b T.result T.ensures _ (search rules),
-                  (
-                    search rules,
-                    (lines-room text a i x b T.result T.ensures _ (search rules), search rules),
-                  ),
-                ),
-              ),
-            ),
-          ),
-        ),
-      ),
-    )
+    let T = c.takes_pairs in
+    record {
+      text_len_bound = search rules;
+      memo = search rules;
+      from_in_bounds = search rules;
+      first_bound = search rules;
+      in_bounds = search rules;
+      in_bounds_2 = search rules;
+      first_in_bounds = lines-room text a i x b T.result T.ensures _ (search rules);
+      first_in_bounds_2 = search rules;
+      first_bound_2 = lines-room text a i x b T.result T.ensures _ (search rules);
+      first_bound_3 = search rules;
+    }
 
 pub put_values-z-requires-clause-fact : goal.put_values-z-requires-clause-fact
 unfolding entry_at entry_of
@@ -133,7 +120,7 @@ entry_of-e-requires-clause-second_bound c =
     let R = c.read_lines-ls in
     let U = R.ensures.k_after in
     let P = c.put_values-z in
-    entry_fits text a i x b T.result T.ensures _ _ U R.result.pairs R.ensures.pairs_value P.result P.ensures.value (length c.args.store.now) _ c.requires.a_in_bounds_3 (search (rules, c.well-formed.1.1.1.1.1.1.1.1.1.0))
+    entry_fits text a i x b T.result T.ensures _ _ U R.result.pairs R.ensures.pairs_value P.result P.ensures.value (length c.args.store.now) _ c.requires.a_in_bounds_3 (search (rules, c.well_formed.1.1.1.1.1.1.1.1.1.0))
 
 pub put_entry-requires : goal.put_entry-requires
 unfolding entry_at entry_of
@@ -151,7 +138,7 @@ advanced-requires c =
     let R = c.read_lines-ls in
     let U = R.ensures.k_after in
     let P = c.put_values-z in
-    advanced_fits text a i x b T.result T.ensures _ _ U R.result.pairs R.ensures.pairs_value P.result P.ensures.value (length c.args.store.now) _ c.requires.a_in_bounds_3 (search (rules, c.well-formed.1.1.1.1.1.1.1.1.1.0))
+    advanced_fits text a i x b T.result T.ensures _ _ U R.result.pairs R.ensures.pairs_value P.result P.ensures.value (length c.args.store.now) _ c.requires.a_in_bounds_3 (search (rules, c.well_formed.1.1.1.1.1.1.1.1.1.0))
 
 pub returns : goal.returns
 unfolding entry_at entry_of
@@ -167,28 +154,15 @@ returns c =
     let P = c.put_values-z in
     let E = c.entry_of-e in
     let Q = c.put_entry in
-    let A = c.advanced.ensures in (
-      says-items text P.result R.result.expects R.result.next c.advanced.result A _ (item_count text a i x b T.result T.ensures _ _ U R.result.pairs R.ensures.pairs_value P.result P.ensures.value),
-      (
-        says-expects text P.result R.result.expects R.result.next c.advanced.result A _ R.ensures.expects_value,
-        (
-          says-store text P.result R.result.expects R.result.next c.advanced.result A _ (store_count text a i x b T.result T.ensures _ _ U R.result.pairs R.ensures.pairs_value P.result P.ensures.value),
-          (
-            says-ahead text P.result R.result.expects R.result.next c.advanced.result A _ R.ensures.next_value,
-            (
-              says-next text P.result R.result.expects R.result.next c.advanced.result A a.at R.ensures.next_in,
-              (
-                entry_stored c.args.entries.now _ c.args.n E.result _ Q.ensures (entry_laid text a i x b T.result T.ensures _ _ U R.result.pairs R.ensures.pairs_value P.result P.ensures.value R.result.expects E.result R.ensures.expects_value E.ensures),
-                (
-                  items_written text a i x b T.result T.ensures _ _ U R.result.pairs R.ensures.pairs_value c.args.items.now _ _ c.requires.a_in_bounds R.ensures.after P.ensures.after,
-                  (
-                    R.ensures.expectations_after,
-                    store_written text a i x b T.result T.ensures _ _ U c.args.store.now _ P.ensures.store_after,
-                  ),
-                ),
-              ),
-            ),
-          ),
-        ),
-      ),
-    )
+    let A = c.advanced.ensures in
+    record {
+      result_value = says-items text P.result R.result.expects R.result.next c.advanced.result A _ (item_count text a i x b T.result T.ensures _ _ U R.result.pairs R.ensures.pairs_value P.result P.ensures.value);
+      expects_value = says-expects text P.result R.result.expects R.result.next c.advanced.result A _ R.ensures.expects_value;
+      store_value = says-store text P.result R.result.expects R.result.next c.advanced.result A _ (store_count text a i x b T.result T.ensures _ _ U R.result.pairs R.ensures.pairs_value P.result P.ensures.value);
+      next_value = says-ahead text P.result R.result.expects R.result.next c.advanced.result A _ R.ensures.next_value;
+      next_in = says-next text P.result R.result.expects R.result.next c.advanced.result A a.at R.ensures.next_in;
+      entries_after = entry_stored c.args.entries.now _ c.args.n E.result _ Q.ensures (entry_laid text a i x b T.result T.ensures _ _ U R.result.pairs R.ensures.pairs_value P.result P.ensures.value R.result.expects E.result R.ensures.expects_value E.ensures);
+      after = items_written text a i x b T.result T.ensures _ _ U R.result.pairs R.ensures.pairs_value c.args.items.now _ _ c.requires.a_in_bounds R.ensures.after P.ensures.after;
+      expectations_after = R.ensures.expectations_after;
+      store_after = store_written text a i x b T.result T.ensures _ _ U c.args.store.now _ P.ensures.store_after;
+    }

@@ -1,7 +1,6 @@
 -- `entries::scripts::read_script` meets its contract. Assumes nothing.
 use Rattle.stored.proofs.WriteLaws.{kept}
-use Rattle.entries.specs.Whole.{reading_of}
-use Rattle.entries.proofs.ScriptLaws.{pairs-room, early_room, said_in, front_room, front_fits, preamble-laid, entries-room, items-room, expectations-room, store-room, entries_written, store_written, expectations_written, items_written, script-laid, written_kept, places_kept}
+use Rattle.entries.proofs.ScriptLaws.{pairs-room, early_room, said_in, front_room, front_fits, preamble-laid, entries-room, items-room, expectations-room, store-room, entries_written, store_written, expectations_written, items_written, script-laid}
 use borrow.Author.Rules.{rules}
 use Rattle.entries.proofs.scripts.read_script.Goals as goal
 
@@ -60,28 +59,19 @@ read_entries-requires c =
     let text = c.args.text.now in
     let R = c.read_lines-led in
     let U = R.ensures.k_after in
-    let F = c.put_front-f in (
-      search rules,
-      (
-        search rules,
-        (
-          R.ensures.next_in,
-          (
-            entries-room text _ _ U F.result.features F.result.server F.ensures.features_value F.ensures.server_value R.result.expects R.ensures.expects_value R.result.next R.ensures.next_value _ c.requires.text_in_bounds,
-            (
-              entries-room text _ _ U F.result.features F.result.server F.ensures.features_value F.ensures.server_value R.result.expects R.ensures.expects_value R.result.next R.ensures.next_value _ c.requires.text_len_bound_2,
-              (
-                items-room text _ _ U F.result.features F.result.server F.ensures.features_value F.ensures.server_value R.result.expects R.ensures.expects_value R.result.next R.ensures.next_value _ (search (rules, c.requires.text_in_bounds_2, kept _ _ _ _ R.ensures.after (pairs-room text _), F)),
-                (
-                  items-room text _ _ U F.result.features F.result.server F.ensures.features_value F.ensures.server_value R.result.expects R.ensures.expects_value R.result.next R.ensures.next_value _ c.requires.text_len_bound_3,
-                  (expectations-room text _ _ U F.result.features F.result.server F.ensures.features_value F.ensures.server_value R.result.expects R.ensures.expects_value R.result.next R.ensures.next_value _ (search (rules, c.requires.text_in_bounds_3, kept _ _ _ _ R.ensures.expectations_after (early_room text _ c.requires.text_in_bounds_3))), (expectations-room text _ _ U F.result.features F.result.server F.ensures.features_value F.ensures.server_value R.result.expects R.ensures.expects_value R.result.next R.ensures.next_value _ c.requires.text_len_bound_4, store-room text _ _ U F.result.features F.result.server F.ensures.features_value F.ensures.server_value R.result.expects R.ensures.expects_value R.result.next R.ensures.next_value _ c.requires.text_in_bounds_4)),
-                ),
-              ),
-            ),
-          ),
-        ),
-      ),
-    )
+    let F = c.put_front-f in
+    record {
+      text_len_bound = search rules;
+      memo = search rules;
+      next_in = R.ensures.next_in;
+      early_in_bounds = entries-room text _ _ U F.result.features F.result.server F.ensures.features_value F.ensures.server_value R.result.expects R.ensures.expects_value R.result.next R.ensures.next_value _ c.requires.text_in_bounds;
+      early_len_bound = entries-room text _ _ U F.result.features F.result.server F.ensures.features_value F.ensures.server_value R.result.expects R.ensures.expects_value R.result.next R.ensures.next_value _ c.requires.text_len_bound_2;
+      early_in_bounds_2 = items-room text _ _ U F.result.features F.result.server F.ensures.features_value F.ensures.server_value R.result.expects R.ensures.expects_value R.result.next R.ensures.next_value _ (search (rules, c.requires.text_in_bounds_2, kept _ _ _ _ R.ensures.after (pairs-room text _), F));
+      early_bound = items-room text _ _ U F.result.features F.result.server F.ensures.features_value F.ensures.server_value R.result.expects R.ensures.expects_value R.result.next R.ensures.next_value _ c.requires.text_len_bound_3;
+      early_in_bounds_3 = expectations-room text _ _ U F.result.features F.result.server F.ensures.features_value F.ensures.server_value R.result.expects R.ensures.expects_value R.result.next R.ensures.next_value _ (search (rules, c.requires.text_in_bounds_3, kept _ _ _ _ R.ensures.expectations_after (early_room text _ c.requires.text_in_bounds_3)));
+      early_bound_2 = expectations-room text _ _ U F.result.features F.result.server F.ensures.features_value F.ensures.server_value R.result.expects R.ensures.expects_value R.result.next R.ensures.next_value _ c.requires.text_len_bound_4;
+      early_in_bounds_4 = store-room text _ _ U F.result.features F.result.server F.ensures.features_value F.ensures.server_value R.result.expects R.ensures.expects_value R.result.next R.ensures.next_value _ c.requires.text_in_bounds_4;
+    }
 
 pub returns : goal.returns
 returns c =
@@ -90,16 +80,11 @@ returns c =
     let U = R.ensures.k_after in
     let F = c.put_front-f in
     let Q = c.read_entries in
-    let P = c.preamble_of-preamble in (
-      script-laid text _ c.args.counts c.script_of.result (preamble-laid text _ _ U F.result.features F.result.server F.ensures.features_value F.ensures.server_value R.result.expects R.ensures.expects_value P.result P.ensures) c.requires.counts_value c.script_of.ensures,
-      (
-        entries_written text _ _ U F.result.features F.result.server F.ensures.features_value F.ensures.server_value R.result.expects R.ensures.expects_value R.result.next R.ensures.next_value _ _ Q.ensures.entries_after,
-        (
-          items_written text _ _ U F.result.features F.result.server F.ensures.features_value F.ensures.server_value R.result.expects R.ensures.expects_value R.result.next R.ensures.next_value _ _ _ _ c.requires.text_in_bounds_2 R.ensures.after F.ensures.after Q.ensures.after,
-          (
-            expectations_written text _ _ U F.result.features F.result.server F.ensures.features_value F.ensures.server_value R.result.expects R.ensures.expects_value R.result.next R.ensures.next_value _ _ _ c.requires.text_in_bounds_3 R.ensures.expectations_after Q.ensures.expectations_after,
-            store_written text _ _ U F.result.features F.result.server F.ensures.features_value F.ensures.server_value R.result.expects R.ensures.expects_value R.result.next R.ensures.next_value _ _ Q.ensures.store_after,
-          ),
-        ),
-      ),
-    )
+    let P = c.preamble_of-preamble in
+    record {
+      value = script-laid text _ c.args.counts c.script_of.result (preamble-laid text _ _ U F.result.features F.result.server F.ensures.features_value F.ensures.server_value R.result.expects R.ensures.expects_value P.result P.ensures) c.requires.counts_value c.script_of.ensures;
+      entries_after = entries_written text _ _ U F.result.features F.result.server F.ensures.features_value F.ensures.server_value R.result.expects R.ensures.expects_value R.result.next R.ensures.next_value _ _ Q.ensures.entries_after;
+      after = items_written text _ _ U F.result.features F.result.server F.ensures.features_value F.ensures.server_value R.result.expects R.ensures.expects_value R.result.next R.ensures.next_value _ _ _ _ c.requires.text_in_bounds_2 R.ensures.after F.ensures.after Q.ensures.after;
+      expectations_after = expectations_written text _ _ U F.result.features F.result.server F.ensures.features_value F.ensures.server_value R.result.expects R.ensures.expects_value R.result.next R.ensures.next_value _ _ _ c.requires.text_in_bounds_3 R.ensures.expectations_after Q.ensures.expectations_after;
+      store_after = store_written text _ _ U F.result.features F.result.server F.ensures.features_value F.ensures.server_value R.result.expects R.ensures.expects_value R.result.next R.ensures.next_value _ _ Q.ensures.store_after;
+    }

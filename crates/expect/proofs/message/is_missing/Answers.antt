@@ -1,5 +1,4 @@
 -- `expect::message::is_missing` meets its contract: each arm is its case of the definition. Assumes nothing.
-use borrow.Author.Rules.{rules}
 use mathlib.Core.Path.{sym, ap}
 use Rattle.expect.specs.ExpectRead.{no_value}
 use Rattle.expect.proofs.message.is_missing.Goals as goal

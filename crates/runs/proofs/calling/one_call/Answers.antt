@@ -1,7 +1,6 @@
 -- `runs::calling::one_call` meets its contract. Assumes nothing.
 use mathlib.Core.Path.{sym}
 use lib.Seq.{length-take-le}
-use borrow.Author.Rules.{rules}
 use Rattle.rows.specs.Rows.{at}
 use Rattle.judging.specs.Judge.{Lent, JudgeState}
 use Rattle.judge.specs.Tally.{state_of}

@@ -1,10 +1,8 @@
 -- `runs::calling::run_calls` meets its contract. Assumes nothing.
-use Prim.Native.Nat.{◌-◌}
-use mathlib.Core.Path.{◌≡◌, refl, ◌∙◌}
-use lib.ListN.{length, length-set}
-use borrow.Author.Rules.{rules}
+use mathlib.Core.Path.{refl, ◌∙◌}
+use lib.ListN.{length-set}
 use Rattle.judging.specs.Judge.{Lent}
-use Rattle.runs.proofs.RunLaws.{Going, going_begun, answer-place, part-lent, going_on, all_left, all_answered, all_written}
+use Rattle.runs.proofs.RunLaws.{going_begun, part-lent, going_on, all_left, all_answered, all_written}
 use Rattle.runs.proofs.calling.run_calls.Goals as goal
 
 pub loop-i-init : goal.loop-i-init

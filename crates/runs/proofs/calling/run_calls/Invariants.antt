@@ -1,9 +1,7 @@
 use Prim.Native.Nat.{◌-◌}
-use mathlib.Core.Path.{◌≡◌, refl, ◌∙◌}
-use lib.ListN.{length, length-set}
-use borrow.Author.Rules.{rules}
-use Rattle.judging.specs.Judge.{Lent}
-use Rattle.runs.proofs.RunLaws.{Going, going_begun, answer-place, part-lent, going_on, all_left, all_answered, all_written}
+use mathlib.Core.Path.{◌≡◌}
+use lib.ListN.{length}
+use Rattle.runs.proofs.RunLaws.{Going}
 use Rattle.runs.proofs.calling.run_calls.Given as goal
 
 abbrev pub invariant-loop-i : goal.invariant-loop-i

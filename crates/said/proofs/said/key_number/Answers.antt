@@ -1,9 +1,7 @@
 -- `said::said::key_number` meets its contract: each arm is its key's row. Assumes nothing.
-use Prim.Native.Nat.{◌<◌}
 use mathlib.Core.Path.{◌≡◌, sym, ap}
 use Rattle.script.specs.Operations.{key_row}
 use Rattle.script.specs.declared.roles.Key.{Key}
-use Rattle.script.specs.declared.roles.Key.TheVariants as Key
 use Rattle.said.proofs.SaidLaws.{number_small}
 use Rattle.said.proofs.said.key_number.Goals as goal
 

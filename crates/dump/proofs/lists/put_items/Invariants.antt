@@ -1,0 +1,11 @@
+use Prim.Native.Nat.{◌-◌, ◌≤◌}
+use lib.ListN.{length}
+use Rattle.dump.specs.Dump.{item_bytes}
+use Rattle.numbers.proofs.PuttingLaws.{Putting}
+use Rattle.dump.proofs.lists.put_items.Given as goal
+
+abbrev pub invariant-loop-i : goal.invariant-loop-i
+invariant-loop-i l = (l.i ≤ length l.items) × Putting item_bytes l.initial.p l.items l.initial.out l.out l.p l.i
+
+abbrev pub decreases-loop-i : goal.decreases-loop-i
+decreases-loop-i l = length l.items - l.i

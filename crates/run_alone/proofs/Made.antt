@@ -1,2 +1,0 @@
--- What tools/walk.py made: derivations of the functions over slices of records. Assumes nothing.
-pub mod RunAloneLts
