@@ -108,12 +108,12 @@ module _ (text : List ℕ) where
 
   -- ---- a line of an override list, and any other
 
-  module _ (takes : Takes) (listOpen : Bool) (t : Span) where
-    pub not_open : listOpen ≡ false → false ≡ listed text takes listOpen t
+  module _ (takes : Takes) (list_open : Bool) (t : Span) where
+    pub not_open : list_open ≡ false → false ≡ listed text takes list_open t
     unfolding listed
     not_open n = go takes
       where
-        go : (k : Takes) → false ≡ listed text k listOpen t
+        go : (k : Takes) → false ≡ listed text k list_open t
         go NoLines = refl
         go Options = rw n
         go Garbage = refl
@@ -124,27 +124,27 @@ module _ (text : List ℕ) where
         go FirstData = refl
         go FirstRaw = refl
 
-    pub by_quote : takes ≡ Options → listOpen ≡ true → (r : Bool) → r ≡ starts_with (codes "\"") (bytes text t) → r ≡ listed text takes listOpen t
+    pub by_quote : takes ≡ Options → list_open ≡ true → (r : Bool) → r ≡ starts_with (codes "\"") (bytes text t) → r ≡ listed text takes list_open t
     unfolding listed
     by_quote h o r e = rw (h, o, begins-is text t "\"" r e)
 
   -- the two ways of a line of SetOptions
-  option_pair : (listOpen : Bool) (t : Span) → listOpen & begins text "\"" t ≡ true → pair_saying (pair_in text t) ≡ option_saying text listOpen t
+  option_pair : (list_open : Bool) (t : Span) → list_open & begins text "\"" t ≡ true → pair_saying (pair_in text t) ≡ option_saying text list_open t
   unfolding option_saying pair_saying
-  option_pair listOpen t y = rw (y, option_saying)
+  option_pair list_open t y = rw (y, option_saying)
 
-  option_key : (listOpen : Bool) (t : Span) → listOpen & begins text "\"" t ≡ false → key_saying text (keys_of Options) t ≡ option_saying text listOpen t
+  option_key : (list_open : Bool) (t : Span) → list_open & begins text "\"" t ≡ false → key_saying text (keys_of Options) t ≡ option_saying text list_open t
   unfolding option_saying
-  option_key listOpen t n = rw (n, option_saying)
+  option_key list_open t n = rw (n, option_saying)
 
-  module _ (takes : Takes) (listOpen : Bool) (t : Span) (b : Bool) (e : b ≡ listed text takes listOpen t) (s : Saying) where
-    pub in_list : b ≡ true → s ≡ pair_saying (pair_in text t) → s ≡ saying_in text takes listOpen t
+  module _ (takes : Takes) (list_open : Bool) (t : Span) (b : Bool) (e : b ≡ listed text takes list_open t) (s : Saying) where
+    pub in_list : b ≡ true → s ≡ pair_saying (pair_in text t) → s ≡ saying_in text takes list_open t
     unfolding listed saying_in
     in_list y q = q ∙ go takes (sym e ∙ y)
       where
-        go : (k : Takes) → listed text k listOpen t ≡ true → pair_saying (pair_in text t) ≡ saying_in text k listOpen t
+        go : (k : Takes) → listed text k list_open t ≡ true → pair_saying (pair_in text t) ≡ saying_in text k list_open t
         go NoLines z = never (sym z)
-        go Options z = option_pair listOpen t z
+        go Options z = option_pair list_open t z
         go Garbage z = never (sym z)
         go Verify z = never (sym z)
         go Texts z = never (sym z)
@@ -154,13 +154,13 @@ module _ (text : List ℕ) where
         go FirstRaw z = never (sym z)
 
     -- an operation whose lines have keys
-    pub beside_list : OneOf with_keys (tag_of the_type takes) → b ≡ false → s ≡ key_saying text (keys_of takes) t → s ≡ saying_in text takes listOpen t
+    pub beside_list : OneOf with_keys (tag_of the_type takes) → b ≡ false → s ≡ key_saying text (keys_of takes) t → s ≡ saying_in text takes list_open t
     unfolding listed saying_in
     beside_list h n q = q ∙ go takes h (sym e ∙ n)
       where
-        go : (k : Takes) → OneOf with_keys (tag_of the_type k) → listed text k listOpen t ≡ false → key_saying text (keys_of k) t ≡ saying_in text k listOpen t
+        go : (k : Takes) → OneOf with_keys (tag_of the_type k) → listed text k list_open t ≡ false → key_saying text (keys_of k) t ≡ saying_in text k list_open t
         go NoLines m z = absurd (miss with_keys 0 tt m)
-        go Options m z = option_key listOpen t z
+        go Options m z = option_key list_open t z
         go Garbage m z = refl
         go Verify m z = refl
         go Texts m z = refl
@@ -170,8 +170,8 @@ module _ (text : List ℕ) where
         go FirstRaw m z = absurd (miss with_keys 8 tt m)
 
   -- the lines that an operation takes are known
-  pub takes_told : (takes told : Takes) (listOpen : Bool) (t : Span) (s : Saying) → takes ≡ told → s ≡ saying_in text told listOpen t → s ≡ saying_in text takes listOpen t
-  takes_told takes told listOpen t s h q = rw (h, q)
+  pub takes_told : (takes told : Takes) (list_open : Bool) (t : Span) (s : Saying) → takes ≡ told → s ≡ saying_in text told list_open t → s ≡ saying_in text takes list_open t
+  takes_told takes told list_open t s h q = rw (h, q)
 
 pub ruleset raw-words = (raw_found, raw-missing)
 

@@ -9,7 +9,8 @@ use native.Mathlib.Nat.{mod-lt, not-suc-le-zero}
 use lib.Dec.{eqb, leb, ltb}
 use lib.ListN.{get_or, length}
 use borrow.Author.Tests.{eqb-true, eqb-false, eq-eqb, leb-true, ltb-true}
-use Rattle.text.specs.Base.{if◌then◌else◌, ◌&◌, part}
+use Rattle.std.specs.Prelude.{if◌then◌else◌}
+use Rattle.text.specs.Base.{◌&◌, part}
 use Rattle.text.specs.Literal.{spells}
 use Rattle.text.specs.Parts.{same_bytes}
 use Rattle.text.proofs.LiteralLaws.{codes, spells_as}

@@ -39,13 +39,13 @@ pair_behind text name after = do
   pair_value text name (trim text b)
 
 -- a line of an open override list that is a pair or none
-unfoldable pub listed : (text : List ℕ) → Takes → (listOpen : Bool) → Span → Bool
-listed text NoLines listOpen t = false
-listed text Options listOpen t = listOpen & begins text "\"" t
-listed text Garbage listOpen t = false
-listed text Verify listOpen t = false
-listed text Texts listOpen t = false
-listed text Store listOpen t = false
-listed text Multiple listOpen t = false
-listed text FirstData listOpen t = false
-listed text FirstRaw listOpen t = false
+unfoldable pub listed : (text : List ℕ) → Takes → (list_open : Bool) → Span → Bool
+listed text NoLines list_open t = false
+listed text Options list_open t = list_open & begins text "\"" t
+listed text Garbage list_open t = false
+listed text Verify list_open t = false
+listed text Texts list_open t = false
+listed text Store list_open t = false
+listed text Multiple list_open t = false
+listed text FirstData list_open t = false
+listed text FirstRaw list_open t = false

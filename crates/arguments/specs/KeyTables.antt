@@ -1,7 +1,8 @@
 -- What the code's tables have to say of the 26 keys of argument lines. Assumes nothing.
 use Rattle.std.specs.Prelude.{ℕ, ◌+◌, ◌-◌, ◌*◌, ◌%◌, ◌≤◌, ◌<◌, ◌≡◌, List, [], ◌∷◌, ◌++◌, length, get_or}
 use Rattle.std.proofs.Math.Option.{none, some}
-use Rattle.text.specs.Base.{if◌then◌else◌, part}
+use Rattle.std.specs.Prelude.{if◌then◌else◌}
+use Rattle.text.specs.Base.{part}
 use Rattle.text.specs.Parts.{same_bytes}
 use Rattle.text.proofs.LiteralLaws.{codes}
 use Rattle.script.specs.Operations.{key_row, keys_of, key_in}

@@ -31,8 +31,8 @@ use Rattle.tables.specs.Items.{item_of, items_for}
 use Rattle.written.proofs.WrittenLaws.{Filling, filling_begun, filling_length, filled, filling_room, filling_on, filling_place, filling_more, written_one}
 use Rattle.below.specs.Below.{below_of, roles_at, ahead, ahead_of, NextIn, pairs_items}
 use Rattle.says.specs.Says.{pair_items, Forward}
-use Rattle.below.specs.declared.lines.Below.{Below}
-use Rattle.below.specs.declared.lines.Next.{Next}
+use Rattle.below.specs.declared.lines_below.Below.{Below}
+use Rattle.below.specs.declared.lines_below.Next.{Next}
 
 -- ---- one line, and those below it
 

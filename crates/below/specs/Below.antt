@@ -1,6 +1,6 @@
 -- The lines up to the next opening line, and what stands from there on. Assumes nothing.
 use Rattle.std.specs.Prelude.{ℕ, ◌+◌, ◌≤◌, ◌<◌, Bool, true, false, List, [], ◌∷◌, length, drop}
-use Rattle.text.specs.Base.{if◌then◌else◌}
+use Rattle.std.specs.Prelude.{if◌then◌else◌}
 use Rattle.text.specs.Lines.{lines_from}
 use Rattle.script.specs.Values.{plain_rules}
 use Rattle.script.specs.Roles.{Marked, marked, roles_from}
@@ -10,9 +10,9 @@ use Rattle.script.specs.declared.roles.Where.{Where}
 use Rattle.script.specs.declared.roles.Saying.{Saying}
 use Rattle.script.specs.declared.roles.Role.TheVariants.{Opens}
 use Rattle.tables.specs.Items.{items_for}
-use Rattle.below.specs.declared.lines.Below.{Below}
-use Rattle.below.specs.declared.lines.Next.{Next}
-use Rattle.below.specs.declared.lines.Next.TheVariants.{End, Entry}
+use Rattle.below.specs.declared.lines_below.Below.{Below}
+use Rattle.below.specs.declared.lines_below.Next.{Next}
+use Rattle.below.specs.declared.lines_below.Next.TheVariants.{End, Entry}
 
 abbrev pub below_of : (pairs expects : ℕ) → Next → Below
 below_of pairs expects next = record { pairs = pairs; expects = expects; next = next }

@@ -2,4 +2,4 @@
 // written into the tables.
 #![tactic(auto)]
 
-pub mod lines;
+pub mod lines_below;

@@ -7,7 +7,7 @@ use lib.ListN.{length, take, drop, length-drop}
 use lib.Seq.{take_all}
 use lib.Dec.{eqb}
 use borrow.Author.Tests.{ne_eqb}
-use Rattle.text.specs.Base.{if◌then◌else◌}
+use Rattle.std.specs.Prelude.{if◌then◌else◌}
 use Rattle.script.specs.Reading.{refusal}
 use Rattle.tallies.specs.declared.tally.Outcome.TheVariants.{Failed, Undecided, NothingChecked, Passed}
 use Rattle.tallies.specs.declared.calls.Answer.{Answer}

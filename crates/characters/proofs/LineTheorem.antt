@@ -14,7 +14,8 @@ use borrow.Author.Tests.{leb-true, ltb-true, ltb-false, eqb-true, eqb-false}
 use Rattle.text.proofs.Scan.{both, never, rest-none, within_low}
 use Rattle.text.proofs.Utf8Laws.{after_ascii}
 use Rattle.text.proofs.LineLaws.{lines_at, known, lines_none, end_begun, over, at_lf, at_other}
-use Rattle.text.specs.Base.{if◌then◌else◌, ◌&◌, within, part, LF, CR}
+use Rattle.std.specs.Prelude.{if◌then◌else◌}
+use Rattle.text.specs.Base.{◌&◌, within, part, LF, CR}
 use Rattle.text.specs.Utf8.{Range, Row, table, after, well_formed_from, well_formed}
 use Rattle.text.specs.declared.lines.Line.{Line}
 use Rattle.text.specs.Lines.{line, line_from, line_at, line_bytes, lines}

@@ -8,7 +8,8 @@ use native.Mathlib.Omega.{arith}
 use lib.ListN.{take}
 use Rattle.text.proofs.Scan.{both, inside, and_true, and_false, within-true, within_low, within_high}
 use Rattle.text.proofs.TrimLaws.{front_ascii, back_ascii}
-use Rattle.text.specs.Base.{if◌then◌else◌, ◌&◌, ◌or◌, within}
+use Rattle.std.specs.Prelude.{if◌then◌else◌}
+use Rattle.text.specs.Base.{◌&◌, ◌or◌, within}
 use Rattle.text.specs.Unicode.{white_space, one_has, white}
 use Rattle.text.specs.Trim.{white_bytes, backwards, begins, size_of}
 

@@ -11,7 +11,7 @@ use Rattle.text.proofs.Scan.{both, by_cases}
 use Rattle.characters.proofs.Scalars.{coded}
 use Rattle.text.proofs.TrimLaws.{strip_on, strip_done}
 use Rattle.characters.proofs.TrimChars.{off}
-use Rattle.text.specs.Base.{if◌then◌else◌}
+use Rattle.std.specs.Prelude.{if◌then◌else◌}
 use Rattle.text.specs.Utf8.{Range}
 use Rattle.text.specs.Unicode.{scalar, all_scalars, encoded, spread, encoded_all, white}
 use Rattle.text.specs.Trim.{front_trimmed, scalars_trimmed, white_bytes, backwards, size_of, strip_from, trimmed_front, trimmed_back, trimmed}

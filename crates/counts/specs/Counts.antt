@@ -4,7 +4,7 @@ use Rattle.std.proofs.Math.Option.{some}
 use Rattle.text.specs.Base.{BLANK}
 use Rattle.text.specs.declared.parts.Span.{Span}
 use Rattle.script.specs.Pieces.{cut_or}
-use Rattle.script.specs.Operations.{Shape, singlePath, singleString, path_set, pathSetFlag, pathSetMode, no_args, setOptions, collect_garbage, verifyStore, addPermRoot, addSignatures, addTextToStore, addToStore, addMultipleToStore, addBuildLog, registerDrvOutput, queryRealisation, querySubstitutablePathInfo, querySubstitutablePathInfos, rawBytes}
+use Rattle.script.specs.Operations.{Shape, single_path, single_string, path_set, path_set_flag, path_set_mode, no_args, set_options, collect_garbage, verify_store, add_perm_root, add_signatures, add_text_to_store, add_to_store, add_multiple_to_store, add_build_log, register_drv_output, query_realisation, query_substitutable_path_info, query_substitutable_path_infos, raw_bytes}
 use Rattle.script.specs.Values.{plain_rules}
 use Rattle.script.specs.Sets as Sets
 use Rattle.script.specs.Contents.{items_in, unquoted_of, hex_of, data_of}
@@ -13,26 +13,26 @@ use Rattle.script.specs.Layout.{stored_of}
 module _ (text : List ℕ) where
   -- how many items stand on an opening line: `args` is what stands behind the operation's name
   unfoldable pub inline_items : Shape → (args : Span) → ℕ
-  inline_items singlePath args = 0
-  inline_items singleString args = 0
+  inline_items single_path args = 0
+  inline_items single_string args = 0
   inline_items path_set args = length (items_in text args)
-  inline_items pathSetFlag args = length (items_in text args)
-  inline_items pathSetMode args = length (items_in text args)
+  inline_items path_set_flag args = length (items_in text args)
+  inline_items path_set_mode args = length (items_in text args)
   inline_items no_args args = 0
-  inline_items setOptions args = 0
+  inline_items set_options args = 0
   inline_items collect_garbage args = 0
-  inline_items verifyStore args = 0
-  inline_items addPermRoot args = 0
-  inline_items addSignatures args = length (items_in text (cut_or text BLANK args).after)
-  inline_items addTextToStore args = 0
-  inline_items addToStore args = 0
-  inline_items addMultipleToStore args = 0
-  inline_items addBuildLog args = 0
-  inline_items registerDrvOutput args = 0
-  inline_items queryRealisation args = 0
-  inline_items querySubstitutablePathInfo args = 0
-  inline_items querySubstitutablePathInfos args = length (items_in text args)
-  inline_items rawBytes args = 0
+  inline_items verify_store args = 0
+  inline_items add_perm_root args = 0
+  inline_items add_signatures args = length (items_in text (cut_or text BLANK args).after)
+  inline_items add_text_to_store args = 0
+  inline_items add_to_store args = 0
+  inline_items add_multiple_to_store args = 0
+  inline_items add_build_log args = 0
+  inline_items register_drv_output args = 0
+  inline_items query_realisation args = 0
+  inline_items query_substitutable_path_info args = 0
+  inline_items query_substitutable_path_infos args = length (items_in text args)
+  inline_items raw_bytes args = 0
 
   -- how many items or bytes a value takes
   unfoldable pub set_count : Span → ℕ

@@ -18,8 +18,8 @@ use Rattle.written.specs.Written.{written_at}
 use Rattle.tables.specs.Items.{item_of}
 use Rattle.written.proofs.WrittenLaws.{Filling, filling_begun, filling_length, filled, filling_room, filling_on, filling_place, filling_more, written_one}
 use Rattle.below.specs.Below.{roles_at, ahead, ahead_of, NextIn}
-use Rattle.below.specs.declared.lines.Ahead.{Ahead}
-use Rattle.below.specs.declared.lines.Next.{Next}
+use Rattle.below.specs.declared.lines_below.Ahead.{Ahead}
+use Rattle.below.specs.declared.lines_below.Next.{Next}
 use Rattle.entries.specs.Entries.{entry_at, laid_entry, entries_ahead}
 
 -- ---- what is ahead

@@ -7,7 +7,7 @@ use mathlib.Core.Option.{Option, none}
 use native.Mathlib.Omega.{arith}
 use lib.ListN.{length, set, replicate, length-append, length-map}
 use Rattle.text.specs.declared.parts.Span.{Span}
-use Rattle.script.specs.Operations.{Shape, singlePath, singleString, path_set, pathSetFlag, pathSetMode, no_args, setOptions, collect_garbage, verifyStore, addPermRoot, addSignatures, addTextToStore, addToStore, addMultipleToStore, addBuildLog, registerDrvOutput, queryRealisation, querySubstitutablePathInfo, querySubstitutablePathInfos, rawBytes, form_of}
+use Rattle.script.specs.Operations.{Shape, single_path, single_string, path_set, path_set_flag, path_set_mode, no_args, set_options, collect_garbage, verify_store, add_perm_root, add_signatures, add_text_to_store, add_to_store, add_multiple_to_store, add_build_log, register_drv_output, query_realisation, query_substitutable_path_info, query_substitutable_path_infos, raw_bytes, form_of}
 use Rattle.script.specs.Pieces.{place}
 use Rattle.script.specs.Roles.{Marked}
 use Rattle.script.specs.Contents.{Call, sayings, expectations, last_of, value_of, lead, entry_of}
@@ -25,35 +25,35 @@ use Rattle.stored.specs.Closing.{set_items, stored, sizes_for, pairs_for, entry_
 use Rattle.stored.proofs.ClosingLaws.{laid-items, laid-store, laid_item_count, laid_store_count, sizes-sum, sizes-room, laid_entry_lem}
 use Rattle.stored.proofs.WriteLaws.{items-length, items-append}
 use Rattle.below.specs.Below.{roles_at, pairs_items, ahead_of, NextIn}
-use Rattle.below.specs.declared.lines.Next.{Next}
+use Rattle.below.specs.declared.lines_below.Next.{Next}
 use Rattle.entries.specs.declared.entries.Advance.{Advance}
-use Rattle.below.specs.declared.lines.Ahead.{Ahead}
+use Rattle.below.specs.declared.lines_below.Ahead.{Ahead}
 use Rattle.entries.specs.Entries.{takes_pairs, entry_at, laid_entry}
 use Rattle.entries.proofs.InsideLaws.{values_in}
 
 -- the pairs that the lines write are those of the operation
 pairs_by : (sh : Shape) (ss : List Saying) → pairs_items (takes_pairs sh) ss ≡ items_for (pairs_for sh ss)
 unfolding takes_pairs pairs_items pairs_for items_for
-pairs_by singlePath ss = refl
-pairs_by singleString ss = refl
+pairs_by single_path ss = refl
+pairs_by single_string ss = refl
 pairs_by path_set ss = refl
-pairs_by pathSetFlag ss = refl
-pairs_by pathSetMode ss = refl
+pairs_by path_set_flag ss = refl
+pairs_by path_set_mode ss = refl
 pairs_by no_args ss = refl
-pairs_by setOptions ss = refl
+pairs_by set_options ss = refl
 pairs_by collect_garbage ss = refl
-pairs_by verifyStore ss = refl
-pairs_by addPermRoot ss = refl
-pairs_by addSignatures ss = refl
-pairs_by addTextToStore ss = refl
-pairs_by addToStore ss = refl
-pairs_by addMultipleToStore ss = refl
-pairs_by addBuildLog ss = refl
-pairs_by registerDrvOutput ss = refl
-pairs_by queryRealisation ss = refl
-pairs_by querySubstitutablePathInfo ss = refl
-pairs_by querySubstitutablePathInfos ss = refl
-pairs_by rawBytes ss = refl
+pairs_by verify_store ss = refl
+pairs_by add_perm_root ss = refl
+pairs_by add_signatures ss = refl
+pairs_by add_text_to_store ss = refl
+pairs_by add_to_store ss = refl
+pairs_by add_multiple_to_store ss = refl
+pairs_by add_build_log ss = refl
+pairs_by register_drv_output ss = refl
+pairs_by query_realisation ss = refl
+pairs_by query_substitutable_path_info ss = refl
+pairs_by query_substitutable_path_infos ss = refl
+pairs_by raw_bytes ss = refl
 
 module _ (text : List ℕ) (a : Ahead) (i x b : ℕ) where
   abbrev sh : Shape

@@ -33,7 +33,7 @@ use Rattle.stored.specs.Closing.{front_of}
 use Rattle.stored.proofs.ClosingLaws.{laid_front}
 use Rattle.stored.proofs.WriteLaws.{items-length}
 use Rattle.below.specs.Below.{roles_at, ahead, ahead_of, pairs_items}
-use Rattle.below.specs.declared.lines.Next.{Next}
+use Rattle.below.specs.declared.lines_below.Next.{Next}
 use Rattle.entries.specs.Entries.{entries_ahead}
 use Rattle.entries.specs.Whole.{reading_of}
 use Rattle.entries.proofs.EntriesLaws.{entries-ahead}

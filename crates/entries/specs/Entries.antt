@@ -1,36 +1,36 @@
 -- An entry as the code comes to it, at its opening line. Assumes nothing.
 use Rattle.std.specs.Prelude.{ℕ, ◌+◌, Bool, true, false, List}
-use Rattle.script.specs.Operations.{Shape, singlePath, singleString, path_set, pathSetFlag, pathSetMode, no_args, setOptions, collect_garbage, verifyStore, addPermRoot, addSignatures, addTextToStore, addToStore, addMultipleToStore, addBuildLog, registerDrvOutput, queryRealisation, querySubstitutablePathInfo, querySubstitutablePathInfos, rawBytes}
+use Rattle.script.specs.Operations.{Shape, single_path, single_string, path_set, path_set_flag, path_set_mode, no_args, set_options, collect_garbage, verify_store, add_perm_root, add_signatures, add_text_to_store, add_to_store, add_multiple_to_store, add_build_log, register_drv_output, query_realisation, query_substitutable_path_info, query_substitutable_path_infos, raw_bytes}
 use Rattle.script.specs.Values.{plain_rules}
 use Rattle.script.specs.Contents.{EntryContents, entry_of, entries, lead}
 use Rattle.script.specs.Layout.{laid, listed, Tables, tables_from}
 use Rattle.script.specs.declared.records.Entry.{Entry}
 use Rattle.below.specs.Below.{roles_at, ahead_of}
-use Rattle.below.specs.declared.lines.Ahead.{Ahead}
-use Rattle.below.specs.declared.lines.Next.{Next}
+use Rattle.below.specs.declared.lines_below.Ahead.{Ahead}
+use Rattle.below.specs.declared.lines_below.Next.{Next}
 
 -- only SetOptions takes an override list
 unfoldable pub takes_pairs : Shape → Bool
-takes_pairs singlePath = false
-takes_pairs singleString = false
+takes_pairs single_path = false
+takes_pairs single_string = false
 takes_pairs path_set = false
-takes_pairs pathSetFlag = false
-takes_pairs pathSetMode = false
+takes_pairs path_set_flag = false
+takes_pairs path_set_mode = false
 takes_pairs no_args = false
-takes_pairs setOptions = true
+takes_pairs set_options = true
 takes_pairs collect_garbage = false
-takes_pairs verifyStore = false
-takes_pairs addPermRoot = false
-takes_pairs addSignatures = false
-takes_pairs addTextToStore = false
-takes_pairs addToStore = false
-takes_pairs addMultipleToStore = false
-takes_pairs addBuildLog = false
-takes_pairs registerDrvOutput = false
-takes_pairs queryRealisation = false
-takes_pairs querySubstitutablePathInfo = false
-takes_pairs querySubstitutablePathInfos = false
-takes_pairs rawBytes = false
+takes_pairs verify_store = false
+takes_pairs add_perm_root = false
+takes_pairs add_signatures = false
+takes_pairs add_text_to_store = false
+takes_pairs add_to_store = false
+takes_pairs add_multiple_to_store = false
+takes_pairs add_build_log = false
+takes_pairs register_drv_output = false
+takes_pairs query_realisation = false
+takes_pairs query_substitutable_path_info = false
+takes_pairs query_substitutable_path_infos = false
+takes_pairs raw_bytes = false
 
 -- the entry whose opening line is ahead
 unfoldable pub entry_at : (text : List ℕ) → Ahead → EntryContents

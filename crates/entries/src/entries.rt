@@ -9,12 +9,12 @@ ghost use Rattle.kept.specs.Kept.{Memo};
 ghost use Rattle.below.specs.Below.{ahead, ahead_of, NextIn, roles_at};
 ghost use Rattle.entries.specs.Entries.{takes_pairs, entry_at, laid_entry, entries_ahead};
 
-use below::lines::{Ahead, Next, read_lines};
+use below::lines_below::{Ahead, Next, read_lines};
 use closing::entry::entry_of;
 use kept::Kept;
 use records::calls::Sizes;
 use script::records::{Entry, Expectation};
-use stored::values::put_values;
+use stored::stored_values::put_values;
 use wire::ops::Op;
 
 // How many items, expectations and bytes of the store an entry took, and what comes next.

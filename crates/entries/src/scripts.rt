@@ -6,7 +6,7 @@ ghost use Rattle.tables.specs.Items.{item_of};
 ghost use Rattle.entries.specs.Whole.{reading_of};
 
 use crate::entries::read_entries;
-use below::lines::read_lines;
+use below::lines_below::read_lines;
 use kept::Kept;
 use preamble_records::preamble_of;
 use script::records::{Counts, Entry, Expectation, Preamble, Script};

@@ -19,7 +19,7 @@ ghost use Rattle.given.specs.Given.{is_given, given_or};
 ghost use Rattle.dump.specs.Dump.{read_dump};
 ghost use Rattle.dump.specs.Times.{last_number};
 
-pub mod messages;
+pub mod message_exports;
 
 use parse::measure::Measured;
 

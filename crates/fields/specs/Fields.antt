@@ -1,7 +1,8 @@
 -- The fields of a line of stored answers: words, some of which spell numbers and some bytes in hex. Assumes nothing.
 use Rattle.std.specs.Prelude.{ℕ, zero, suc, ◌-◌, ◌*◌, ◌^◌, List, [], ◌∷◌, ◌++◌, eqb, leb, ℤ, length, take}
 use Rattle.std.proofs.Math.Option.{Option, none, some}
-use Rattle.text.specs.Base.{if◌then◌else◌, ◌&◌, part}
+use Rattle.std.specs.Prelude.{if◌then◌else◌}
+use Rattle.text.specs.Base.{◌&◌, part}
 use Rattle.text.specs.Words.{word_at}
 use Rattle.text.specs.declared.parts.Span.{Span}
 use Rattle.values.specs.Numbers.{number, signed}

@@ -9,7 +9,8 @@ use native.Mathlib.Nat.{zero-add}
 use lib.Dec.{eqb, ltb}
 use lib.ListN.{length, get_or, drop, replicate, length-append}
 use borrow.Author.Tests.{eqb-true, ne_eqb, ltb-true, ltb-false}
-use Rattle.text.specs.Base.{if◌then◌else◌, ◌&◌, ◌or◌, within, BLANK, QUOTE, PLUS}
+use Rattle.std.specs.Prelude.{if◌then◌else◌}
+use Rattle.text.specs.Base.{◌&◌, ◌or◌, within, BLANK, QUOTE, PLUS}
 use Rattle.values.specs.Hex.{without, without_blanks, character_starts, hex_value, is_hex, hex_byte, hex_pairs, hex_decoded}
 use Rattle.hexadecimal.specs.HexWalk.{HexTable, on_digit, on_other, hex_step, hex_from}
 use Rattle.hexadecimal.specs.declared.HexStep.{HexStep}

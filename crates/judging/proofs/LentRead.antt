@@ -9,7 +9,7 @@ use lib.ListN.{length, take, drop, get_or, length-append, length-map, get_or-app
 use lib.Dec.{ltb}
 use lib.Seq.{take_at}
 use borrow.Author.Tests.{lt-ltb, le-leb, eq-eqb, ne_eqb, ltb-false}
-use Rattle.text.specs.Base.{if◌then◌else◌}
+use Rattle.std.specs.Prelude.{if◌then◌else◌}
 use Rattle.text.specs.declared.lines.Line.{Line}
 use Rattle.script.specs.Answers.{first_of}
 use Rattle.script.specs.Values.{plain_rules}

@@ -8,7 +8,7 @@ use native.Mathlib.Nat.{le_refl}
 use lib.ListN.{length, take, drop}
 use lib.Dec.{ltb}
 use borrow.Author.Tests.{le-ltb, ne_eqb}
-use Rattle.text.specs.Base.{if◌then◌else◌}
+use Rattle.std.specs.Prelude.{if◌then◌else◌}
 use Rattle.text.specs.declared.lines.Line.{Line}
 use Rattle.script.specs.Plain.{PlainLine, expects, opens, other, opened, expectation_lines, owners}
 use Rattle.verdicts.specs.Expected.{Expected}

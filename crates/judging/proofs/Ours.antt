@@ -10,7 +10,8 @@ use lib.ListN.{length, take, drop, length-map, take-append-drop}
 use lib.Dec.{ltb, leb, eqb}
 use lib.Seq.{drop-drop}
 use borrow.Author.Tests.{lt-ltb, le-ltb, le-leb, eq-eqb, ne_eqb}
-use Rattle.text.specs.Base.{if◌then◌else◌, ◌&◌, ◌or◌}
+use Rattle.std.specs.Prelude.{if◌then◌else◌}
+use Rattle.text.specs.Base.{◌&◌, ◌or◌}
 use Rattle.text.proofs.Scan.{both}
 use Rattle.script.specs.Reading.{room}
 use Rattle.script.specs.declared.records.Items.{Items}

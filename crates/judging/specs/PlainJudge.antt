@@ -2,7 +2,7 @@
 -- information or response, and scratch length; none of our records. Assumes nothing.
 use Rattle.std.specs.Prelude.{ℕ, ◌+◌, not, List, [], ◌∷◌, map, length, replicate, get_or, ltb, eqb}
 use Rattle.std.proofs.Math.Option.{Option, none, some}
-use Rattle.text.specs.Base.{if◌then◌else◌}
+use Rattle.std.specs.Prelude.{if◌then◌else◌}
 use Rattle.text.specs.declared.lines.Line.{Line}
 use Rattle.script.specs.Plain.{plain_lines, opened, expectation_lines, owners, stated}
 use Rattle.script.specs.declared.records.Refusal.{Refusal}

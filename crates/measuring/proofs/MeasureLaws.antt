@@ -7,14 +7,14 @@ use mathlib.Core.List.{List, [], ◌∷◌, ◌++◌, map}
 use mathlib.Core.Option.{Option, none, some}
 use lib.ListN.{length, length-append, length-map}
 use lib.Dec.{ltb}
-use Rattle.text.specs.Base.{if◌then◌else◌}
+use Rattle.std.specs.Prelude.{if◌then◌else◌}
 use Rattle.text.specs.Utf8.{well_formed}
 use Rattle.text.specs.Lines.{lines}
 use Rattle.text.specs.declared.parts.Span.{Span}
 use Rattle.text.specs.declared.lines.Line.{Line}
 use Rattle.wire.specs.declared.ops.Op.{Op}
 use Rattle.script.specs.Pieces.{place}
-use Rattle.script.specs.Operations.{same_key, Shape, singlePath, singleString, path_set, pathSetFlag, pathSetMode, no_args, setOptions, collect_garbage, verifyStore, addPermRoot, addSignatures, addTextToStore, addToStore, addMultipleToStore, addBuildLog, registerDrvOutput, queryRealisation, querySubstitutablePathInfo, querySubstitutablePathInfos, rawBytes, form_of}
+use Rattle.script.specs.Operations.{same_key, Shape, single_path, single_string, path_set, path_set_flag, path_set_mode, no_args, set_options, collect_garbage, verify_store, add_perm_root, add_signatures, add_text_to_store, add_to_store, add_multiple_to_store, add_build_log, register_drv_output, query_realisation, query_substitutable_path_info, query_substitutable_path_infos, raw_bytes, form_of}
 use Rattle.script.specs.Values.{plain_rules}
 use Rattle.script.specs.Roles.{Marked, marked, step_of, roles_from, roles}
 use Rattle.script.specs.Contents.{saying_of, sayings, expectation_of, expectations, value_or, last_of, value_of, pair_of, pairs, set_of, features_in, unquoted_of, hex_of, data_of, call_of, entry_of, is_opening, lead, or_none, entry_on, entries, preamble_of, contents, ScriptContents}
@@ -139,51 +139,51 @@ module _ (text : List ℕ) where
   items_are : (sh : Shape) (op : Op) (args : Span) (ss : List Saying) (what : What) (i b : ℕ)
       → entry_items sh (said_on (begun what (inline_items text sh args)) ss) ≡ length (laid i b (call_of plain_rules text sh op args ss)).items
   unfolding entry_items inline_items laid call_of begun
-  items_are singlePath op args ss what i b = refl
-  items_are singleString op args ss what i b = refl
+  items_are single_path op args ss what i b = refl
+  items_are single_string op args ss what i b = refl
   items_are path_set op args ss what i b = said-inline _ ss ∙ simp length-map
-  items_are pathSetFlag op args ss what i b = said-inline _ ss ∙ simp length-map
-  items_are pathSetMode op args ss what i b = said-inline _ ss ∙ simp length-map
+  items_are path_set_flag op args ss what i b = said-inline _ ss ∙ simp length-map
+  items_are path_set_mode op args ss what i b = said-inline _ ss ∙ simp length-map
   items_are no_args op args ss what i b = refl
-  items_are setOptions op args ss what i b = said-pairs (begun what 0) ss ∙ simp length-map (omega arith)
+  items_are set_options op args ss what i b = said-pairs (begun what 0) ss ∙ simp length-map (omega arith)
   items_are collect_garbage op args ss what i b = said-paths what 0 ss ∙ simp length-map
-  items_are verifyStore op args ss what i b = refl
-  items_are addPermRoot op args ss what i b = refl
-  items_are addSignatures op args ss what i b = said-inline _ ss ∙ simp length-map
-  items_are addTextToStore op args ss what i b = said-refs what 0 ss ∙ simp length-map
-  items_are addToStore op args ss what i b = said-refs what 0 ss ∙ simp length-map
-  items_are addMultipleToStore op args ss what i b = refl
-  items_are addBuildLog op args ss what i b = refl
-  items_are registerDrvOutput op args ss what i b = refl
-  items_are queryRealisation op args ss what i b = refl
-  items_are querySubstitutablePathInfo op args ss what i b = refl
-  items_are querySubstitutablePathInfos op args ss what i b = said-inline _ ss ∙ simp length-map
-  items_are rawBytes op args ss what i b = refl
+  items_are verify_store op args ss what i b = refl
+  items_are add_perm_root op args ss what i b = refl
+  items_are add_signatures op args ss what i b = said-inline _ ss ∙ simp length-map
+  items_are add_text_to_store op args ss what i b = said-refs what 0 ss ∙ simp length-map
+  items_are add_to_store op args ss what i b = said-refs what 0 ss ∙ simp length-map
+  items_are add_multiple_to_store op args ss what i b = refl
+  items_are add_build_log op args ss what i b = refl
+  items_are register_drv_output op args ss what i b = refl
+  items_are query_realisation op args ss what i b = refl
+  items_are query_substitutable_path_info op args ss what i b = refl
+  items_are query_substitutable_path_infos op args ss what i b = said-inline _ ss ∙ simp length-map
+  items_are raw_bytes op args ss what i b = refl
 
   -- and the bytes of the store
   store_is : (sh : Shape) (op : Op) (args : Span) (ss : List Saying) (what : What) (n i b : ℕ)
       → entry_store sh (said_on (begun what n) ss) ≡ length (laid i b (call_of plain_rules text sh op args ss)).store
   unfolding entry_store laid call_of
-  store_is singlePath op args ss what n i b = refl
-  store_is singleString op args ss what n i b = refl
+  store_is single_path op args ss what n i b = refl
+  store_is single_string op args ss what n i b = refl
   store_is path_set op args ss what n i b = refl
-  store_is pathSetFlag op args ss what n i b = refl
-  store_is pathSetMode op args ss what n i b = refl
+  store_is path_set_flag op args ss what n i b = refl
+  store_is path_set_mode op args ss what n i b = refl
   store_is no_args op args ss what n i b = refl
-  store_is setOptions op args ss what n i b = refl
+  store_is set_options op args ss what n i b = refl
   store_is collect_garbage op args ss what n i b = refl
-  store_is verifyStore op args ss what n i b = refl
-  store_is addPermRoot op args ss what n i b = refl
-  store_is addSignatures op args ss what n i b = refl
-  store_is addTextToStore op args ss what n i b = simp length-append (ap₂ ◌+◌ (said-suffix what n ss) (said-text what n ss))
-  store_is addToStore op args ss what n i b = simp length-append (omega (arith, said-name what n ss, said-cam_str what n ss, said_data what n ss))
-  store_is addMultipleToStore op args ss what n i b = said_data what n ss
-  store_is addBuildLog op args ss what n i b = said_data what n ss
-  store_is registerDrvOutput op args ss what n i b = refl
-  store_is queryRealisation op args ss what n i b = refl
-  store_is querySubstitutablePathInfo op args ss what n i b = refl
-  store_is querySubstitutablePathInfos op args ss what n i b = refl
-  store_is rawBytes op args ss what n i b = said-raw what n ss
+  store_is verify_store op args ss what n i b = refl
+  store_is add_perm_root op args ss what n i b = refl
+  store_is add_signatures op args ss what n i b = refl
+  store_is add_text_to_store op args ss what n i b = simp length-append (ap₂ ◌+◌ (said-suffix what n ss) (said-text what n ss))
+  store_is add_to_store op args ss what n i b = simp length-append (omega (arith, said-name what n ss, said-cam_str what n ss, said_data what n ss))
+  store_is add_multiple_to_store op args ss what n i b = said_data what n ss
+  store_is add_build_log op args ss what n i b = said_data what n ss
+  store_is register_drv_output op args ss what n i b = refl
+  store_is query_realisation op args ss what n i b = refl
+  store_is query_substitutable_path_info op args ss what n i b = refl
+  store_is query_substitutable_path_infos op args ss what n i b = refl
+  store_is raw_bytes op args ss what n i b = said-raw what n ss
 
   module _ (op : Op) (args : Span) (ss : List Saying) (i b : ℕ) where
     entry_items_lem : closed_items (said_on (opened text op args) ss) ≡ length (laid i b (call_of plain_rules text (form_of op).shape op args ss)).items

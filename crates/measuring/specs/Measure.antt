@@ -1,12 +1,12 @@
 -- Measure as a walk: one line after another, and all that is carried are numbers. `MeasureLaws` shows that it gives the counts of the reading. Assumes nothing.
 use Rattle.std.specs.Prelude.{ℕ, ◌+◌, not, List, [], ◌∷◌, length, ltb}
-use Rattle.text.specs.Base.{if◌then◌else◌}
+use Rattle.std.specs.Prelude.{if◌then◌else◌}
 use Rattle.text.specs.Utf8.{well_formed}
 use Rattle.text.specs.Lines.{lines}
 use Rattle.text.specs.declared.parts.Span.{Span}
 use Rattle.text.specs.declared.lines.Line.{Line}
 use Rattle.wire.specs.declared.ops.Op.{Op}
-use Rattle.script.specs.Operations.{same_key, Shape, singlePath, singleString, path_set, pathSetFlag, pathSetMode, no_args, setOptions, collect_garbage, verifyStore, addPermRoot, addSignatures, addTextToStore, addToStore, addMultipleToStore, addBuildLog, registerDrvOutput, queryRealisation, querySubstitutablePathInfo, querySubstitutablePathInfos, rawBytes, form_of}
+use Rattle.script.specs.Operations.{same_key, Shape, single_path, single_string, path_set, path_set_flag, path_set_mode, no_args, set_options, collect_garbage, verify_store, add_perm_root, add_signatures, add_text_to_store, add_to_store, add_multiple_to_store, add_build_log, register_drv_output, query_realisation, query_substitutable_path_info, query_substitutable_path_infos, raw_bytes, form_of}
 use Rattle.script.specs.Values.{plain_rules}
 use Rattle.script.specs.Roles.{Marked, step_of}
 use Rattle.script.specs.Reading.{Parsed, refused_at, read, refusal}
@@ -69,48 +69,48 @@ pairs_on NoRaw so_far = so_far
 
 -- the items and the bytes of the store that an entry takes
 unfoldable pub entry_items : Shape → Open → ℕ
-entry_items singlePath o = 0
-entry_items singleString o = 0
+entry_items single_path o = 0
+entry_items single_string o = 0
 entry_items path_set o = o.inline
-entry_items pathSetFlag o = o.inline
-entry_items pathSetMode o = o.inline
+entry_items path_set_flag o = o.inline
+entry_items path_set_mode o = o.inline
 entry_items no_args o = 0
-entry_items setOptions o = o.pairs
+entry_items set_options o = o.pairs
 entry_items collect_garbage o = o.paths
-entry_items verifyStore o = 0
-entry_items addPermRoot o = 0
-entry_items addSignatures o = o.inline
-entry_items addTextToStore o = o.refs
-entry_items addToStore o = o.refs
-entry_items addMultipleToStore o = 0
-entry_items addBuildLog o = 0
-entry_items registerDrvOutput o = 0
-entry_items queryRealisation o = 0
-entry_items querySubstitutablePathInfo o = 0
-entry_items querySubstitutablePathInfos o = o.inline
-entry_items rawBytes o = 0
+entry_items verify_store o = 0
+entry_items add_perm_root o = 0
+entry_items add_signatures o = o.inline
+entry_items add_text_to_store o = o.refs
+entry_items add_to_store o = o.refs
+entry_items add_multiple_to_store o = 0
+entry_items add_build_log o = 0
+entry_items register_drv_output o = 0
+entry_items query_realisation o = 0
+entry_items query_substitutable_path_info o = 0
+entry_items query_substitutable_path_infos o = o.inline
+entry_items raw_bytes o = 0
 
 unfoldable pub entry_store : Shape → Open → ℕ
-entry_store singlePath o = 0
-entry_store singleString o = 0
+entry_store single_path o = 0
+entry_store single_string o = 0
 entry_store path_set o = 0
-entry_store pathSetFlag o = 0
-entry_store pathSetMode o = 0
+entry_store path_set_flag o = 0
+entry_store path_set_mode o = 0
 entry_store no_args o = 0
-entry_store setOptions o = 0
+entry_store set_options o = 0
 entry_store collect_garbage o = 0
-entry_store verifyStore o = 0
-entry_store addPermRoot o = 0
-entry_store addSignatures o = 0
-entry_store addTextToStore o = o.suffix + o.text
-entry_store addToStore o = o.name + o.cam_str + o.«data»
-entry_store addMultipleToStore o = o.«data»
-entry_store addBuildLog o = o.«data»
-entry_store registerDrvOutput o = 0
-entry_store queryRealisation o = 0
-entry_store querySubstitutablePathInfo o = 0
-entry_store querySubstitutablePathInfos o = 0
-entry_store rawBytes o = o.raw
+entry_store verify_store o = 0
+entry_store add_perm_root o = 0
+entry_store add_signatures o = 0
+entry_store add_text_to_store o = o.suffix + o.text
+entry_store add_to_store o = o.name + o.cam_str + o.«data»
+entry_store add_multiple_to_store o = o.«data»
+entry_store add_build_log o = o.«data»
+entry_store register_drv_output o = 0
+entry_store query_realisation o = 0
+entry_store query_substitutable_path_info o = 0
+entry_store query_substitutable_path_infos o = 0
+entry_store raw_bytes o = o.raw
 
 -- what the entry, or the preamble, adds to the items and to the store
 unfoldable pub items_of : What → Open → ℕ

@@ -5,7 +5,7 @@ use Rattle.text.specs.Base.{BLANK}
 use Rattle.text.specs.declared.parts.Span.{Span}
 use Rattle.wire.specs.declared.ops.Op.{Op}
 use Rattle.script.specs.Pieces.{place_of, place, is, cut_or}
-use Rattle.script.specs.Operations.{Shape, singlePath, singleString, path_set, pathSetFlag, pathSetMode, no_args, setOptions, collect_garbage, verifyStore, addPermRoot, addSignatures, addTextToStore, addToStore, addMultipleToStore, addBuildLog, registerDrvOutput, queryRealisation, querySubstitutablePathInfo, querySubstitutablePathInfos, rawBytes, form_of}
+use Rattle.script.specs.Operations.{Shape, single_path, single_string, path_set, path_set_flag, path_set_mode, no_args, set_options, collect_garbage, verify_store, add_perm_root, add_signatures, add_text_to_store, add_to_store, add_multiple_to_store, add_build_log, register_drv_output, query_realisation, query_substitutable_path_info, query_substitutable_path_infos, raw_bytes, form_of}
 use Rattle.script.specs.Contents.{rest_of}
 use Rattle.script.specs.Layout.{range}
 use Rattle.script.specs.declared.records.Items.{Items}
@@ -22,49 +22,49 @@ use Rattle.records.specs.Records.{framed_sized, options_record, garbage_record, 
 module _ (text : List ℕ) where
   -- with no path set on its line; a shape of another kind counts as one path
   unfoldable pub text_record : Shape → Op → (args : Span) → OpCall
-  text_record singlePath op args = OpCall.SinglePath op (place args)
-  text_record singleString op args = OpCall.SingleString op (place args)
+  text_record single_path op args = OpCall.SinglePath op (place args)
+  text_record single_string op args = OpCall.SingleString op (place args)
   text_record path_set op args = OpCall.SinglePath op (place args)
-  text_record pathSetFlag op args = OpCall.SinglePath op (place args)
-  text_record pathSetMode op args = OpCall.SinglePath op (place args)
+  text_record path_set_flag op args = OpCall.SinglePath op (place args)
+  text_record path_set_mode op args = OpCall.SinglePath op (place args)
   text_record no_args op args = OpCall.NoArgs op
-  text_record setOptions op args = OpCall.SinglePath op (place args)
+  text_record set_options op args = OpCall.SinglePath op (place args)
   text_record collect_garbage op args = OpCall.SinglePath op (place args)
-  text_record verifyStore op args = OpCall.SinglePath op (place args)
-  text_record addPermRoot op args = root_record text args
-  text_record addSignatures op args = OpCall.SinglePath op (place args)
-  text_record addTextToStore op args = OpCall.SinglePath op (place args)
-  text_record addToStore op args = OpCall.SinglePath op (place args)
-  text_record addMultipleToStore op args = OpCall.SinglePath op (place args)
-  text_record addBuildLog op args = OpCall.SinglePath op (place args)
-  text_record registerDrvOutput op args = OpCall.RegisterDrvOutput (place args)
-  text_record queryRealisation op args = OpCall.QueryRealisation (place args)
-  text_record querySubstitutablePathInfo op args = OpCall.QuerySubstitutablePathInfo (place args)
-  text_record querySubstitutablePathInfos op args = OpCall.SinglePath op (place args)
-  text_record rawBytes op args = OpCall.SinglePath op (place args)
+  text_record verify_store op args = OpCall.SinglePath op (place args)
+  text_record add_perm_root op args = root_record text args
+  text_record add_signatures op args = OpCall.SinglePath op (place args)
+  text_record add_text_to_store op args = OpCall.SinglePath op (place args)
+  text_record add_to_store op args = OpCall.SinglePath op (place args)
+  text_record add_multiple_to_store op args = OpCall.SinglePath op (place args)
+  text_record add_build_log op args = OpCall.SinglePath op (place args)
+  text_record register_drv_output op args = OpCall.RegisterDrvOutput (place args)
+  text_record query_realisation op args = OpCall.QueryRealisation (place args)
+  text_record query_substitutable_path_info op args = OpCall.QuerySubstitutablePathInfo (place args)
+  text_record query_substitutable_path_infos op args = OpCall.SinglePath op (place args)
+  text_record raw_bytes op args = OpCall.SinglePath op (place args)
 
   -- with a path set behind its name; a shape of another kind counts as a set alone
   unfoldable pub set_record : Shape → Op → (args : Span) → (paths : Items) → OpCall
-  set_record singlePath op args paths = OpCall.PathSet op paths
-  set_record singleString op args paths = OpCall.PathSet op paths
+  set_record single_path op args paths = OpCall.PathSet op paths
+  set_record single_string op args paths = OpCall.PathSet op paths
   set_record path_set op args paths = OpCall.PathSet op paths
-  set_record pathSetFlag op args paths = OpCall.PathSetFlag op paths (is text "substitute" (rest_of text args))
-  set_record pathSetMode op args paths = OpCall.PathSetMode op paths (place (rest_of text args))
+  set_record path_set_flag op args paths = OpCall.PathSetFlag op paths (is text "substitute" (rest_of text args))
+  set_record path_set_mode op args paths = OpCall.PathSetMode op paths (place (rest_of text args))
   set_record no_args op args paths = OpCall.PathSet op paths
-  set_record setOptions op args paths = OpCall.PathSet op paths
+  set_record set_options op args paths = OpCall.PathSet op paths
   set_record collect_garbage op args paths = OpCall.PathSet op paths
-  set_record verifyStore op args paths = OpCall.PathSet op paths
-  set_record addPermRoot op args paths = OpCall.PathSet op paths
-  set_record addSignatures op args paths = OpCall.PathSet op paths
-  set_record addTextToStore op args paths = OpCall.PathSet op paths
-  set_record addToStore op args paths = OpCall.PathSet op paths
-  set_record addMultipleToStore op args paths = OpCall.PathSet op paths
-  set_record addBuildLog op args paths = OpCall.PathSet op paths
-  set_record registerDrvOutput op args paths = OpCall.PathSet op paths
-  set_record queryRealisation op args paths = OpCall.PathSet op paths
-  set_record querySubstitutablePathInfo op args paths = OpCall.PathSet op paths
-  set_record querySubstitutablePathInfos op args paths = OpCall.QuerySubstitutablePathInfos paths
-  set_record rawBytes op args paths = OpCall.PathSet op paths
+  set_record verify_store op args paths = OpCall.PathSet op paths
+  set_record add_perm_root op args paths = OpCall.PathSet op paths
+  set_record add_signatures op args paths = OpCall.PathSet op paths
+  set_record add_text_to_store op args paths = OpCall.PathSet op paths
+  set_record add_to_store op args paths = OpCall.PathSet op paths
+  set_record add_multiple_to_store op args paths = OpCall.PathSet op paths
+  set_record add_build_log op args paths = OpCall.PathSet op paths
+  set_record register_drv_output op args paths = OpCall.PathSet op paths
+  set_record query_realisation op args paths = OpCall.PathSet op paths
+  set_record query_substitutable_path_info op args paths = OpCall.PathSet op paths
+  set_record query_substitutable_path_infos op args paths = OpCall.QuerySubstitutablePathInfos paths
+  set_record raw_bytes op args paths = OpCall.PathSet op paths
 
   -- by where the path set stands, which has n items
   unfoldable pub line_record : SetPlace → Op → (args : Span) → (i n : ℕ) → OpCall

@@ -2,7 +2,7 @@
 use Rattle.std.specs.Prelude.{ℕ, List}
 use Rattle.text.specs.declared.parts.Span.{Span}
 use Rattle.script.specs.Answers.{Answer, given, refused}
-use Rattle.script.specs.Operations.{Syntax, ignored, oneText, oneSet, pathThenSet, pathThenText}
+use Rattle.script.specs.Operations.{Syntax, ignored, one_text, one_set, path_then_set, path_then_text}
 use Rattle.script.specs.Pieces.{Cut, cut_into}
 use Rattle.script.specs.Timestamps.{Stamped, stamped_as}
 use Rattle.script.specs.Roles.{step, opening_role, after_opening}
@@ -29,10 +29,10 @@ halves h = cut_into h.before h.after
 -- where the operations of a syntax have their path set
 unfoldable pub set_place : Syntax → SetPlace
 set_place ignored = NoSet
-set_place oneText = NoSet
-set_place oneSet = AllOf
-set_place pathThenSet = BehindBlank
-set_place pathThenText = NoSet
+set_place one_text = NoSet
+set_place one_set = AllOf
+set_place path_then_set = BehindBlank
+set_place path_then_text = NoSet
 
 -- a line that opens an entry, and where the next one stands
 unfoldable pub opening_step : (text : List ℕ) → Span → Step

@@ -1,7 +1,7 @@
 -- The four ordering matchers as the code tells them apart. Assumes nothing.
 use Rattle.std.specs.Prelude.{ℕ, Bool, eqb, ℤ}
 use Rattle.std.specs.Int.Signed.{lt_z, le_z}
-use Rattle.text.specs.Base.{if◌then◌else◌}
+use Rattle.std.specs.Prelude.{if◌then◌else◌}
 use Rattle.verdicts.specs.Expected as expected
 use Rattle.verdicts.specs.Expected.{Matching}
 use Rattle.orders.specs.declared.Order.{Order}
@@ -9,10 +9,10 @@ use Rattle.orders.specs.declared.Order.TheVariants.{GreaterThan, LessThan, Great
 
 -- the matcher with this order and the number n
 unfoldable pub matching : Order → ℤ → Matching
-matching GreaterThan n = expected.greaterThan n
-matching LessThan n = expected.lessThan n
-matching GreaterOrEqual n = expected.greaterOrEqual n
-matching LessOrEqual n = expected.lessOrEqual n
+matching GreaterThan n = expected.greater_than n
+matching LessThan n = expected.less_than n
+matching GreaterOrEqual n = expected.greater_or_equal n
+matching LessOrEqual n = expected.less_or_equal n
 
 -- whether the value v passes it
 unfoldable pub holding : Order → (n v : ℤ) → Bool

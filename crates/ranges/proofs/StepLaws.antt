@@ -8,7 +8,8 @@ use native.Mathlib.Omega.{arith}
 use lib.ListN.{length, get_or}
 use lib.Dec.{ltb, leb, eqb}
 use borrow.Author.Tests.{eq-eqb, ne_eqb, eqb-true, eqb-false, ltb-false, leb-true, not-false}
-use Rattle.text.specs.Base.{if◌then◌else◌, ◌&◌, ◌or◌}
+use Rattle.std.specs.Prelude.{if◌then◌else◌}
+use Rattle.text.specs.Base.{◌&◌, ◌or◌}
 use Rattle.text.proofs.Scan.{both}
 use Rattle.script.specs.Reading.{refusal, room}
 use Rattle.script.specs.declared.records.Items.{Items}

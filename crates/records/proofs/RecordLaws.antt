@@ -6,7 +6,7 @@ use mathlib.Core.Option.{Option, none, some}
 use lib.ListN.{length}
 use Rattle.text.specs.declared.parts.Span.{Span}
 use Rattle.wire.specs.declared.ops.Op.{Op}
-use Rattle.script.specs.Operations.{Shape, singlePath, singleString, path_set, pathSetFlag, pathSetMode, no_args, setOptions, collect_garbage, verifyStore, addPermRoot, addSignatures, addTextToStore, addToStore, addMultipleToStore, addBuildLog, registerDrvOutput, queryRealisation, querySubstitutablePathInfo, querySubstitutablePathInfos, rawBytes}
+use Rattle.script.specs.Operations.{Shape, single_path, single_string, path_set, path_set_flag, path_set_mode, no_args, set_options, collect_garbage, verify_store, add_perm_root, add_signatures, add_text_to_store, add_to_store, add_multiple_to_store, add_build_log, register_drv_output, query_realisation, query_substitutable_path_info, query_substitutable_path_infos, raw_bytes}
 use Rattle.script.specs.Values.{plain_rules, Framed, inline, file_ref}
 use Rattle.script.specs.Roles.{Marked}
 use Rattle.script.specs.Contents.{sayings, value_of, features_in, or_none, call_of, preamble_of}
@@ -27,26 +27,26 @@ module _ (text : List ℕ) (op : Op) (args : Span) (i b : ℕ) (ss : List Saying
   pub record_is : (sh : Shape)
       → record_of text sh op args (λ k. value_of k ss) i b (sizes_of (call_of plain_rules text sh op args ss)) ≡ (laid i b (call_of plain_rules text sh op args ss)).call
   unfolding record_of options_record garbage_record verify_record store_record multiple_record root_record texts_record framed_sized sizes_of call_of laid listed
-  record_is singlePath = refl
-  record_is singleString = refl
+  record_is single_path = refl
+  record_is single_string = refl
   record_is path_set = refl
-  record_is pathSetFlag = refl
-  record_is pathSetMode = refl
+  record_is path_set_flag = refl
+  record_is path_set_mode = refl
   record_is no_args = refl
-  record_is setOptions = refl
+  record_is set_options = refl
   record_is collect_garbage = refl
-  record_is verifyStore = refl
-  record_is addPermRoot = refl
-  record_is addSignatures = refl
-  record_is addTextToStore = refl
-  record_is addToStore = rw sized_is
-  record_is addMultipleToStore = rw sized_is
-  record_is addBuildLog = rw sized_is
-  record_is registerDrvOutput = refl
-  record_is queryRealisation = refl
-  record_is querySubstitutablePathInfo = refl
-  record_is querySubstitutablePathInfos = refl
-  record_is rawBytes = refl
+  record_is verify_store = refl
+  record_is add_perm_root = refl
+  record_is add_signatures = refl
+  record_is add_text_to_store = refl
+  record_is add_to_store = rw sized_is
+  record_is add_multiple_to_store = rw sized_is
+  record_is add_build_log = rw sized_is
+  record_is register_drv_output = refl
+  record_is query_realisation = refl
+  record_is query_substitutable_path_info = refl
+  record_is query_substitutable_path_infos = refl
+  record_is raw_bytes = refl
 
 -- it depends on nothing but the value of each key
 pub record_same : (text : List ℕ) (sh : Shape) (op : Op) (args : Span) (f g : Key → Option Span) (i b : ℕ) (z : Sizes) → ((k : Key) → f k ≡ g k)

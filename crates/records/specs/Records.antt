@@ -6,7 +6,7 @@ use Rattle.text.specs.Base.{BLANK}
 use Rattle.text.specs.declared.parts.Span.{Span}
 use Rattle.wire.specs.declared.ops.Op.{Op}
 use Rattle.script.specs.Pieces.{place_of, place, is, cut_or}
-use Rattle.script.specs.Operations.{Shape, singlePath, singleString, path_set, pathSetFlag, pathSetMode, no_args, setOptions, collect_garbage, verifyStore, addPermRoot, addSignatures, addTextToStore, addToStore, addMultipleToStore, addBuildLog, registerDrvOutput, queryRealisation, querySubstitutablePathInfo, querySubstitutablePathInfos, rawBytes}
+use Rattle.script.specs.Operations.{Shape, single_path, single_string, path_set, path_set_flag, path_set_mode, no_args, set_options, collect_garbage, verify_store, add_perm_root, add_signatures, add_text_to_store, add_to_store, add_multiple_to_store, add_build_log, register_drv_output, query_realisation, query_substitutable_path_info, query_substitutable_path_infos, raw_bytes}
 use Rattle.script.specs.Values.{plain_rules, Framed, inline, file_ref}
 use Rattle.script.specs.Contents.{number_of, flag_of, rest_of, version_in, data_of, Call, SinglePath, SingleString, PathSet, PathSetFlag, PathSetMode, NoArgs, SetOptions, CollectGarbage, VerifyStore, AddPermRoot, AddSignatures, AddTextToStore, AddToStore, AddMultipleToStore, AddBuildLog, RegisterDrvOutput, QueryRealisation, QuerySubstitutablePathInfo, QuerySubstitutablePathInfos, RawBytes}
 use Rattle.script.specs.Layout.{range, stored_of, maybe}
@@ -99,26 +99,26 @@ texts_record i b z = OpCall.AddTextToStore (place_of b z.first) (place_of (b + z
 -- Behind i items and b bytes of the store: `args` is what stands behind the operation's name.
 module _ (text : List ℕ) where
   unfoldable pub record_of : Shape → Op → (args : Span) → (value : Key → Option Span) → (i b : ℕ) → Sizes → OpCall
-  record_of singlePath op args value i b z = OpCall.SinglePath op (place args)
-  record_of singleString op args value i b z = OpCall.SingleString op (place args)
+  record_of single_path op args value i b z = OpCall.SinglePath op (place args)
+  record_of single_string op args value i b z = OpCall.SingleString op (place args)
   record_of path_set op args value i b z = OpCall.PathSet op (range i z.items)
-  record_of pathSetFlag op args value i b z = OpCall.PathSetFlag op (range i z.items) (is text "substitute" (rest_of text args))
-  record_of pathSetMode op args value i b z = OpCall.PathSetMode op (range i z.items) (place (rest_of text args))
+  record_of path_set_flag op args value i b z = OpCall.PathSetFlag op (range i z.items) (is text "substitute" (rest_of text args))
+  record_of path_set_mode op args value i b z = OpCall.PathSetMode op (range i z.items) (place (rest_of text args))
   record_of no_args op args value i b z = OpCall.NoArgs op
-  record_of setOptions op args value i b z = OpCall.SetOptions (options_record text value (range i z.items))
+  record_of set_options op args value i b z = OpCall.SetOptions (options_record text value (range i z.items))
   record_of collect_garbage op args value i b z = garbage_record text value (range i z.items)
-  record_of verifyStore op args value i b z = verify_record text value
-  record_of addPermRoot op args value i b z = root_record text args
-  record_of addSignatures op args value i b z = OpCall.AddSignatures (place (cut_or text BLANK args).before) (range i z.items)
-  record_of addTextToStore op args value i b z = texts_record i b z
-  record_of addToStore op args value i b z = store_record text value i b z
-  record_of addMultipleToStore op args value i b z = multiple_record text value b z.first
-  record_of addBuildLog op args value i b z = OpCall.AddBuildLog (place args) (framed_sized text (value Key.Data) b z.first)
-  record_of registerDrvOutput op args value i b z = OpCall.RegisterDrvOutput (place args)
-  record_of queryRealisation op args value i b z = OpCall.QueryRealisation (place args)
-  record_of querySubstitutablePathInfo op args value i b z = OpCall.QuerySubstitutablePathInfo (place args)
-  record_of querySubstitutablePathInfos op args value i b z = OpCall.QuerySubstitutablePathInfos (range i z.items)
-  record_of rawBytes op args value i b z = OpCall.RawBytes op (place_of b z.first)
+  record_of verify_store op args value i b z = verify_record text value
+  record_of add_perm_root op args value i b z = root_record text args
+  record_of add_signatures op args value i b z = OpCall.AddSignatures (place (cut_or text BLANK args).before) (range i z.items)
+  record_of add_text_to_store op args value i b z = texts_record i b z
+  record_of add_to_store op args value i b z = store_record text value i b z
+  record_of add_multiple_to_store op args value i b z = multiple_record text value b z.first
+  record_of add_build_log op args value i b z = OpCall.AddBuildLog (place args) (framed_sized text (value Key.Data) b z.first)
+  record_of register_drv_output op args value i b z = OpCall.RegisterDrvOutput (place args)
+  record_of query_realisation op args value i b z = OpCall.QueryRealisation (place args)
+  record_of query_substitutable_path_info op args value i b z = OpCall.QuerySubstitutablePathInfo (place args)
+  record_of query_substitutable_path_infos op args value i b z = OpCall.QuerySubstitutablePathInfos (range i z.items)
+  record_of raw_bytes op args value i b z = OpCall.RawBytes op (place_of b z.first)
 
 -- ---- the record of the preamble
 

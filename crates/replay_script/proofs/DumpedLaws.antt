@@ -12,9 +12,7 @@ use Rattle.text.proofs.WordLaws.{words_at}
 use Rattle.script.specs.declared.records.Counts.{Counts}
 use Rattle.dump.specs.Dump.{read_dump}
 use Rattle.fields.specs.declared.numbers.NumbersAt.{NumbersAt}
-use Rattle.fields.specs.declared.numbers.NumbersAt.TheVariants as NumbersAt
 use Rattle.fields.specs.declared.bytes.BytesAt.{BytesAt}
-use Rattle.fields.specs.declared.bytes.BytesAt.TheVariants as BytesAt
 use Rattle.fields.specs.Fields.{after, numbers_at, bytes_at, numbers_field, bytes_field}
 use Rattle.replayed.specs.Dumps.{is_dump}
 use Rattle.replay_script.specs.Dumped.{lent_by, leaves, store_agreed, text_agreed, agreed}

@@ -11,7 +11,8 @@ use mir.Syntax.{w64}
 use mir.Val.{SFits, to_z, of_z}
 use mir.ValLaws.{to_z-of_z}
 use borrow.Author.Tests.{le-leb, ltb-false}
-use Rattle.text.specs.Base.{if◌then◌else◌, part}
+use Rattle.std.specs.Prelude.{if◌then◌else◌}
+use Rattle.text.specs.Base.{part}
 use Rattle.script.specs.declared.records.Expect.{Expect}
 use Rattle.script.specs.declared.response.DaemonResponse.{DaemonResponse}
 use Rattle.script.specs.declared.response.HandshakeInfo.{HandshakeInfo}
@@ -29,11 +30,8 @@ use Rattle.told.specs.Told.{counted, framed_as, told_of, unless_refused}
 use Rattle.told.specs.declared.Told.{Told}
 use Rattle.told.specs.declared.Told.TheVariants.{Refused, Says}
 use Rattle.fields.specs.declared.numbers.NumbersAt.{NumbersAt}
-use Rattle.fields.specs.declared.numbers.NumbersAt.TheVariants as NumbersAt
 use Rattle.fields.specs.declared.numbers.IntegerAt.{IntegerAt}
-use Rattle.fields.specs.declared.numbers.IntegerAt.TheVariants as IntegerAt
 use Rattle.fields.specs.declared.bytes.BytesAt.{BytesAt}
-use Rattle.fields.specs.declared.bytes.BytesAt.TheVariants as BytesAt
 use Rattle.fields.specs.Fields.{after, numbers_at, integer_at, bytes_at, numbers_field, integer_field, bytes_field}
 use Rattle.replayed.specs.Told.{of_handshake, table_of, says_so, written_as}
 use Rattle.replay_script.specs.Judged.{says_of, entry_says, handshake_says, says, message_agreed, bytes_agreed, text_agreed, matcher_agreed, agreed}

@@ -2,7 +2,7 @@
 -- bytes; and the text in hex. Assumes nothing.
 use Rattle.std.specs.Prelude.{ℕ, List, eqb, get_or, drop}
 use Rattle.std.proofs.Math.Option.{Option, none, some}
-use Rattle.text.specs.Base.{if◌then◌else◌}
+use Rattle.std.specs.Prelude.{if◌then◌else◌}
 use Rattle.text.specs.Trim.{trimmed}
 use Rattle.script.specs.Reading.{Parsed, measured}
 use Rattle.script.specs.declared.records.Counts.{Counts}

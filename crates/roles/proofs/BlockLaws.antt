@@ -4,13 +4,13 @@ use mathlib.Core.Path.{◌≡◌, refl, sym, ap, ◌∙◌}
 use mathlib.Core.Bool.{Bool, true, false}
 use mathlib.Core.List.{List}
 use mathlib.Core.Option.{Option, none, some}
-use Rattle.text.specs.Base.{if◌then◌else◌}
+use Rattle.std.specs.Prelude.{if◌then◌else◌}
 use Rattle.text.specs.Parts.{starts_with}
 use Rattle.text.specs.declared.parts.Span.{Span}
 use Rattle.text.proofs.LiteralLaws.{codes}
 use Rattle.script.specs.Answers.{first_of}
 use Rattle.script.specs.Pieces.{bytes}
-use Rattle.script.specs.Operations.{Kind, a_number, aFlag, aQuoted, aSet, someData, aList, aHex, aVersion, aFeatureSet, aText, key_row}
+use Rattle.script.specs.Operations.{Kind, a_number, a_flag, a_quoted, a_set, some_data, a_list, a_hex, a_version, a_feature_set, a_text, key_row}
 use Rattle.script.specs.Values.{plain_rules, framed, inline_of}
 use Rattle.script.specs.Roles.{step, opens_list, after_key, after_saying, not_closed, refusal_in, refusal_of_kind, refusal_of, saying_in, argument_step}
 use Rattle.script.specs.declared.roles.Key.{Key}
@@ -58,15 +58,15 @@ module _ (text : List ℕ) (v : Span) (w : ValueKind) where
   by_kind : (k : Kind) → refuses (kind_of k) ≡ refusal_of_kind plain_rules text k v
   unfolding refuses kind_of refusal_of_kind refusal_in
   by_kind a_number = refl
-  by_kind aFlag = refl
-  by_kind aQuoted = refl
-  by_kind aSet = refl
-  by_kind someData = refl
-  by_kind aList = refl
-  by_kind aHex = refl
-  by_kind aVersion = refl
-  by_kind aFeatureSet = refl
-  by_kind aText = refl
+  by_kind a_flag = refl
+  by_kind a_quoted = refl
+  by_kind a_set = refl
+  by_kind some_data = refl
+  by_kind a_list = refl
+  by_kind a_hex = refl
+  by_kind a_version = refl
+  by_kind a_feature_set = refl
+  by_kind a_text = refl
 
   module _ (k : Kind) (e : w ≡ kind_of k) where
     pub set_open : (r : Bool) → w ≡ Set → r ≡ not_closed text v → r ≡ true → refused_of (By 10) ≡ refusal_of_kind plain_rules text k v
@@ -102,15 +102,15 @@ opens Other = false
 opens_by_kind : (k : Kind) → opens (kind_of k) ≡ opens_list k
 unfolding opens kind_of
 opens_by_kind a_number = refl
-opens_by_kind aFlag = refl
-opens_by_kind aQuoted = refl
-opens_by_kind aSet = refl
-opens_by_kind someData = refl
-opens_by_kind aList = refl
-opens_by_kind aHex = refl
-opens_by_kind aVersion = refl
-opens_by_kind aFeatureSet = refl
-opens_by_kind aText = refl
+opens_by_kind a_flag = refl
+opens_by_kind a_quoted = refl
+opens_by_kind a_set = refl
+opens_by_kind some_data = refl
+opens_by_kind a_list = refl
+opens_by_kind a_hex = refl
+opens_by_kind a_version = refl
+opens_by_kind a_feature_set = refl
+opens_by_kind a_text = refl
 
 module _ (w : ValueKind) (k : Kind) (e : w ≡ kind_of k) where
   pub list-opens : w ≡ Overrides → true ≡ opens_list k
@@ -146,12 +146,12 @@ known_after takes s k v next e q = q ∙ ap (after_saying takes) (sym e)
 
 -- ---- an argument line
 
-module _ (text : List ℕ) (takes : Takes) (listOpen : Bool) (t : Span) (s : Saying) (e : s ≡ saying_in text takes listOpen t) (next : Where) (a : next ≡ after_saying takes s) (f : Refused) (q : refused_of f ≡ refusal_of plain_rules text s) where
-  pub line-says : f ≡ No → step (Says s) next ≡ argument_step plain_rules text takes listOpen t
+module _ (text : List ℕ) (takes : Takes) (list_open : Bool) (t : Span) (s : Saying) (e : s ≡ saying_in text takes list_open t) (next : Where) (a : next ≡ after_saying takes s) (f : Refused) (q : refused_of f ≡ refusal_of plain_rules text s) where
+  pub line-says : f ≡ No → step (Says s) next ≡ argument_step plain_rules text takes list_open t
   unfolding argument_step refused_of
   line-says h = simp (← e, a, ← q, h)
 
-  pub line_refused : (n : ℕ) → f ≡ By n → step (Bad n) next ≡ argument_step plain_rules text takes listOpen t
+  pub line_refused : (n : ℕ) → f ≡ By n → step (Bad n) next ≡ argument_step plain_rules text takes list_open t
   unfolding argument_step refused_of
   line_refused n h = simp (← e, a, ← q, h)
 

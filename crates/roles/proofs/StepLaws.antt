@@ -6,7 +6,8 @@ use mathlib.Core.List.{List, []}
 use native.Mathlib.Omega.{arith}
 use lib.ListN.{length}
 use borrow.Author.Tests.{eq-eqb, ne_eqb}
-use Rattle.text.specs.Base.{if◌then◌else◌, ◌&◌, ◌or◌, part}
+use Rattle.std.specs.Prelude.{if◌then◌else◌}
+use Rattle.text.specs.Base.{◌&◌, ◌or◌, part}
 use Rattle.text.specs.Lines.{indented}
 use Rattle.text.specs.Parts.{span, starts_with}
 use Rattle.text.specs.declared.lines.Line.{Line}
@@ -70,7 +71,7 @@ module _ (text : List ℕ) (t : Span) where
   unfolding front_of entry_step
   entry_by = by_front (is_empty t) (begins text "#" t) (begins text "expect" t) (outside_step text t)
 
-  module _ (takes : Takes) (listOpen : Bool) where
+  module _ (takes : Takes) (list_open : Bool) where
     -- a line that is no argument line is one of those that the entry has below them
     no_argument : (a b c : Bool) (other line : Step) → (if true & not (a or b or c) then line else if true & (a or b) then step Nothing InEntry else if true & c then step (expect_role text t) InEntry else other) ≡ fronted line (if a or b then Skipped else if c then Expect else Other)
     unfolding fronted
@@ -79,9 +80,9 @@ module _ (text : List ℕ) (t : Span) where
     no_argument false false true other line = refl
     no_argument false false false other line = refl
 
-    block_by : block_step plain_rules text takes listOpen true t ≡ fronted (argument_step plain_rules text takes listOpen t) (front_of text t)
+    block_by : block_step plain_rules text takes list_open true t ≡ fronted (argument_step plain_rules text takes list_open t) (front_of text t)
     unfolding front_of entry_step block_step argument_line
-    block_by = no_argument (is_empty t) (begins text "#" t) (begins text "expect" t) (outside_step text t) (argument_step plain_rules text takes listOpen t)
+    block_by = no_argument (is_empty t) (begins text "#" t) (begins text "expect" t) (outside_step text t) (argument_step plain_rules text takes list_open t)
 
   -- an indented line, by how it begins
   module _ (whole other : Step) (by : whole ≡ fronted other (front_of text t)) (f : Front) (e : f ≡ front_of text t) where
@@ -112,20 +113,20 @@ module _ (text : List ℕ) (t : Span) where
       pub entry_other : (s : Step) → f ≡ Other → s ≡ outside_step text t → s ≡ entry_step text inward t
       entry_other s h q = rw y (with_other (entry_step text true t) (outside_step text t) entry_by f e s h q)
 
-    module _ (takes : Takes) (listOpen : Bool) where
-      pub block_outside : (s : Step) → inward ≡ false → s ≡ outside_step text t → s ≡ block_step plain_rules text takes listOpen inward t
+    module _ (takes : Takes) (list_open : Bool) where
+      pub block_outside : (s : Step) → inward ≡ false → s ≡ outside_step text t → s ≡ block_step plain_rules text takes list_open inward t
       unfolding block_step argument_line entry_step
       block_outside s n q = q ∙ rw n
 
       module _ (y : inward ≡ true) (f : Front) (e : f ≡ front_of text t) where
-        pub block_skipped : f ≡ Skipped → step Nothing InEntry ≡ block_step plain_rules text takes listOpen inward t
-        block_skipped h = rw y (with_skipped (block_step plain_rules text takes listOpen true t) (argument_step plain_rules text takes listOpen t) (block_by takes listOpen) f e h)
+        pub block_skipped : f ≡ Skipped → step Nothing InEntry ≡ block_step plain_rules text takes list_open inward t
+        block_skipped h = rw y (with_skipped (block_step plain_rules text takes list_open true t) (argument_step plain_rules text takes list_open t) (block_by takes list_open) f e h)
 
-        pub block_expect : (r : Role) → f ≡ Expect → r ≡ expect_role text t → step r InEntry ≡ block_step plain_rules text takes listOpen inward t
-        block_expect r h q = rw y (with_expect (block_step plain_rules text takes listOpen true t) (argument_step plain_rules text takes listOpen t) (block_by takes listOpen) f e r h q)
+        pub block_expect : (r : Role) → f ≡ Expect → r ≡ expect_role text t → step r InEntry ≡ block_step plain_rules text takes list_open inward t
+        block_expect r h q = rw y (with_expect (block_step plain_rules text takes list_open true t) (argument_step plain_rules text takes list_open t) (block_by takes list_open) f e r h q)
 
-        pub block_other : (s : Step) → f ≡ Other → s ≡ argument_step plain_rules text takes listOpen t → s ≡ block_step plain_rules text takes listOpen inward t
-        block_other s h q = rw y (with_other (block_step plain_rules text takes listOpen true t) (argument_step plain_rules text takes listOpen t) (block_by takes listOpen) f e s h q)
+        pub block_other : (s : Step) → f ≡ Other → s ≡ argument_step plain_rules text takes list_open t → s ≡ block_step plain_rules text takes list_open inward t
+        block_other s h q = rw y (with_other (block_step plain_rules text takes list_open true t) (argument_step plain_rules text takes list_open t) (block_by takes list_open) f e s h q)
 
   -- ---- the sorts of lines
 
@@ -169,7 +170,7 @@ module _ (text : List ℕ) where
   unfolding step_at preamble_step preamble_role outside_step skipped entry_step block_step argument_line is_empty is spells below_empty
   nothing_at InPreamble t h = rw (no_bytes t h, eq-eqb _ _ h)
   nothing_at Outside t h = rw (eq-eqb _ _ h)
-  nothing_at (InBlock takes listOpen) t h = rw (eq-eqb _ _ h)
+  nothing_at (InBlock takes list_open) t h = rw (eq-eqb _ _ h)
   nothing_at InEntry t h = rw (eq-eqb _ _ h)
 
   trim_nothing : (p : Span) → p.start ≡ p.end → (trim text p).start ≡ (trim text p).end

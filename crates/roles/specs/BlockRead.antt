@@ -1,7 +1,7 @@
 -- What the code's answers about argument lines and their refusals say. Assumes nothing.
 use Rattle.std.specs.Prelude.{ℕ}
 use Rattle.std.proofs.Math.Option.{Option, none, some}
-use Rattle.script.specs.Operations.{Kind, a_number, aFlag, aQuoted, aSet, someData, aList, aHex, aVersion, aFeatureSet, aText}
+use Rattle.script.specs.Operations.{Kind, a_number, a_flag, a_quoted, a_set, some_data, a_list, a_hex, a_version, a_feature_set, a_text}
 use Rattle.roles.specs.declared.blocks.ValueKind.{ValueKind}
 use Rattle.roles.specs.declared.blocks.ValueKind.TheVariants.{Set, Data, Overrides, Other}
 use Rattle.roles.specs.declared.blocks.Refused.{Refused}
@@ -13,12 +13,12 @@ refused_of (By n) = some n
 
 unfoldable pub kind_of : Kind → ValueKind
 kind_of a_number = Other
-kind_of aFlag = Other
-kind_of aQuoted = Other
-kind_of aSet = Set
-kind_of someData = Data
-kind_of aList = Overrides
-kind_of aHex = Other
-kind_of aVersion = Other
-kind_of aFeatureSet = Other
-kind_of aText = Other
+kind_of a_flag = Other
+kind_of a_quoted = Other
+kind_of a_set = Set
+kind_of some_data = Data
+kind_of a_list = Overrides
+kind_of a_hex = Other
+kind_of a_version = Other
+kind_of a_feature_set = Other
+kind_of a_text = Other

@@ -1,6 +1,7 @@
 -- How an indented line begins, the sorts of lines, and where the line below an empty one stands. Assumes nothing.
 use Rattle.std.specs.Prelude.{ℕ, List}
-use Rattle.text.specs.Base.{if◌then◌else◌, ◌or◌}
+use Rattle.std.specs.Prelude.{if◌then◌else◌}
+use Rattle.text.specs.Base.{◌or◌}
 use Rattle.text.specs.declared.parts.Span.{Span}
 use Rattle.script.specs.Pieces.{is_empty, begins}
 use Rattle.script.specs.Values.{plain_rules}
@@ -24,12 +25,12 @@ sorted_step text sort.Preamble t = preamble_step text t
 sorted_step text sort.Skipped t = step Nothing Outside
 sorted_step text sort.Passed t = step Nothing InEntry
 sorted_step text sort.Expect t = step (expect_role text t) InEntry
-sorted_step text (sort.Argument takes listOpen) t = argument_step plain_rules text takes listOpen t
+sorted_step text (sort.Argument takes list_open) t = argument_step plain_rules text takes list_open t
 sorted_step text sort.Opening t = opening_step text t
 
 -- an empty line ends an entry, and its argument lines
 unfoldable pub below_empty : Where → Where
 below_empty InPreamble = InPreamble
 below_empty Outside = Outside
-below_empty (InBlock takes listOpen) = Outside
+below_empty (InBlock takes list_open) = Outside
 below_empty InEntry = Outside

@@ -2,7 +2,7 @@
 -- ends before it starts. Assumes nothing.
 use Rattle.std.specs.Prelude.{ℕ, List, ltb, get_or}
 use Rattle.std.proofs.Math.Option.{Option, none, some}
-use Rattle.text.specs.Base.{if◌then◌else◌}
+use Rattle.std.specs.Prelude.{if◌then◌else◌}
 use Rattle.text.specs.Parts.{span}
 use Rattle.text.specs.declared.parts.Span.{Span}
 use Rattle.script.specs.Operations.{key_row}

@@ -9,7 +9,8 @@ use lib.Dec.{eqb}
 use lib.ListN.{length, get_or, take, drop, length-drop}
 use lib.Seq.{take_all}
 use borrow.Author.Tests.{ne_eqb, eqb-true, eqb-false}
-use Rattle.text.specs.Base.{if◌then◌else◌, ◌&◌}
+use Rattle.std.specs.Prelude.{if◌then◌else◌}
+use Rattle.text.specs.Base.{◌&◌}
 use Rattle.text.specs.Parts.{same_bytes}
 use Rattle.text.proofs.Scan.{rest_more}
 use Rattle.same_values.specs.Unless.{one_unless}

@@ -12,7 +12,8 @@ use native.Mathlib.Nat.{add-sub_cancel_left, sub_self}
 use lib.Dec.{eqb}
 use lib.ListN.{take, drop}
 use borrow.Author.Tests.{eqb-true}
-use Rattle.text.specs.Base.{if◌then◌else◌, ◌&◌, ◌or◌, BLANK}
+use Rattle.std.specs.Prelude.{if◌then◌else◌}
+use Rattle.text.specs.Base.{◌&◌, ◌or◌, BLANK}
 use Rattle.text.specs.Literal.{spells, begins_with}
 use Rattle.text.specs.Parts.{span, position_from, position}
 use Rattle.text.specs.declared.parts.Span.{Span}
@@ -49,7 +50,7 @@ use Rattle.script.specs.declared.roles.Step.{Step}
 abbrev pub standing : Where → Standing
 standing InPreamble = above
 standing Outside = below
-standing (InBlock takes listOpen) = taking takes
+standing (InBlock takes list_open) = taking takes
 standing InEntry = below
 
 -- what the plain judge sees in a line that the reading finds to be r
@@ -335,28 +336,28 @@ module _ (text : List ℕ) (l : Line) where
   says_is s none = refl
   says_is s (some n) = refl
 
-  after_is : (takes : Takes) (listOpen : Bool) → standing (after_saying takes (saying_in text takes listOpen t)) ≡ remaining text takes t
+  after_is : (takes : Takes) (list_open : Bool) → standing (after_saying takes (saying_in text takes list_open t)) ≡ remaining text takes t
   unfolding remaining saying_in
-  after_is NoLines listOpen = refl
-  after_is Options listOpen = after_keyword Options options (saying_in text Options listOpen t)
-  after_is Garbage listOpen = after_keyword Garbage garbage (saying_in text Garbage listOpen t)
-  after_is Verify listOpen = after_keyword Verify verify (saying_in text Verify listOpen t)
-  after_is Texts listOpen = after_keyword Texts texts (saying_in text Texts listOpen t)
-  after_is Store listOpen = after_keyword Store store (saying_in text Store listOpen t)
-  after_is Multiple listOpen = after_keyword Multiple multiple (saying_in text Multiple listOpen t)
-  after_is FirstData listOpen = after_first (saying_in text FirstData false t)
-  after_is FirstRaw listOpen = after-raw (saying_in text FirstRaw false t)
+  after_is NoLines list_open = refl
+  after_is Options list_open = after_keyword Options options (saying_in text Options list_open t)
+  after_is Garbage list_open = after_keyword Garbage garbage (saying_in text Garbage list_open t)
+  after_is Verify list_open = after_keyword Verify verify (saying_in text Verify list_open t)
+  after_is Texts list_open = after_keyword Texts texts (saying_in text Texts list_open t)
+  after_is Store list_open = after_keyword Store store (saying_in text Store list_open t)
+  after_is Multiple list_open = after_keyword Multiple multiple (saying_in text Multiple list_open t)
+  after_is FirstData list_open = after_first (saying_in text FirstData false t)
+  after_is FirstRaw list_open = after-raw (saying_in text FirstRaw false t)
 
-  block_tests : (rules : Rules) (takes : Takes) (listOpen a : Bool)
-      → is_bad (if a then argument_step rules text takes listOpen t else entry_step text (inward text l) t).role ≡ false
-      → Agree text l (if a then argument_step rules text takes listOpen t else entry_step text (inward text l) t)
+  block_tests : (rules : Rules) (takes : Takes) (list_open a : Bool)
+      → is_bad (if a then argument_step rules text takes list_open t else entry_step text (inward text l) t).role ≡ false
+      → Agree text l (if a then argument_step rules text takes list_open t else entry_step text (inward text l) t)
       (if a then plainly other (remaining text takes t) else plain_below text l)
   unfolding argument_step
-  block_tests rules takes listOpen true ok =
-      let s = saying_in text takes listOpen t in
+  block_tests rules takes list_open true ok =
+      let s = saying_in text takes list_open t in
       let q : plain_of l (says_or s (refusal_of rules text s)) ≡ other = says_is s (refusal_of rules text s) in
-      record { mark = q; next = after_is takes listOpen; same = quiet (says_or s (refusal_of rules text s)) q }
-  block_tests rules takes listOpen false ok = entry_agrees ok
+      record { mark = q; next = after_is takes list_open; same = quiet (says_or s (refusal_of rules text s)) q }
+  block_tests rules takes list_open false ok = entry_agrees ok
 
   -- ---- the preamble
 
@@ -420,5 +421,5 @@ module _ (text : List ℕ) (l : Line) where
   unfolding step_of step_at plain_step preamble_step block_step
   agree rules InPreamble ok = above_tests (is text "---" t) ok
   agree rules Outside ok = outside_agrees ok
-  agree rules (InBlock takes listOpen) ok = block_tests rules takes listOpen (argument_line text (inward text l) t) ok
+  agree rules (InBlock takes list_open) ok = block_tests rules takes list_open (argument_line text (inward text l) t) ok
   agree rules InEntry ok = entry_agrees ok

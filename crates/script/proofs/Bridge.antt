@@ -8,7 +8,8 @@ use native.Mathlib.Omega.{arith}
 use lib.ListN.{length}
 use lib.Dec.{eqb, ltb}
 use borrow.Author.Tests.{eq-eqb, ltb-false}
-use Rattle.text.specs.Base.{if◌then◌else◌, LF, CR}
+use Rattle.std.specs.Prelude.{if◌then◌else◌}
+use Rattle.text.specs.Base.{LF, CR}
 use Rattle.text.specs.Utf8.{well_formed}
 use Rattle.text.specs.Lines.{line, lines_from, lines}
 use Rattle.text.specs.declared.lines.Line.{Line}

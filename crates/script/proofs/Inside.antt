@@ -12,7 +12,8 @@ use lib.IntN.{ℤ}
 use lib.ListN.{length, length-drop, drop}
 use lib.Seq.{length-take-le}
 use borrow.Author.Tests.{ltb-true}
-use Rattle.text.specs.Base.{if◌then◌else◌, ◌&◌, ◌or◌, LF, CR}
+use Rattle.std.specs.Prelude.{if◌then◌else◌}
+use Rattle.text.specs.Base.{◌&◌, ◌or◌, LF, CR}
 use Rattle.text.specs.Literal.{begins_with, word_length}
 use Rattle.values.specs.Numbers.{signed}
 use Rattle.text.specs.Lines.{lines_from, lines}

@@ -8,7 +8,8 @@ use mathlib.Core.Option.{Option, none, some}
 use native.Mathlib.Omega.{arith}
 use lib.Dec.{eqb}
 use lib.ListN.{length}
-use Rattle.text.specs.Base.{if◌then◌else◌, ◌&◌, ◌or◌, BLANK, QUOTE}
+use Rattle.std.specs.Prelude.{if◌then◌else◌}
+use Rattle.text.specs.Base.{◌&◌, ◌or◌, BLANK, QUOTE}
 use Rattle.text.specs.Lines.{indented}
 use Rattle.text.specs.Parts.{span, starts_with, pair_position_from, pair_position}
 use Rattle.text.specs.declared.parts.Span.{Span}
@@ -248,25 +249,25 @@ module _ (text : List ℕ) where
       go none h = tt
       go (some hex) h = h
 
-  option_in : (listOpen : Bool) (t : Span) → In text t → SayingIn text (option_saying text listOpen t)
+  option_in : (list_open : Bool) (t : Span) → In text t → SayingIn text (option_saying text list_open t)
   unfolding option_saying SayingIn
-  option_in listOpen t i = by_cases (SayingIn text) (listOpen & begins text "\"" t) _ _ (go (pair_in text t) (pair_in_lem t i)) (key_in_lem (keys_of Options) t i)
+  option_in list_open t i = by_cases (SayingIn text) (list_open & begins text "\"" t) _ _ (go (pair_in text t) (pair_in_lem t i)) (key_in_lem (keys_of Options) t i)
     where
       go : (o : Option Saying) → Opt (SayingIn text) o → SayingIn text (elim o [ none ↦ NoPair | some p ↦ p ])
       go none h = tt
       go (some p) h = h
 
-  said_in : (takes : Takes) (listOpen : Bool) (t : Span) → In text t → SayingIn text (saying_in text takes listOpen t)
+  said_in : (takes : Takes) (list_open : Bool) (t : Span) → In text t → SayingIn text (saying_in text takes list_open t)
   unfolding saying_in SayingIn
-  said_in NoLines listOpen t i = tt
-  said_in Options listOpen t i = option_in listOpen t i
-  said_in Garbage listOpen t i = key_in_lem (keys_of Garbage) t i
-  said_in Verify listOpen t i = key_in_lem (keys_of Verify) t i
-  said_in Texts listOpen t i = key_in_lem (keys_of Texts) t i
-  said_in Store listOpen t i = key_in_lem (keys_of Store) t i
-  said_in Multiple listOpen t i = key_in_lem (keys_of Multiple) t i
-  said_in FirstData listOpen t i = key_in_lem (keys_of FirstData) t i
-  said_in FirstRaw listOpen t i = raw_in t i
+  said_in NoLines list_open t i = tt
+  said_in Options list_open t i = option_in list_open t i
+  said_in Garbage list_open t i = key_in_lem (keys_of Garbage) t i
+  said_in Verify list_open t i = key_in_lem (keys_of Verify) t i
+  said_in Texts list_open t i = key_in_lem (keys_of Texts) t i
+  said_in Store list_open t i = key_in_lem (keys_of Store) t i
+  said_in Multiple list_open t i = key_in_lem (keys_of Multiple) t i
+  said_in FirstData list_open t i = key_in_lem (keys_of FirstData) t i
+  said_in FirstRaw list_open t i = raw_in t i
 
   says_or_in : (s : Saying) (o : Option ℕ) → SayingIn text s → RoleIn text (says_or s o)
   unfolding RoleIn
@@ -276,16 +277,16 @@ module _ (text : List ℕ) where
   -- ---- every line
 
   module _ (rules : Rules) where
-    block_in : (takes : Takes) (listOpen inward : Bool) (t : Span) → In text t → RoleIn text (block_step rules text takes listOpen inward t).role
+    block_in : (takes : Takes) (list_open inward : Bool) (t : Span) → In text t → RoleIn text (block_step rules text takes list_open inward t).role
     unfolding block_step argument_step
-    block_in takes listOpen inward t i =
-        by_cases (λ (s : Step). RoleIn text s.role) (argument_line text inward t) _ _ (says_or_in _ (refusal_of rules text (saying_in text takes listOpen t)) (said_in takes listOpen t i)) (entry_in inward t i)
+    block_in takes list_open inward t i =
+        by_cases (λ (s : Step). RoleIn text s.role) (argument_line text inward t) _ _ (says_or_in _ (refusal_of rules text (saying_in text takes list_open t)) (said_in takes list_open t i)) (entry_in inward t i)
 
     at_in : (w : Where) (inward : Bool) (t : Span) → In text t → RoleIn text (step_at rules text w inward t).role
     unfolding step_at
     at_in InPreamble inward t i = preamble_in t i
     at_in Outside inward t i = outside_in t i
-    at_in (InBlock takes listOpen) inward t i = block_in takes listOpen inward t i
+    at_in (InBlock takes list_open) inward t i = block_in takes list_open inward t i
     at_in InEntry inward t i = entry_in inward t i
 
     pub role_in : (w : Where) (l : Line) → In text (line_span l) → RoleIn text (step_of rules text w l).role

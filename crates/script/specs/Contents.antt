@@ -2,7 +2,8 @@
 -- it; a value that goes into the store is its bytes. Assumes nothing.
 use Rattle.std.specs.Prelude.{ℕ, ◌^◌, Bool, true, false, not, List, [], ◌∷◌, ◌++◌}
 use Rattle.std.proofs.Math.Option.{Option, none, some}
-use Rattle.text.specs.Base.{if◌then◌else◌, BLANK}
+use Rattle.std.specs.Prelude.{if◌then◌else◌}
+use Rattle.text.specs.Base.{BLANK}
 use Rattle.values.specs.Numbers.{number}
 use Rattle.text.specs.declared.parts.Span.{Span}
 use Rattle.version.specs.Version.{version, default_version}
@@ -10,7 +11,7 @@ use Rattle.wire.specs.declared.ops.Op.{Op}
 use Rattle.version.specs.declared.ProtocolVersion.{ProtocolVersion}
 use Rattle.script.specs.Answers.{Answer, given, refused, ◌>>=◌}
 use Rattle.script.specs.Pieces.{bytes, is, trim, cut_or}
-use Rattle.script.specs.Operations.{same_key, Shape, singlePath, singleString, path_set, pathSetFlag, pathSetMode, no_args, setOptions, collect_garbage, verifyStore, addPermRoot, addSignatures, addTextToStore, addToStore, addMultipleToStore, addBuildLog, registerDrvOutput, queryRealisation, querySubstitutablePathInfo, querySubstitutablePathInfos, rawBytes, form_of}
+use Rattle.script.specs.Operations.{same_key, Shape, single_path, single_string, path_set, path_set_flag, path_set_mode, no_args, set_options, collect_garbage, verify_store, add_perm_root, add_signatures, add_text_to_store, add_to_store, add_multiple_to_store, add_build_log, register_drv_output, query_realisation, query_substitutable_path_info, query_substitutable_path_infos, raw_bytes, form_of}
 use Rattle.script.specs.Values.{Rules, Framed, inline, framed}
 use Rattle.script.specs.Sets as Sets
 use Rattle.script.specs.Roles.{Marked}
@@ -196,13 +197,13 @@ module _ (rules : Rules) (text : List ℕ) where
   -- ---- an operation with its arguments: `args` is what stands behind its name, `ss` what its argument lines say
 
   unfoldable pub call_of : Shape → Op → (args : Span) → List Saying → Call
-  call_of singlePath op args ss = SinglePath op args
-  call_of singleString op args ss = SingleString op args
+  call_of single_path op args ss = SinglePath op args
+  call_of single_string op args ss = SingleString op args
   call_of path_set op args ss = PathSet op (items_in text args)
-  call_of pathSetFlag op args ss = PathSetFlag op (items_in text args) (is text "substitute" (rest_of text args))
-  call_of pathSetMode op args ss = PathSetMode op (items_in text args) (rest_of text args)
+  call_of path_set_flag op args ss = PathSetFlag op (items_in text args) (is text "substitute" (rest_of text args))
+  call_of path_set_mode op args ss = PathSetMode op (items_in text args) (rest_of text args)
   call_of no_args op args ss = NoArgs op
-  call_of setOptions op args ss =
+  call_of set_options op args ss =
       SetOptions (record {
         keep_failed = number_of text (value_of Key.KeepFailed ss);
         keep_going = number_of text (value_of Key.KeepGoing ss);
@@ -220,19 +221,19 @@ module _ (rules : Rules) (text : List ℕ) where
       })
   call_of collect_garbage op args ss =
       CollectGarbage (number_of text (value_of Key.Action ss)) (set_of text (value_of Key.Paths ss)) (number_of text (value_of Key.IgnoreLiveness ss)) (number_of text (value_of Key.MaxFreed ss))
-  call_of verifyStore op args ss = VerifyStore (flag_of text (value_of Key.CheckContents ss)) (flag_of text (value_of Key.Repair ss))
-  call_of addPermRoot op args ss = AddPermRoot (cut_or text BLANK args).before (cut_or text BLANK args).after
-  call_of addSignatures op args ss = AddSignatures (cut_or text BLANK args).before (items_in text (cut_or text BLANK args).after)
-  call_of addTextToStore op args ss = AddTextToStore (unquoted_of (value_of Key.Suffix ss)) (unquoted_of (value_of Key.Text ss)) (set_of text (value_of Key.Refs ss))
-  call_of addToStore op args ss =
+  call_of verify_store op args ss = VerifyStore (flag_of text (value_of Key.CheckContents ss)) (flag_of text (value_of Key.Repair ss))
+  call_of add_perm_root op args ss = AddPermRoot (cut_or text BLANK args).before (cut_or text BLANK args).after
+  call_of add_signatures op args ss = AddSignatures (cut_or text BLANK args).before (items_in text (cut_or text BLANK args).after)
+  call_of add_text_to_store op args ss = AddTextToStore (unquoted_of (value_of Key.Suffix ss)) (unquoted_of (value_of Key.Text ss)) (set_of text (value_of Key.Refs ss))
+  call_of add_to_store op args ss =
       AddToStore (unquoted_of (value_of Key.Name ss)) (unquoted_of (value_of Key.CamStr ss)) (set_of text (value_of Key.Refs ss)) (flag_of text (value_of Key.Repair ss)) (data_of (value_of Key.Data ss))
-  call_of addMultipleToStore op args ss = AddMultipleToStore (flag_of text (value_of Key.Repair ss)) (flag_of text (value_of Key.DontCheckSigs ss)) (data_of (value_of Key.Data ss))
-  call_of addBuildLog op args ss = AddBuildLog args (data_of (value_of Key.Data ss))
-  call_of registerDrvOutput op args ss = RegisterDrvOutput args
-  call_of queryRealisation op args ss = QueryRealisation args
-  call_of querySubstitutablePathInfo op args ss = QuerySubstitutablePathInfo args
-  call_of querySubstitutablePathInfos op args ss = QuerySubstitutablePathInfos (items_in text args)
-  call_of rawBytes op args ss = RawBytes op (hex_of (value_of Key.Raw ss))
+  call_of add_multiple_to_store op args ss = AddMultipleToStore (flag_of text (value_of Key.Repair ss)) (flag_of text (value_of Key.DontCheckSigs ss)) (data_of (value_of Key.Data ss))
+  call_of add_build_log op args ss = AddBuildLog args (data_of (value_of Key.Data ss))
+  call_of register_drv_output op args ss = RegisterDrvOutput args
+  call_of query_realisation op args ss = QueryRealisation args
+  call_of query_substitutable_path_info op args ss = QuerySubstitutablePathInfo args
+  call_of query_substitutable_path_infos op args ss = QuerySubstitutablePathInfos (items_in text args)
+  call_of raw_bytes op args ss = RawBytes op (hex_of (value_of Key.Raw ss))
 
   -- ---- entries: an opening line, and the lines below it up to the next opening line
 

@@ -1,7 +1,8 @@
 -- Document 01, "The script", and `parse_expect` and `parse_matcher` of the Rust: expectations and their matchers. Assumes nothing.
 use Rattle.std.specs.Prelude.{ℕ, ◌-◌, List, [], ◌∷◌, ltb, ℤ}
 use Rattle.std.proofs.Math.Option.{Option, none, some}
-use Rattle.text.specs.Base.{if◌then◌else◌, ◌&◌}
+use Rattle.std.specs.Prelude.{if◌then◌else◌}
+use Rattle.text.specs.Base.{◌&◌}
 use Rattle.values.specs.Numbers.{signed}
 use Rattle.text.specs.declared.parts.Span.{Span}
 use Rattle.script.specs.Answers.{Answer, given, refused, ◌>>=◌, first_of}
@@ -55,27 +56,27 @@ module _ (text : List ℕ) where
   -- ---- expectations
 
   unfoldable pub matching : (Matcher → Expect) → Option Span → Option (Answer Expect)
-  matching case behindColon = do
-    rest ← behindColon
+  matching case behind_colon = do
+    rest ← behind_colon
     some (about case (matcher (trim text rest)))
 
   -- `expect: Last`: the text itself, no matcher
   unfoldable pub terminal : Option Span → Option (Answer Expect)
-  terminal behindColon = do
-    rest ← behindColon
+  terminal behind_colon = do
+    rest ← behind_colon
     some (given (Terminal (place (trim text rest))))
 
   -- `.field: matcher`
   unfoldable pub field : Option Span → Option (Answer Expect)
-  field behindDot = do
-    rest ← behindDot
+  field behind_dot = do
+    rest ← behind_dot
     c ← cut text COLON rest
     matching (ResultField (place (trim text c.before))) (some c.after)
 
   -- `result: matcher`, or `result.field: matcher`; White_Space may stand before the colon or the dot
   unfoldable pub result : Option Span → Option (Answer Expect)
-  result behindResult = do
-    rest ← behindResult
+  result behind_result = do
+    rest ← behind_result
     let r = trim text rest
     elim (matching Result (behind text ":" r)) [ none ↦ field (behind text "." r) | some e ↦ some e ]
 

@@ -3,7 +3,7 @@
 use Rattle.std.specs.Prelude.{ℕ, Bool, List, [], ◌∷◌, eqb}
 use Prim.Native.String.{String}
 use Rattle.std.proofs.Math.Option.{Option, none, some}
-use Rattle.text.specs.Base.{if◌then◌else◌}
+use Rattle.std.specs.Prelude.{if◌then◌else◌}
 use Rattle.text.specs.Literal.{spells}
 use Rattle.wire.specs.declared.ops.Op.{Op}
 use Rattle.wire.specs.declared.ops.Op.TheVariants.{IsValidPath, QueryReferrers, AddToStore, AddTextToStore, BuildPaths, EnsurePath, AddTempRoot, AddIndirectRoot, SyncWithGC, FindRoots, QueryDeriver, SetOptions, CollectGarbage, QuerySubstitutablePathInfo, QueryDerivationOutputs, QueryAllValidPaths, QueryPathInfo, QueryDerivationOutputNames, QueryPathFromHashPart, QuerySubstitutablePathInfos, QueryValidPaths, QuerySubstitutablePaths, QueryValidDerivers, OptimiseStore, VerifyStore, BuildDerivation, AddSignatures, NarFromPath, AddToStoreNar, QueryMissing, QueryDerivationOutputMap, RegisterDrvOutput, QueryRealisation, AddMultipleToStore, AddBuildLog, BuildPathsWithResults, AddPermRoot}
@@ -17,7 +17,7 @@ use Rattle.script.specs.declared.roles.Takes.TheVariants.{NoLines, Options, Garb
 -- What a key's value is: a number; a flag; a text that is unquoted; a path set; data; the head of an override list, its value not looked at; what follows
 -- `raw x"`; in the preamble a version, a feature set or a text.
 pub data Kind : Type 0 where
-  a_number aFlag aQuoted aSet someData aList aHex aVersion aFeatureSet aText : Kind
+  a_number a_flag a_quoted a_set some_data a_list a_hex a_version a_feature_set a_text : Kind
 
 -- a key: a number to tell it from others, its name, and what its value is
 pub record KeyRow : Type 0 where
@@ -41,26 +41,26 @@ key_row Key.LogType = key 9 "log_type" a_number
 key_row Key.PrintBuildTrace = key 10 "print_build_trace" a_number
 key_row Key.BuildCores = key 11 "build_cores" a_number
 key_row Key.UseSubstitutes = key 12 "use_substitutes" a_number
-key_row Key.Overrides = key 13 "overrides" aList
+key_row Key.Overrides = key 13 "overrides" a_list
 key_row Key.Action = key 14 "action" a_number
-key_row Key.Paths = key 15 "paths" aSet
+key_row Key.Paths = key 15 "paths" a_set
 key_row Key.IgnoreLiveness = key 16 "ignore_liveness" a_number
 key_row Key.MaxFreed = key 17 "max_freed" a_number
-key_row Key.CheckContents = key 18 "check_contents" aFlag
-key_row Key.Repair = key 19 "repair" aFlag
-key_row Key.Suffix = key 20 "suffix" aQuoted
-key_row Key.Text = key 21 "text" aQuoted
-key_row Key.Refs = key 22 "refs" aSet
-key_row Key.Name = key 23 "name" aQuoted
-key_row Key.CamStr = key 24 "cam_str" aQuoted
-key_row Key.Data = key 25 "data" someData
-key_row Key.DontCheckSigs = key 26 "dont_check_sigs" aFlag
-key_row Key.Raw = key 32 "raw" aHex
-key_row Key.Protocol = key 27 "protocol" aVersion
-key_row Key.Features = key 28 "features" aFeatureSet
-key_row Key.DaemonVersion = key 29 "daemon" aText
-key_row Key.TrustStatus = key 30 "trust" aText
-key_row Key.ServerFeatures = key 31 "server_features" aFeatureSet
+key_row Key.CheckContents = key 18 "check_contents" a_flag
+key_row Key.Repair = key 19 "repair" a_flag
+key_row Key.Suffix = key 20 "suffix" a_quoted
+key_row Key.Text = key 21 "text" a_quoted
+key_row Key.Refs = key 22 "refs" a_set
+key_row Key.Name = key 23 "name" a_quoted
+key_row Key.CamStr = key 24 "cam_str" a_quoted
+key_row Key.Data = key 25 "data" some_data
+key_row Key.DontCheckSigs = key 26 "dont_check_sigs" a_flag
+key_row Key.Raw = key 32 "raw" a_hex
+key_row Key.Protocol = key 27 "protocol" a_version
+key_row Key.Features = key 28 "features" a_feature_set
+key_row Key.DaemonVersion = key 29 "daemon" a_text
+key_row Key.TrustStatus = key 30 "trust" a_text
+key_row Key.ServerFeatures = key 31 "server_features" a_feature_set
 
 unfoldable pub same_key : Key → Key → Bool
 same_key a b = eqb (key_row a).number (key_row b).number
@@ -88,12 +88,12 @@ key_in (k ∷ ks) name = let later = key_in ks name in if spells (key_row k).nam
 
 -- the case of `OpCall` that keeps an operation
 pub data Shape : Type 0 where
-  singlePath singleString path_set pathSetFlag pathSetMode no_args setOptions collect_garbage verifyStore addPermRoot addSignatures addTextToStore addToStore addMultipleToStore addBuildLog registerDrvOutput queryRealisation querySubstitutablePathInfo querySubstitutablePathInfos rawBytes : Shape
+  single_path single_string path_set path_set_flag path_set_mode no_args set_options collect_garbage verify_store add_perm_root add_signatures add_text_to_store add_to_store add_multiple_to_store add_build_log register_drv_output query_realisation query_substitutable_path_info query_substitutable_path_infos raw_bytes : Shape
 
 -- What stands behind the name on the operation's own line: nothing that is kept; one text; a path set and a rest; a path, a blank and a path set; a path,
 -- a blank and a text.
 pub data Syntax : Type 0 where
-  ignored oneText oneSet pathThenSet pathThenText : Syntax
+  ignored one_text one_set path_then_set path_then_text : Syntax
 
 pub record Form : Type 0 where
   pub syntax : Syntax
@@ -104,40 +104,40 @@ abbrev pub form : Syntax → Shape → Takes → Form
 form syntax shape takes = record { syntax = syntax; shape = shape; takes = takes }
 
 unfoldable pub form_of : Op → Form
-form_of IsValidPath = form oneText singlePath NoLines
-form_of QueryReferrers = form oneText singlePath NoLines
-form_of AddToStore = form ignored addToStore Store
-form_of AddTextToStore = form ignored addTextToStore Texts
-form_of BuildPaths = form oneSet pathSetMode NoLines
-form_of EnsurePath = form oneText singlePath NoLines
-form_of AddTempRoot = form oneText singlePath NoLines
-form_of AddIndirectRoot = form oneText singleString NoLines
+form_of IsValidPath = form one_text single_path NoLines
+form_of QueryReferrers = form one_text single_path NoLines
+form_of AddToStore = form ignored add_to_store Store
+form_of AddTextToStore = form ignored add_text_to_store Texts
+form_of BuildPaths = form one_set path_set_mode NoLines
+form_of EnsurePath = form one_text single_path NoLines
+form_of AddTempRoot = form one_text single_path NoLines
+form_of AddIndirectRoot = form one_text single_string NoLines
 form_of SyncWithGC = form ignored no_args NoLines
 form_of FindRoots = form ignored no_args NoLines
-form_of QueryDeriver = form oneText singlePath NoLines
-form_of SetOptions = form ignored setOptions Options
+form_of QueryDeriver = form one_text single_path NoLines
+form_of SetOptions = form ignored set_options Options
 form_of CollectGarbage = form ignored collect_garbage Garbage
-form_of QuerySubstitutablePathInfo = form oneText querySubstitutablePathInfo NoLines
-form_of QueryDerivationOutputs = form oneText singlePath NoLines
+form_of QuerySubstitutablePathInfo = form one_text query_substitutable_path_info NoLines
+form_of QueryDerivationOutputs = form one_text single_path NoLines
 form_of QueryAllValidPaths = form ignored no_args NoLines
-form_of QueryPathInfo = form oneText singlePath NoLines
-form_of QueryDerivationOutputNames = form oneText singlePath NoLines
-form_of QueryPathFromHashPart = form oneText singleString NoLines
-form_of QuerySubstitutablePathInfos = form oneSet querySubstitutablePathInfos NoLines
-form_of QueryValidPaths = form oneSet pathSetFlag NoLines
-form_of QuerySubstitutablePaths = form oneSet path_set NoLines
-form_of QueryValidDerivers = form oneText singlePath NoLines
+form_of QueryPathInfo = form one_text single_path NoLines
+form_of QueryDerivationOutputNames = form one_text single_path NoLines
+form_of QueryPathFromHashPart = form one_text single_string NoLines
+form_of QuerySubstitutablePathInfos = form one_set query_substitutable_path_infos NoLines
+form_of QueryValidPaths = form one_set path_set_flag NoLines
+form_of QuerySubstitutablePaths = form one_set path_set NoLines
+form_of QueryValidDerivers = form one_text single_path NoLines
 form_of OptimiseStore = form ignored no_args NoLines
-form_of VerifyStore = form ignored verifyStore Verify
-form_of BuildDerivation = form ignored rawBytes FirstRaw
-form_of AddSignatures = form pathThenSet addSignatures NoLines
-form_of NarFromPath = form oneText singlePath NoLines
-form_of AddToStoreNar = form ignored rawBytes FirstRaw
-form_of QueryMissing = form oneSet path_set NoLines
-form_of QueryDerivationOutputMap = form oneText singlePath NoLines
-form_of RegisterDrvOutput = form oneText registerDrvOutput NoLines
-form_of QueryRealisation = form oneText queryRealisation NoLines
-form_of AddMultipleToStore = form ignored addMultipleToStore Multiple
-form_of AddBuildLog = form oneText addBuildLog FirstData
-form_of BuildPathsWithResults = form oneSet pathSetMode NoLines
-form_of AddPermRoot = form pathThenText addPermRoot NoLines
+form_of VerifyStore = form ignored verify_store Verify
+form_of BuildDerivation = form ignored raw_bytes FirstRaw
+form_of AddSignatures = form path_then_set add_signatures NoLines
+form_of NarFromPath = form one_text single_path NoLines
+form_of AddToStoreNar = form ignored raw_bytes FirstRaw
+form_of QueryMissing = form one_set path_set NoLines
+form_of QueryDerivationOutputMap = form one_text single_path NoLines
+form_of RegisterDrvOutput = form one_text register_drv_output NoLines
+form_of QueryRealisation = form one_text query_realisation NoLines
+form_of AddMultipleToStore = form ignored add_multiple_to_store Multiple
+form_of AddBuildLog = form one_text add_build_log FirstData
+form_of BuildPathsWithResults = form one_set path_set_mode NoLines
+form_of AddPermRoot = form path_then_text add_perm_root NoLines

@@ -3,7 +3,8 @@
 use Rattle.std.specs.Prelude.{ℕ, zero, suc, ◌+◌, ◌-◌, Bool, List, map, eqb}
 use Prim.Native.String.{String}
 use Rattle.std.proofs.Math.Option.{Option, none, some}
-use Rattle.text.specs.Base.{if◌then◌else◌, part}
+use Rattle.std.specs.Prelude.{if◌then◌else◌}
+use Rattle.text.specs.Base.{part}
 use Rattle.text.specs.Literal.{spells, begins_with, word_length}
 use Rattle.text.specs.Trim.{trim_place}
 use Rattle.text.specs.Parts.{span, ends_with, position}

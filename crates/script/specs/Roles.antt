@@ -2,7 +2,8 @@
 -- Assumes nothing.
 use Rattle.std.specs.Prelude.{ℕ, ◌+◌, Bool, true, false, not, List, [], ◌∷◌, eqb}
 use Rattle.std.proofs.Math.Option.{Option, none, some}
-use Rattle.text.specs.Base.{if◌then◌else◌, ◌&◌, ◌or◌, BLANK, QUOTE}
+use Rattle.std.specs.Prelude.{if◌then◌else◌}
+use Rattle.text.specs.Base.{◌&◌, ◌or◌, BLANK, QUOTE}
 use Rattle.text.specs.Parts.{span}
 use Rattle.text.specs.Lines.{indented}
 use Rattle.text.specs.declared.parts.Span.{Span}
@@ -13,7 +14,7 @@ use Rattle.wire.specs.declared.ops.Op.{Op}
 use Rattle.version.specs.declared.ProtocolVersion.{ProtocolVersion}
 use Rattle.script.specs.Answers.{Answer, given, refused, ◌>>=◌, first_of}
 use Rattle.script.specs.Pieces.{Cut, bytes, is_empty, is, begins, behind, trim, cut, cut_or}
-use Rattle.script.specs.Operations.{Kind, a_number, aFlag, aQuoted, aSet, someData, aList, aHex, aVersion, aFeatureSet, aText, key_row, keys_of, key_in, Syntax, ignored, oneText, oneSet, pathThenSet, pathThenText, form_of}
+use Rattle.script.specs.Operations.{Kind, a_number, a_flag, a_quoted, a_set, some_data, a_list, a_hex, a_version, a_feature_set, a_text, key_row, keys_of, key_in, Syntax, ignored, one_text, one_set, path_then_set, path_then_text, form_of}
 use Rattle.script.specs.Values.{Rules, framed}
 use Rattle.script.specs.Sets.{path_set}
 use Rattle.script.specs.Timestamps.{Stamped, stamped}
@@ -54,15 +55,15 @@ expecting (refused n) = Bad n
 -- the key `overrides` opens an override list
 abbrev pub opens_list : Kind → Bool
 opens_list a_number = false
-opens_list aFlag = false
-opens_list aQuoted = false
-opens_list aSet = false
-opens_list someData = false
-opens_list aList = true
-opens_list aHex = false
-opens_list aVersion = false
-opens_list aFeatureSet = false
-opens_list aText = false
+opens_list a_flag = false
+opens_list a_quoted = false
+opens_list a_set = false
+opens_list some_data = false
+opens_list a_list = true
+opens_list a_hex = false
+opens_list a_version = false
+opens_list a_feature_set = false
+opens_list a_text = false
 
 -- below an operation that takes lines its argument lines may follow, below another its expectations
 abbrev pub below : Takes → Where
@@ -142,8 +143,8 @@ module _ (text : List ℕ) where
 
   -- a line that says the value of a key
   unfoldable pub saying : Key → Option Span → Option Role
-  saying k behindColon = do
-    rest ← behindColon
+  saying k behind_colon = do
+    rest ← behind_colon
     some (Says (Known k (trim text rest)))
 
   -- a comment says something where it begins with one of three words
@@ -158,8 +159,8 @@ module _ (text : List ℕ) where
       Nothing
 
   unfoldable pub protocol_role : Option Span → Option Role
-  protocol_role behindColon = do
-    rest ← behindColon
+  protocol_role behind_colon = do
+    rest ← behind_colon
     let v = trim text rest
     some (version_role (version (bytes text v)) v)
 
@@ -195,10 +196,10 @@ module _ (text : List ℕ) where
   -- the path set that stands behind the operation's name, if its operation has one there
   unfoldable pub set_on : Syntax → Span → Option Span
   set_on ignored args = none
-  set_on oneText args = none
-  set_on oneSet args = some args
-  set_on pathThenSet args = some (cut_or text BLANK args).after
-  set_on pathThenText args = none
+  set_on one_text args = none
+  set_on one_set args = some args
+  set_on path_then_set args = some (cut_or text BLANK args).after
+  set_on path_then_text args = none
 
   -- 10: brace not closed
   unfoldable pub not_closed : Span → Bool
@@ -272,37 +273,37 @@ module _ (text : List ℕ) where
   raw_saying t = elim (behind text "raw x\"" t) [ none ↦ NoRaw | some hex ↦ Known Key.Raw hex ]
 
   -- in an open override list a line that begins with `"` is a pair or nothing
-  unfoldable pub option_saying : (listOpen : Bool) → Span → Saying
-  option_saying listOpen t =
-      let inList : Saying = elim (pair_in t) [ none ↦ NoPair | some p ↦ p ] in
+  unfoldable pub option_saying : (list_open : Bool) → Span → Saying
+  option_saying list_open t =
+      let in_list : Saying = elim (pair_in t) [ none ↦ NoPair | some p ↦ p ] in
       let other = key_saying (keys_of Options) t in
-      if listOpen & begins text "\"" t then inList else other
+      if list_open & begins text "\"" t then in_list else other
 
   -- what an argument line says
-  unfoldable pub saying_in : Takes → (listOpen : Bool) → Span → Saying
-  saying_in NoLines listOpen t = NoColon
-  saying_in Options listOpen t = option_saying listOpen t
-  saying_in Garbage listOpen t = key_saying (keys_of Garbage) t
-  saying_in Verify listOpen t = key_saying (keys_of Verify) t
-  saying_in Texts listOpen t = key_saying (keys_of Texts) t
-  saying_in Store listOpen t = key_saying (keys_of Store) t
-  saying_in Multiple listOpen t = key_saying (keys_of Multiple) t
-  saying_in FirstData listOpen t = key_saying (keys_of FirstData) t
-  saying_in FirstRaw listOpen t = raw_saying t
+  unfoldable pub saying_in : Takes → (list_open : Bool) → Span → Saying
+  saying_in NoLines list_open t = NoColon
+  saying_in Options list_open t = option_saying list_open t
+  saying_in Garbage list_open t = key_saying (keys_of Garbage) t
+  saying_in Verify list_open t = key_saying (keys_of Verify) t
+  saying_in Texts list_open t = key_saying (keys_of Texts) t
+  saying_in Store list_open t = key_saying (keys_of Store) t
+  saying_in Multiple list_open t = key_saying (keys_of Multiple) t
+  saying_in FirstData list_open t = key_saying (keys_of FirstData) t
+  saying_in FirstRaw list_open t = raw_saying t
 
 module _ (rules : Rules) (text : List ℕ) where
   -- the refusal of a value, kept or not
   unfoldable pub refusal_of_kind : Kind → Span → Option ℕ
   refusal_of_kind a_number v = none
-  refusal_of_kind aFlag v = none
-  refusal_of_kind aQuoted v = refusal_in (rules.unquote (bytes text v))
-  refusal_of_kind aSet v = if not_closed text v then some 10 else none
-  refusal_of_kind someData v = refusal_in (framed rules text v)
-  refusal_of_kind aList v = none
-  refusal_of_kind aHex v = refusal_in (rules.hex (bytes text v))
-  refusal_of_kind aVersion v = none
-  refusal_of_kind aFeatureSet v = none
-  refusal_of_kind aText v = none
+  refusal_of_kind a_flag v = none
+  refusal_of_kind a_quoted v = refusal_in (rules.unquote (bytes text v))
+  refusal_of_kind a_set v = if not_closed text v then some 10 else none
+  refusal_of_kind some_data v = refusal_in (framed rules text v)
+  refusal_of_kind a_list v = none
+  refusal_of_kind a_hex v = refusal_in (rules.hex (bytes text v))
+  refusal_of_kind a_version v = none
+  refusal_of_kind a_feature_set v = none
+  refusal_of_kind a_text v = none
 
   unfoldable pub refusal_of : Saying → Option ℕ
   refusal_of (Known k v) = refusal_of_kind (key_row k).kind v
@@ -312,12 +313,12 @@ module _ (rules : Rules) (text : List ℕ) where
   refusal_of NoPair = none
   refusal_of NoRaw = none
 
-  unfoldable pub argument_step : Takes → (listOpen : Bool) → (t : Span) → Step
-  argument_step takes listOpen t = let s = saying_in text takes listOpen t in step (says_or s (refusal_of s)) (after_saying takes s)
+  unfoldable pub argument_step : Takes → (list_open : Bool) → (t : Span) → Step
+  argument_step takes list_open t = let s = saying_in text takes list_open t in step (says_or s (refusal_of s)) (after_saying takes s)
 
-  unfoldable pub block_step : Takes → (listOpen inward : Bool) → (t : Span) → Step
-  block_step takes listOpen inward t =
-      let argument = argument_step takes listOpen t in
+  unfoldable pub block_step : Takes → (list_open inward : Bool) → (t : Span) → Step
+  block_step takes list_open inward t =
+      let argument = argument_step takes list_open t in
       let elsewhere = entry_step text inward t in
       if argument_line text inward t then argument else elsewhere
 
@@ -326,7 +327,7 @@ module _ (rules : Rules) (text : List ℕ) where
   unfoldable pub step_at : Where → (inward : Bool) → (t : Span) → Step
   step_at InPreamble inward t = preamble_step text t
   step_at Outside inward t = outside_step text t
-  step_at (InBlock takes listOpen) inward t = block_step takes listOpen inward t
+  step_at (InBlock takes list_open) inward t = block_step takes list_open inward t
   step_at InEntry inward t = entry_step text inward t
 
   -- "begins with" is about the trimmed line, "indented" about the line as it stands in the text

@@ -1,7 +1,8 @@
 -- Document 01, "The script": path sets and feature sets. Assumes nothing.
 use Rattle.std.specs.Prelude.{ℕ, List, [], ◌∷◌, map}
 use Rattle.std.proofs.Math.Option.{Option, none, some}
-use Rattle.text.specs.Base.{if◌then◌else◌, ◌&◌}
+use Rattle.std.specs.Prelude.{if◌then◌else◌}
+use Rattle.text.specs.Base.{◌&◌}
 use Rattle.text.specs.Parts.{span}
 use Rattle.text.specs.declared.parts.Span.{Span}
 use Rattle.script.specs.Answers.{◌>>=◌}
@@ -49,6 +50,6 @@ module _ (text : List ℕ) where
   unfoldable pub features : Span → List Span
   features p =
       let q = trim text p in
-      let inBraces = non_empty (trimmed_items (inner q)) in
+      let in_braces = non_empty (trimmed_items (inner q)) in
       let apart = words text q in
-      if begins text "{" q & ends text q CLOSING-BRACE then inBraces else apart
+      if begins text "{" q & ends text q CLOSING-BRACE then in_braces else apart

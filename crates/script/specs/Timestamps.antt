@@ -1,7 +1,8 @@
 -- Document 01, "The script": timestamps. Assumes nothing.
 use Rattle.std.specs.Prelude.{ℕ, ◌+◌, Bool, false, List, [], ◌∷◌, ◌++◌, map, length, eqb, leb, pos}
 use Rattle.std.proofs.Math.Option.{Option, none, some}
-use Rattle.text.specs.Base.{if◌then◌else◌, ◌&◌, ◌or◌, within, PLUS, MINUS}
+use Rattle.std.specs.Prelude.{if◌then◌else◌}
+use Rattle.text.specs.Base.{◌&◌, ◌or◌, within, PLUS, MINUS}
 use Rattle.text.specs.Literal.{spells}
 use Rattle.text.specs.Parts.{span, pair_position}
 use Rattle.values.specs.Numbers.{all_digits, decimal_from}

@@ -8,7 +8,8 @@ use native.Mathlib.Nat.{mul-le-mul_right, mul-le-mul_left, one-le-pow, pow-suc, 
 use lib.Dec.{eqb}
 use lib.ListN.{length, get_or, drop}
 use borrow.Author.Tests.{ne_eqb}
-use Rattle.text.specs.Base.{if◌then◌else◌, ◌&◌, within}
+use Rattle.std.specs.Prelude.{if◌then◌else◌}
+use Rattle.text.specs.Base.{◌&◌, within}
 use Rattle.values.specs.Numbers.{all_digits, decimal_from}
 use Rattle.text.proofs.Scan.{rest_more, rest-none, within-true, within_low, within_high, inside}
 use Rattle.script.specs.Timestamps.{Run, run, digit_run}

@@ -10,7 +10,7 @@ use Rattle.text.specs.Base.{BLANK}
 use Rattle.text.specs.declared.parts.Span.{Span}
 use Rattle.wire.specs.declared.ops.Op.{Op}
 use Rattle.script.specs.Pieces.{place, cut_or}
-use Rattle.script.specs.Operations.{Shape, singlePath, singleString, path_set, pathSetFlag, pathSetMode, no_args, setOptions, collect_garbage, verifyStore, addPermRoot, addSignatures, addTextToStore, addToStore, addMultipleToStore, addBuildLog, registerDrvOutput, queryRealisation, querySubstitutablePathInfo, querySubstitutablePathInfos, rawBytes, form_of}
+use Rattle.script.specs.Operations.{Shape, single_path, single_string, path_set, path_set_flag, path_set_mode, no_args, set_options, collect_garbage, verify_store, add_perm_root, add_signatures, add_text_to_store, add_to_store, add_multiple_to_store, add_build_log, register_drv_output, query_realisation, query_substitutable_path_info, query_substitutable_path_infos, raw_bytes, form_of}
 use Rattle.script.specs.Values.{plain_rules}
 use Rattle.script.specs.Roles.{Marked}
 use Rattle.script.specs.Contents.{sayings, value_of, pairs, items_in, set_of, or_none, unquoted_of, data_of, hex_of, call_of, preamble_of}
@@ -29,74 +29,74 @@ module _ (text : List ℕ) (op : Op) (args : Span) (i b : ℕ) (ss : List Saying
   -- the items: override pairs as their lines come, then the path set
   items_are : (sh : Shape) → (laid i b (call_of plain_rules text sh op args ss)).items ≡ map place (pairs_for sh ss ++ set_items text args (λ k. value_of k ss) sh)
   unfolding laid call_of pairs_for set_items
-  items_are singlePath = refl
-  items_are singleString = refl
+  items_are single_path = refl
+  items_are single_string = refl
   items_are path_set = refl
-  items_are pathSetFlag = refl
-  items_are pathSetMode = refl
+  items_are path_set_flag = refl
+  items_are path_set_mode = refl
   items_are no_args = refl
-  items_are setOptions = rw (append-nil (pairs ss))
+  items_are set_options = rw (append-nil (pairs ss))
   items_are collect_garbage = refl
-  items_are verifyStore = refl
-  items_are addPermRoot = refl
-  items_are addSignatures = refl
-  items_are addTextToStore = refl
-  items_are addToStore = refl
-  items_are addMultipleToStore = refl
-  items_are addBuildLog = refl
-  items_are registerDrvOutput = refl
-  items_are queryRealisation = refl
-  items_are querySubstitutablePathInfo = refl
-  items_are querySubstitutablePathInfos = refl
-  items_are rawBytes = refl
+  items_are verify_store = refl
+  items_are add_perm_root = refl
+  items_are add_signatures = refl
+  items_are add_text_to_store = refl
+  items_are add_to_store = refl
+  items_are add_multiple_to_store = refl
+  items_are add_build_log = refl
+  items_are register_drv_output = refl
+  items_are query_realisation = refl
+  items_are query_substitutable_path_info = refl
+  items_are query_substitutable_path_infos = refl
+  items_are raw_bytes = refl
 
   -- the bytes of the store
   store_is : (sh : Shape) → (laid i b (call_of plain_rules text sh op args ss)).store ≡ stored text args (λ k. value_of k ss) sh
   unfolding laid call_of stored first_stored second_stored third_stored
-  store_is singlePath = refl
-  store_is singleString = refl
+  store_is single_path = refl
+  store_is single_string = refl
   store_is path_set = refl
-  store_is pathSetFlag = refl
-  store_is pathSetMode = refl
+  store_is path_set_flag = refl
+  store_is path_set_mode = refl
   store_is no_args = refl
-  store_is setOptions = refl
+  store_is set_options = refl
   store_is collect_garbage = refl
-  store_is verifyStore = refl
-  store_is addPermRoot = refl
-  store_is addSignatures = refl
-  store_is addTextToStore = sym (append-nil (unquoted_of plain_rules text (value_of Key.Suffix ss) ++ unquoted_of plain_rules text (value_of Key.Text ss)))
-  store_is addToStore = refl
-  store_is addMultipleToStore = alone (stored_of (data_of plain_rules text (value_of Key.Data ss)))
-  store_is addBuildLog = alone (stored_of (data_of plain_rules text (value_of Key.Data ss)))
-  store_is registerDrvOutput = refl
-  store_is queryRealisation = refl
-  store_is querySubstitutablePathInfo = refl
-  store_is querySubstitutablePathInfos = refl
-  store_is rawBytes = alone (hex_of plain_rules text (value_of Key.Raw ss))
+  store_is verify_store = refl
+  store_is add_perm_root = refl
+  store_is add_signatures = refl
+  store_is add_text_to_store = sym (append-nil (unquoted_of plain_rules text (value_of Key.Suffix ss) ++ unquoted_of plain_rules text (value_of Key.Text ss)))
+  store_is add_to_store = refl
+  store_is add_multiple_to_store = alone (stored_of (data_of plain_rules text (value_of Key.Data ss)))
+  store_is add_build_log = alone (stored_of (data_of plain_rules text (value_of Key.Data ss)))
+  store_is register_drv_output = refl
+  store_is query_realisation = refl
+  store_is query_substitutable_path_info = refl
+  store_is query_substitutable_path_infos = refl
+  store_is raw_bytes = alone (hex_of plain_rules text (value_of Key.Raw ss))
 
   -- how many items and bytes
   sizes_are : (sh : Shape) → sizes_for text args (λ k. value_of k ss) (length (pairs_for sh ss)) sh ≡ sizes_of (call_of plain_rules text sh op args ss)
   unfolding sizes_for sizes_of call_of pairs_for set_items first_stored second_stored third_stored
-  sizes_are singlePath = refl
-  sizes_are singleString = refl
+  sizes_are single_path = refl
+  sizes_are single_string = refl
   sizes_are path_set = rw (zero-add (length (items_in text args)))
-  sizes_are pathSetFlag = rw (zero-add (length (items_in text args)))
-  sizes_are pathSetMode = rw (zero-add (length (items_in text args)))
+  sizes_are path_set_flag = rw (zero-add (length (items_in text args)))
+  sizes_are path_set_mode = rw (zero-add (length (items_in text args)))
   sizes_are no_args = refl
-  sizes_are setOptions = rw (add-zero (length (pairs ss)))
+  sizes_are set_options = rw (add-zero (length (pairs ss)))
   sizes_are collect_garbage = rw (zero-add (length (set_of text (value_of Key.Paths ss))))
-  sizes_are verifyStore = refl
-  sizes_are addPermRoot = refl
-  sizes_are addSignatures = rw (zero-add (length (items_in text (cut_or text BLANK args).after)))
-  sizes_are addTextToStore = rw (zero-add (length (set_of text (value_of Key.Refs ss))))
-  sizes_are addToStore = rw (zero-add (length (set_of text (value_of Key.Refs ss))))
-  sizes_are addMultipleToStore = refl
-  sizes_are addBuildLog = refl
-  sizes_are registerDrvOutput = refl
-  sizes_are queryRealisation = refl
-  sizes_are querySubstitutablePathInfo = refl
-  sizes_are querySubstitutablePathInfos = rw (zero-add (length (items_in text args)))
-  sizes_are rawBytes = refl
+  sizes_are verify_store = refl
+  sizes_are add_perm_root = refl
+  sizes_are add_signatures = rw (zero-add (length (items_in text (cut_or text BLANK args).after)))
+  sizes_are add_text_to_store = rw (zero-add (length (set_of text (value_of Key.Refs ss))))
+  sizes_are add_to_store = rw (zero-add (length (set_of text (value_of Key.Refs ss))))
+  sizes_are add_multiple_to_store = refl
+  sizes_are add_build_log = refl
+  sizes_are register_drv_output = refl
+  sizes_are query_realisation = refl
+  sizes_are query_substitutable_path_info = refl
+  sizes_are query_substitutable_path_infos = rw (zero-add (length (items_in text args)))
+  sizes_are raw_bytes = refl
 
 -- the bytes of the values are those of the store
 module _ (text : List ℕ) (args : Span) (value : Key → Option Span) (pairs : ℕ) (sh : Shape) (z : Sizes) (e : z ≡ sizes_for text args value pairs sh) where

@@ -5,7 +5,7 @@ use Rattle.std.proofs.Math.Option.{Option}
 use Rattle.text.specs.Base.{BLANK}
 use Rattle.text.specs.declared.parts.Span.{Span}
 use Rattle.script.specs.Pieces.{cut_or}
-use Rattle.script.specs.Operations.{Shape, singlePath, singleString, path_set, pathSetFlag, pathSetMode, no_args, setOptions, collect_garbage, verifyStore, addPermRoot, addSignatures, addTextToStore, addToStore, addMultipleToStore, addBuildLog, registerDrvOutput, queryRealisation, querySubstitutablePathInfo, querySubstitutablePathInfos, rawBytes, form_of}
+use Rattle.script.specs.Operations.{Shape, single_path, single_string, path_set, path_set_flag, path_set_mode, no_args, set_options, collect_garbage, verify_store, add_perm_root, add_signatures, add_text_to_store, add_to_store, add_multiple_to_store, add_build_log, register_drv_output, query_realisation, query_substitutable_path_info, query_substitutable_path_infos, raw_bytes, form_of}
 use Rattle.script.specs.Values.{plain_rules}
 use Rattle.script.specs.Contents.{pairs, items_in, set_of, features_in, or_none, unquoted_of, hex_of, data_of}
 use Rattle.script.specs.Layout.{range, stored_of}
@@ -21,93 +21,93 @@ use Rattle.records.specs.declared.calls.Sizes.{Sizes}
 module _ (text : List ℕ) (args : Span) (value : Key → Option Span) where
   -- the items of its path set; override pairs are no set: they are written line by line
   unfoldable pub set_items : Shape → List Span
-  set_items singlePath = []
-  set_items singleString = []
+  set_items single_path = []
+  set_items single_string = []
   set_items path_set = items_in text args
-  set_items pathSetFlag = items_in text args
-  set_items pathSetMode = items_in text args
+  set_items path_set_flag = items_in text args
+  set_items path_set_mode = items_in text args
   set_items no_args = []
-  set_items setOptions = []
+  set_items set_options = []
   set_items collect_garbage = set_of text (value Key.Paths)
-  set_items verifyStore = []
-  set_items addPermRoot = []
-  set_items addSignatures = items_in text (cut_or text BLANK args).after
-  set_items addTextToStore = set_of text (value Key.Refs)
-  set_items addToStore = set_of text (value Key.Refs)
-  set_items addMultipleToStore = []
-  set_items addBuildLog = []
-  set_items registerDrvOutput = []
-  set_items queryRealisation = []
-  set_items querySubstitutablePathInfo = []
-  set_items querySubstitutablePathInfos = items_in text args
-  set_items rawBytes = []
+  set_items verify_store = []
+  set_items add_perm_root = []
+  set_items add_signatures = items_in text (cut_or text BLANK args).after
+  set_items add_text_to_store = set_of text (value Key.Refs)
+  set_items add_to_store = set_of text (value Key.Refs)
+  set_items add_multiple_to_store = []
+  set_items add_build_log = []
+  set_items register_drv_output = []
+  set_items query_realisation = []
+  set_items query_substitutable_path_info = []
+  set_items query_substitutable_path_infos = items_in text args
+  set_items raw_bytes = []
 
   -- its values in the store, in field order: the first, the second, the third
   unfoldable pub first_stored : Shape → List ℕ
-  first_stored singlePath = []
-  first_stored singleString = []
+  first_stored single_path = []
+  first_stored single_string = []
   first_stored path_set = []
-  first_stored pathSetFlag = []
-  first_stored pathSetMode = []
+  first_stored path_set_flag = []
+  first_stored path_set_mode = []
   first_stored no_args = []
-  first_stored setOptions = []
+  first_stored set_options = []
   first_stored collect_garbage = []
-  first_stored verifyStore = []
-  first_stored addPermRoot = []
-  first_stored addSignatures = []
-  first_stored addTextToStore = unquoted_of plain_rules text (value Key.Suffix)
-  first_stored addToStore = unquoted_of plain_rules text (value Key.Name)
-  first_stored addMultipleToStore = stored_of (data_of plain_rules text (value Key.Data))
-  first_stored addBuildLog = stored_of (data_of plain_rules text (value Key.Data))
-  first_stored registerDrvOutput = []
-  first_stored queryRealisation = []
-  first_stored querySubstitutablePathInfo = []
-  first_stored querySubstitutablePathInfos = []
-  first_stored rawBytes = hex_of plain_rules text (value Key.Raw)
+  first_stored verify_store = []
+  first_stored add_perm_root = []
+  first_stored add_signatures = []
+  first_stored add_text_to_store = unquoted_of plain_rules text (value Key.Suffix)
+  first_stored add_to_store = unquoted_of plain_rules text (value Key.Name)
+  first_stored add_multiple_to_store = stored_of (data_of plain_rules text (value Key.Data))
+  first_stored add_build_log = stored_of (data_of plain_rules text (value Key.Data))
+  first_stored register_drv_output = []
+  first_stored query_realisation = []
+  first_stored query_substitutable_path_info = []
+  first_stored query_substitutable_path_infos = []
+  first_stored raw_bytes = hex_of plain_rules text (value Key.Raw)
 
   unfoldable pub second_stored : Shape → List ℕ
-  second_stored singlePath = []
-  second_stored singleString = []
+  second_stored single_path = []
+  second_stored single_string = []
   second_stored path_set = []
-  second_stored pathSetFlag = []
-  second_stored pathSetMode = []
+  second_stored path_set_flag = []
+  second_stored path_set_mode = []
   second_stored no_args = []
-  second_stored setOptions = []
+  second_stored set_options = []
   second_stored collect_garbage = []
-  second_stored verifyStore = []
-  second_stored addPermRoot = []
-  second_stored addSignatures = []
-  second_stored addTextToStore = unquoted_of plain_rules text (value Key.Text)
-  second_stored addToStore = unquoted_of plain_rules text (value Key.CamStr)
-  second_stored addMultipleToStore = []
-  second_stored addBuildLog = []
-  second_stored registerDrvOutput = []
-  second_stored queryRealisation = []
-  second_stored querySubstitutablePathInfo = []
-  second_stored querySubstitutablePathInfos = []
-  second_stored rawBytes = []
+  second_stored verify_store = []
+  second_stored add_perm_root = []
+  second_stored add_signatures = []
+  second_stored add_text_to_store = unquoted_of plain_rules text (value Key.Text)
+  second_stored add_to_store = unquoted_of plain_rules text (value Key.CamStr)
+  second_stored add_multiple_to_store = []
+  second_stored add_build_log = []
+  second_stored register_drv_output = []
+  second_stored query_realisation = []
+  second_stored query_substitutable_path_info = []
+  second_stored query_substitutable_path_infos = []
+  second_stored raw_bytes = []
 
   unfoldable pub third_stored : Shape → List ℕ
-  third_stored singlePath = []
-  third_stored singleString = []
+  third_stored single_path = []
+  third_stored single_string = []
   third_stored path_set = []
-  third_stored pathSetFlag = []
-  third_stored pathSetMode = []
+  third_stored path_set_flag = []
+  third_stored path_set_mode = []
   third_stored no_args = []
-  third_stored setOptions = []
+  third_stored set_options = []
   third_stored collect_garbage = []
-  third_stored verifyStore = []
-  third_stored addPermRoot = []
-  third_stored addSignatures = []
-  third_stored addTextToStore = []
-  third_stored addToStore = stored_of (data_of plain_rules text (value Key.Data))
-  third_stored addMultipleToStore = []
-  third_stored addBuildLog = []
-  third_stored registerDrvOutput = []
-  third_stored queryRealisation = []
-  third_stored querySubstitutablePathInfo = []
-  third_stored querySubstitutablePathInfos = []
-  third_stored rawBytes = []
+  third_stored verify_store = []
+  third_stored add_perm_root = []
+  third_stored add_signatures = []
+  third_stored add_text_to_store = []
+  third_stored add_to_store = stored_of (data_of plain_rules text (value Key.Data))
+  third_stored add_multiple_to_store = []
+  third_stored add_build_log = []
+  third_stored register_drv_output = []
+  third_stored query_realisation = []
+  third_stored query_substitutable_path_info = []
+  third_stored query_substitutable_path_infos = []
+  third_stored raw_bytes = []
 
   unfoldable pub stored : Shape → List ℕ
   stored sh = first_stored sh ++ second_stored sh ++ third_stored sh
@@ -118,26 +118,26 @@ module _ (text : List ℕ) (args : Span) (value : Key → Option Span) where
 
 -- the items that are written as their lines come
 unfoldable pub pairs_for : Shape → List Saying → List Span
-pairs_for singlePath ss = []
-pairs_for singleString ss = []
+pairs_for single_path ss = []
+pairs_for single_string ss = []
 pairs_for path_set ss = []
-pairs_for pathSetFlag ss = []
-pairs_for pathSetMode ss = []
+pairs_for path_set_flag ss = []
+pairs_for path_set_mode ss = []
 pairs_for no_args ss = []
-pairs_for setOptions ss = pairs ss
+pairs_for set_options ss = pairs ss
 pairs_for collect_garbage ss = []
-pairs_for verifyStore ss = []
-pairs_for addPermRoot ss = []
-pairs_for addSignatures ss = []
-pairs_for addTextToStore ss = []
-pairs_for addToStore ss = []
-pairs_for addMultipleToStore ss = []
-pairs_for addBuildLog ss = []
-pairs_for registerDrvOutput ss = []
-pairs_for queryRealisation ss = []
-pairs_for querySubstitutablePathInfo ss = []
-pairs_for querySubstitutablePathInfos ss = []
-pairs_for rawBytes ss = []
+pairs_for verify_store ss = []
+pairs_for add_perm_root ss = []
+pairs_for add_signatures ss = []
+pairs_for add_text_to_store ss = []
+pairs_for add_to_store ss = []
+pairs_for add_multiple_to_store ss = []
+pairs_for add_build_log ss = []
+pairs_for register_drv_output ss = []
+pairs_for query_realisation ss = []
+pairs_for query_substitutable_path_info ss = []
+pairs_for query_substitutable_path_infos ss = []
+pairs_for raw_bytes ss = []
 
 -- the record of an entry that p opens, behind i items, b bytes of the store and x expectations; n of these are its own
 unfoldable pub entry_record : (text : List ℕ) → (line : ℕ) → (p : Opening) → (value : Key → Option Span) → (i b : ℕ) → Sizes → (x n : ℕ) → Entry

@@ -1,4 +1,4 @@
 // What an entry leaves in the items and in the store, value by value.
 #![tactic(auto)]
 
-pub mod values;
+pub mod stored_values;

@@ -7,7 +7,8 @@ use mathlib.Core.Option.{Option, none, some}
 use lib.Dec.{eqb}
 use lib.ListN.{replicate}
 use borrow.Author.Tests.{eqb-true}
-use Rattle.text.specs.Base.{if◌then◌else◌, QUOTE}
+use Rattle.std.specs.Prelude.{if◌then◌else◌}
+use Rattle.text.specs.Base.{QUOTE}
 use Rattle.values.specs.Hex.{hex_decoded}
 use Rattle.values.specs.Unquote.{unquoted}
 use Rattle.text.specs.Parts.{span, starts_with}

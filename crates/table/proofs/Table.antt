@@ -49,7 +49,7 @@ use Rattle.script.specs.Reading.{Parsed, refused_at, read, refusal, parsed}
 use Rattle.script.specs.declared.records.Counts.{Counts}
 use Rattle.script.specs.declared.records.OpCall.{OpCall}
 use Rattle.script.specs.declared.response.HandshakeInfo.{HandshakeInfo}
-use Rattle.verdicts.specs.Expected.{Expected, exact, regex, greaterOrEqual, result, trust, server_features}
+use Rattle.verdicts.specs.Expected.{Expected, exact, regex, greater_or_equal, result, trust, server_features}
 use Rattle.verdicts.specs.Told.{Subject, greeting}
 use Rattle.verdicts.specs.Lookup.{looked}
 use Rattle.verdicts.specs.Decisions.{decides}
@@ -159,8 +159,8 @@ Rows =
     × ((says "expect result: //" ≡ read (result (regex []) ∷ [])) × ((v : List ℕ) → decides (regex []) v ≡ Passed)
     × (says "expect result: /" ≡ read (result (exact (utf8 "/")) ∷ [])))
     -- P7 `>= 9223372036854775807` on 9223372036854775808 fails.
-    × ((says "expect result: >= 9223372036854775807" ≡ read (result (greaterOrEqual (pos 9223372036854775807)) ∷ []))
-    × (decides (greaterOrEqual (pos 9223372036854775807)) (utf8 "9223372036854775808") ≡ Failed))
+    × ((says "expect result: >= 9223372036854775807" ≡ read (result (greater_or_equal (pos 9223372036854775807)) ∷ []))
+    × (decides (greater_or_equal (pos 9223372036854775807)) (utf8 "9223372036854775808") ≡ Failed))
     -- P8 `{}` against no features fails, the value being `{  }`.
     × ((says "expect server_features: {}" ≡ read (server_features (exact (utf8 "{}")) ∷ []))
     × (verdict (told none) (server_features (exact (utf8 "{}"))) ≡ Failed) × (value (told none) (server_features (exact (utf8 "{}"))) ≡ some (utf8 "{  }")))

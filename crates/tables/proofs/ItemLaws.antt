@@ -8,7 +8,8 @@ use native.Mathlib.Omega.{arith}
 use lib.Dec.{eqb}
 use lib.ListN.{length, set}
 use borrow.Author.Tests.{eq-eqb, ne_eqb, not-true, not-false, eqb-true}
-use Rattle.text.specs.Base.{if◌then◌else◌, ◌&◌, ◌or◌}
+use Rattle.std.specs.Prelude.{if◌then◌else◌}
+use Rattle.text.specs.Base.{◌&◌, ◌or◌}
 use Rattle.text.specs.Parts.{span, starts_with, ends_with, position, found_of, split, part_at}
 use Rattle.text.specs.Words.{words_from, word_at}
 use Rattle.text.specs.Words as Words

@@ -7,7 +7,8 @@ use native.Mathlib.Omega.{arith}
 use lib.Dec.{ltb}
 use lib.ListN.{length, get_or}
 use borrow.Author.Tests.{ltb-true, lt-ltb, le-ltb}
-use Rattle.text.specs.Base.{if◌then◌else◌, ◌&◌}
+use Rattle.std.specs.Prelude.{if◌then◌else◌}
+use Rattle.text.specs.Base.{◌&◌}
 use Rattle.text.proofs.Scan.{both}
 use Rattle.script.specs.Reading.{room, refusal}
 use Rattle.script.specs.declared.records.Expect.{Expect}

@@ -11,7 +11,8 @@ use lib.ListN.{length, get_or, drop, length-drop}
 use lib.Seq.{drop-nil, drop-drop}
 use borrow.Author.Tests.{eq-eqb, ne_eqb, lt-ltb, le-ltb}
 use Rattle.text.proofs.Scan.{by_cases, rest-none, rest_more, shift}
-use Rattle.text.specs.Base.{if◌then◌else◌, LF, CR}
+use Rattle.std.specs.Prelude.{if◌then◌else◌}
+use Rattle.text.specs.Base.{LF, CR}
 use Rattle.text.specs.declared.lines.Line.{Line}
 use Rattle.text.specs.Lines.{line, line_from, line_at, lines_from}
 use Rattle.text.specs.LinesWalk.{end_at}

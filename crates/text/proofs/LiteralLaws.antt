@@ -9,7 +9,8 @@ use lib.Dec.{eqb}
 use lib.ListN.{length}
 use borrow.Author.Tests.{eq-eqb, ne_eqb, eqb-true, eqb-false}
 use Rattle.text.proofs.Scan.{and_false}
-use Rattle.text.specs.Base.{if◌then◌else◌, ◌&◌}
+use Rattle.std.specs.Prelude.{if◌then◌else◌}
+use Rattle.text.specs.Base.{◌&◌}
 use Rattle.text.specs.Literal.{spells, begins_with, word_length}
 use Rattle.text.specs.Parts.{starts_with, same_bytes}
 

@@ -11,7 +11,8 @@ use lib.Dec.{leb}
 use lib.ListN.{length, get_or, take, drop, set, drop_of_length-le}
 use lib.Seq.{drop-cons, take-suc-set, take_all}
 use borrow.Author.Tests.{le-leb, lt-leb, leb-true}
-use Rattle.text.specs.Base.{if◌then◌else◌, ◌&◌, within}
+use Rattle.std.specs.Prelude.{if◌then◌else◌}
+use Rattle.text.specs.Base.{◌&◌, within}
 
 -- at a place inside, the rest of a text is the byte there and the rest from the next place
 pub rest_more : (text : List ℕ) (i : ℕ) → i < length text → drop i text ≡ get_or text i 0 ∷ drop (i + 1) text
@@ -34,12 +35,12 @@ pub flag : (b t f : Bool) → b ≡ t → b ≡ f → t ≡ f
 flag b t f p q = sym p ∙ q
 
 -- what holds of both branches holds of a choice
-pub by_cases {ℓ} : {A : Type ℓ} (P : A → Type 0) (b : Bool) (x y : A) → P x → P y → P (if b then x else y)
+pub by_cases : {A : Type 0} (P : A → Type 0) (b : Bool) (x y : A) → P x → P y → P (if b then x else y)
 by_cases P true x y p q = p
 by_cases P false x y p q = q
 
 -- and so where each branch may use what its test says
-pub by_test {ℓ} : {A : Type ℓ} (P : A → Type 0) (b : Bool) (x y : A) → (b ≡ true → P x) → (b ≡ false → P y) → P (if b then x else y)
+pub by_test : {A : Type 0} (P : A → Type 0) (b : Bool) (x y : A) → (b ≡ true → P x) → (b ≡ false → P y) → P (if b then x else y)
 by_test P true x y p q = p refl
 by_test P false x y p q = q refl
 

@@ -11,7 +11,8 @@ use lib.ListN.{length, length-take, length-drop, length-reverse, get_or, take, d
 use lib.Seq.{drop-nil, drop-drop, get_or-drop, take-suc, take_all, take-length, length-take-le}
 use borrow.Author.Tests.{lt-leb}
 use Rattle.text.proofs.Scan.{by_cases, inside, and_true, and_false, rest_more, rest-none, within_low, within_high}
-use Rattle.text.specs.Base.{if◌then◌else◌, ◌&◌, within, part}
+use Rattle.std.specs.Prelude.{if◌then◌else◌}
+use Rattle.text.specs.Base.{◌&◌, within, part}
 use Rattle.text.specs.Utf8.{Range}
 use Rattle.text.specs.Trim.{white_bytes, backwards, begins, size_of, strip_from, trimmed_front, trimmed_back, trimmed, trim_place}
 use Rattle.text.specs.declared.trim.Place.{Place}

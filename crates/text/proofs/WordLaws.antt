@@ -10,7 +10,7 @@ use lib.ListN.{length, get_or, drop, length-drop}
 use lib.Seq.{drop-nil, drop-drop}
 use borrow.Author.Tests.{eq-eqb, ne_eqb, eqb-false}
 use Rattle.text.proofs.Scan.{shift, rest_more, rest-none}
-use Rattle.text.specs.Base.{if◌then◌else◌}
+use Rattle.std.specs.Prelude.{if◌then◌else◌}
 use Rattle.text.specs.Trim.{white_bytes, size_of}
 use Rattle.text.specs.declared.parts.Span.{Span}
 use Rattle.text.specs.Parts.{span}

@@ -1,15 +1,9 @@
 -- The words that every definition of this project is written in. A text is the list of its bytes.
 -- Assumes nothing.
-use Rattle.std.specs.Prelude.{ℕ, Bool, true, false, List, ◌++◌, length, take, drop, leb}
+use Rattle.std.specs.Prelude.{ℕ, Bool, true, false, List, ◌++◌, length, take, drop, leb, if◌then◌else◌}
 
-infix 5 if◌then◌else◌
 infixr 40 ◌&◌
 infixr 30 ◌or◌
--- A choice. antt computes both branches: one that goes on with a walk is bound by a `let` above the choice, which waits.
-abbrev pub if◌then◌else◌ {ℓ} : {A : Type ℓ} → Bool → A → A → A
-if true then a else b = a
-if false then a else b = b
-
 abbrev pub ◌&◌ : Bool → Bool → Bool
 true & b = b
 false & b = false

@@ -1,6 +1,7 @@
 -- What only the code that finds a line needs (src/lines.rt). Assumes nothing.
 use Rattle.std.specs.Prelude.{ℕ, ◌-◌, List, eqb, ltb, get_or}
-use Rattle.text.specs.Base.{if◌then◌else◌, ◌&◌, CR}
+use Rattle.std.specs.Prelude.{if◌then◌else◌}
+use Rattle.text.specs.Base.{◌&◌, CR}
 
 -- where a line that began at start ends if its LF stands at lf
 unfoldable pub end_at : List ℕ → (start lf : ℕ) → ℕ

@@ -1,6 +1,7 @@
 -- The Unicode Standard: scalar values, their encoding in UTF-8 and back, and the White_Space characters. Assumes nothing.
 use Rattle.std.specs.Prelude.{ℕ, zero, suc, ◌+◌, ◌*◌, ◌/◌, ◌%◌, Bool, true, false, List, [], ◌∷◌, ◌++◌, eqb, ltb}
-use Rattle.text.specs.Base.{if◌then◌else◌, ◌&◌, ◌or◌, within}
+use Rattle.std.specs.Prelude.{if◌then◌else◌}
+use Rattle.text.specs.Base.{◌&◌, ◌or◌, within}
 use Rattle.text.specs.Utf8.{Range, ◌to◌}
 
 -- a scalar value (definition D76): every code point but the surrogates D800 to DFFF

@@ -2,7 +2,8 @@
 -- That this is what the Standard defines, the encodings of scalar values, is proved in characters/proofs/Unicode.antt. Assumes nothing.
 use Rattle.std.specs.Prelude.{ℕ, Bool, true, false, List, [], ◌∷◌}
 use Rattle.std.proofs.Math.Option.{Option, none, some}
-use Rattle.text.specs.Base.{if◌then◌else◌, ◌&◌, within}
+use Rattle.std.specs.Prelude.{if◌then◌else◌}
+use Rattle.text.specs.Base.{◌&◌, within}
 
 -- the numbers from lo to hi, both included
 pub record Range : Type 0 where

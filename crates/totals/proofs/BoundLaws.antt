@@ -11,7 +11,7 @@ use Rattle.text.specs.declared.parts.Span.{Span}
 use Rattle.wire.specs.declared.ops.Op.{Op}
 use Rattle.text.proofs.Scan.{by_cases}
 use Rattle.script.specs.Inside.{In, SayingIn}
-use Rattle.script.specs.Operations.{same_key, Shape, singlePath, singleString, path_set, pathSetFlag, pathSetMode, no_args, setOptions, collect_garbage, verifyStore, addPermRoot, addSignatures, addTextToStore, addToStore, addMultipleToStore, addBuildLog, registerDrvOutput, queryRealisation, querySubstitutablePathInfo, querySubstitutablePathInfos, rawBytes, form_of}
+use Rattle.script.specs.Operations.{same_key, Shape, single_path, single_string, path_set, path_set_flag, path_set_mode, no_args, set_options, collect_garbage, verify_store, add_perm_root, add_signatures, add_text_to_store, add_to_store, add_multiple_to_store, add_build_log, register_drv_output, query_realisation, query_substitutable_path_info, query_substitutable_path_infos, raw_bytes, form_of}
 use Rattle.script.specs.declared.records.Counts.{Counts}
 use Rattle.script.specs.declared.roles.Key.{Key}
 use Rattle.script.specs.declared.roles.Saying.{Saying}
@@ -29,49 +29,49 @@ use Rattle.counts.proofs.CountLaws.{set-fits, quoted_fit, data_fit, raw_fit, fea
 module _ (m : ℕ) (o : Open) (h : Small m o) where
   entry_items_lem : (sh : Shape) → entry_items sh o ≤ m
   unfolding entry_items
-  entry_items_lem singlePath = omega (arith, h.inline, h.pairs, h.paths, h.refs)
-  entry_items_lem singleString = omega (arith, h.inline, h.pairs, h.paths, h.refs)
+  entry_items_lem single_path = omega (arith, h.inline, h.pairs, h.paths, h.refs)
+  entry_items_lem single_string = omega (arith, h.inline, h.pairs, h.paths, h.refs)
   entry_items_lem path_set = omega (arith, h.inline, h.pairs, h.paths, h.refs)
-  entry_items_lem pathSetFlag = omega (arith, h.inline, h.pairs, h.paths, h.refs)
-  entry_items_lem pathSetMode = omega (arith, h.inline, h.pairs, h.paths, h.refs)
+  entry_items_lem path_set_flag = omega (arith, h.inline, h.pairs, h.paths, h.refs)
+  entry_items_lem path_set_mode = omega (arith, h.inline, h.pairs, h.paths, h.refs)
   entry_items_lem no_args = omega (arith, h.inline, h.pairs, h.paths, h.refs)
-  entry_items_lem setOptions = omega (arith, h.inline, h.pairs, h.paths, h.refs)
+  entry_items_lem set_options = omega (arith, h.inline, h.pairs, h.paths, h.refs)
   entry_items_lem collect_garbage = omega (arith, h.inline, h.pairs, h.paths, h.refs)
-  entry_items_lem verifyStore = omega (arith, h.inline, h.pairs, h.paths, h.refs)
-  entry_items_lem addPermRoot = omega (arith, h.inline, h.pairs, h.paths, h.refs)
-  entry_items_lem addSignatures = omega (arith, h.inline, h.pairs, h.paths, h.refs)
-  entry_items_lem addTextToStore = omega (arith, h.inline, h.pairs, h.paths, h.refs)
-  entry_items_lem addToStore = omega (arith, h.inline, h.pairs, h.paths, h.refs)
-  entry_items_lem addMultipleToStore = omega (arith, h.inline, h.pairs, h.paths, h.refs)
-  entry_items_lem addBuildLog = omega (arith, h.inline, h.pairs, h.paths, h.refs)
-  entry_items_lem registerDrvOutput = omega (arith, h.inline, h.pairs, h.paths, h.refs)
-  entry_items_lem queryRealisation = omega (arith, h.inline, h.pairs, h.paths, h.refs)
-  entry_items_lem querySubstitutablePathInfo = omega (arith, h.inline, h.pairs, h.paths, h.refs)
-  entry_items_lem querySubstitutablePathInfos = omega (arith, h.inline, h.pairs, h.paths, h.refs)
-  entry_items_lem rawBytes = omega (arith, h.inline, h.pairs, h.paths, h.refs)
+  entry_items_lem verify_store = omega (arith, h.inline, h.pairs, h.paths, h.refs)
+  entry_items_lem add_perm_root = omega (arith, h.inline, h.pairs, h.paths, h.refs)
+  entry_items_lem add_signatures = omega (arith, h.inline, h.pairs, h.paths, h.refs)
+  entry_items_lem add_text_to_store = omega (arith, h.inline, h.pairs, h.paths, h.refs)
+  entry_items_lem add_to_store = omega (arith, h.inline, h.pairs, h.paths, h.refs)
+  entry_items_lem add_multiple_to_store = omega (arith, h.inline, h.pairs, h.paths, h.refs)
+  entry_items_lem add_build_log = omega (arith, h.inline, h.pairs, h.paths, h.refs)
+  entry_items_lem register_drv_output = omega (arith, h.inline, h.pairs, h.paths, h.refs)
+  entry_items_lem query_realisation = omega (arith, h.inline, h.pairs, h.paths, h.refs)
+  entry_items_lem query_substitutable_path_info = omega (arith, h.inline, h.pairs, h.paths, h.refs)
+  entry_items_lem query_substitutable_path_infos = omega (arith, h.inline, h.pairs, h.paths, h.refs)
+  entry_items_lem raw_bytes = omega (arith, h.inline, h.pairs, h.paths, h.refs)
 
   entry_store_lem : (sh : Shape) → entry_store sh o ≤ m + m + m
   unfolding entry_store
-  entry_store_lem singlePath = omega (arith, h.suffix, h.text, h.name, h.cam_str, h.«data», h.raw)
-  entry_store_lem singleString = omega (arith, h.suffix, h.text, h.name, h.cam_str, h.«data», h.raw)
+  entry_store_lem single_path = omega (arith, h.suffix, h.text, h.name, h.cam_str, h.«data», h.raw)
+  entry_store_lem single_string = omega (arith, h.suffix, h.text, h.name, h.cam_str, h.«data», h.raw)
   entry_store_lem path_set = omega (arith, h.suffix, h.text, h.name, h.cam_str, h.«data», h.raw)
-  entry_store_lem pathSetFlag = omega (arith, h.suffix, h.text, h.name, h.cam_str, h.«data», h.raw)
-  entry_store_lem pathSetMode = omega (arith, h.suffix, h.text, h.name, h.cam_str, h.«data», h.raw)
+  entry_store_lem path_set_flag = omega (arith, h.suffix, h.text, h.name, h.cam_str, h.«data», h.raw)
+  entry_store_lem path_set_mode = omega (arith, h.suffix, h.text, h.name, h.cam_str, h.«data», h.raw)
   entry_store_lem no_args = omega (arith, h.suffix, h.text, h.name, h.cam_str, h.«data», h.raw)
-  entry_store_lem setOptions = omega (arith, h.suffix, h.text, h.name, h.cam_str, h.«data», h.raw)
+  entry_store_lem set_options = omega (arith, h.suffix, h.text, h.name, h.cam_str, h.«data», h.raw)
   entry_store_lem collect_garbage = omega (arith, h.suffix, h.text, h.name, h.cam_str, h.«data», h.raw)
-  entry_store_lem verifyStore = omega (arith, h.suffix, h.text, h.name, h.cam_str, h.«data», h.raw)
-  entry_store_lem addPermRoot = omega (arith, h.suffix, h.text, h.name, h.cam_str, h.«data», h.raw)
-  entry_store_lem addSignatures = omega (arith, h.suffix, h.text, h.name, h.cam_str, h.«data», h.raw)
-  entry_store_lem addTextToStore = omega (arith, h.suffix, h.text, h.name, h.cam_str, h.«data», h.raw)
-  entry_store_lem addToStore = omega (arith, h.suffix, h.text, h.name, h.cam_str, h.«data», h.raw)
-  entry_store_lem addMultipleToStore = omega (arith, h.suffix, h.text, h.name, h.cam_str, h.«data», h.raw)
-  entry_store_lem addBuildLog = omega (arith, h.suffix, h.text, h.name, h.cam_str, h.«data», h.raw)
-  entry_store_lem registerDrvOutput = omega (arith, h.suffix, h.text, h.name, h.cam_str, h.«data», h.raw)
-  entry_store_lem queryRealisation = omega (arith, h.suffix, h.text, h.name, h.cam_str, h.«data», h.raw)
-  entry_store_lem querySubstitutablePathInfo = omega (arith, h.suffix, h.text, h.name, h.cam_str, h.«data», h.raw)
-  entry_store_lem querySubstitutablePathInfos = omega (arith, h.suffix, h.text, h.name, h.cam_str, h.«data», h.raw)
-  entry_store_lem rawBytes = omega (arith, h.suffix, h.text, h.name, h.cam_str, h.«data», h.raw)
+  entry_store_lem verify_store = omega (arith, h.suffix, h.text, h.name, h.cam_str, h.«data», h.raw)
+  entry_store_lem add_perm_root = omega (arith, h.suffix, h.text, h.name, h.cam_str, h.«data», h.raw)
+  entry_store_lem add_signatures = omega (arith, h.suffix, h.text, h.name, h.cam_str, h.«data», h.raw)
+  entry_store_lem add_text_to_store = omega (arith, h.suffix, h.text, h.name, h.cam_str, h.«data», h.raw)
+  entry_store_lem add_to_store = omega (arith, h.suffix, h.text, h.name, h.cam_str, h.«data», h.raw)
+  entry_store_lem add_multiple_to_store = omega (arith, h.suffix, h.text, h.name, h.cam_str, h.«data», h.raw)
+  entry_store_lem add_build_log = omega (arith, h.suffix, h.text, h.name, h.cam_str, h.«data», h.raw)
+  entry_store_lem register_drv_output = omega (arith, h.suffix, h.text, h.name, h.cam_str, h.«data», h.raw)
+  entry_store_lem query_realisation = omega (arith, h.suffix, h.text, h.name, h.cam_str, h.«data», h.raw)
+  entry_store_lem query_substitutable_path_info = omega (arith, h.suffix, h.text, h.name, h.cam_str, h.«data», h.raw)
+  entry_store_lem query_substitutable_path_infos = omega (arith, h.suffix, h.text, h.name, h.cam_str, h.«data», h.raw)
+  entry_store_lem raw_bytes = omega (arith, h.suffix, h.text, h.name, h.cam_str, h.«data», h.raw)
 
   items-small : closed_items o ≤ m + m
   unfolding closed_items items_of

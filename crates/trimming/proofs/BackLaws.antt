@@ -4,7 +4,8 @@ use mathlib.Core.Path.{◌≡◌, refl, ◌∙◌}
 use mathlib.Core.Bool.{Bool, true, false}
 use mathlib.Core.List.{List, [], ◌∷◌}
 use lib.ListN.{drop}
-use Rattle.text.specs.Base.{if◌then◌else◌, ◌&◌, within}
+use Rattle.std.specs.Prelude.{if◌then◌else◌}
+use Rattle.text.specs.Base.{◌&◌, within}
 use Rattle.text.specs.Utf8.{Range}
 use Rattle.text.specs.Trim.{white_bytes, backwards, begins, size_of}
 

@@ -10,7 +10,8 @@ use lib.ListN.{length, get_or, take, drop, take-append-drop, length-append, leng
 use borrow.Author.Tests.{eq-eqb, ne_eqb, eqb-true, eqb-false, leb-true}
 use lib.Seq.{drop-drop, get_or-drop}
 use Rattle.text.proofs.Scan.{by_cases, and_false, both, rest_more, rest-none}
-use Rattle.text.specs.Base.{if◌then◌else◌, ◌&◌, LF, CR, TAB, QUOTE, BACKSLASH}
+use Rattle.std.specs.Prelude.{if◌then◌else◌}
+use Rattle.text.specs.Base.{◌&◌, LF, CR, TAB, QUOTE, BACKSLASH}
 use Rattle.unquote.specs.declared.Token.{Token}
 use Rattle.values.specs.Unquote.{quoted, between, replaced, Escape, escapes, replaced_in_order, unescaped, unquoted}
 use Rattle.unquote.specs.UnquoteWalk.{meant, token, escape_of, token_of, token_at}

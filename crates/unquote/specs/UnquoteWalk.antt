@@ -1,7 +1,8 @@
 -- The five replacements by one walk over the bytes, as the code takes it; `UnquoteLaws` shows that it answers what the definition does. A
 -- token is the byte that comes out next and how many bytes it stands for. Assumes nothing.
 use Rattle.std.specs.Prelude.{ℕ, ◌+◌, List, eqb, get_or}
-use Rattle.text.specs.Base.{if◌then◌else◌, ◌&◌, TAB, LF, CR, QUOTE, BACKSLASH}
+use Rattle.std.specs.Prelude.{if◌then◌else◌}
+use Rattle.text.specs.Base.{◌&◌, TAB, LF, CR, QUOTE, BACKSLASH}
 use Rattle.unquote.specs.declared.Token.{Token}
 
 -- what a backslash and c become by the first four, or 0

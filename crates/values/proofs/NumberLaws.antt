@@ -9,7 +9,8 @@ use native.Mathlib.Nat.{le_trans, le_refl}
 use lib.Dec.{eqb, ltb}
 use lib.ListN.{length, get_or, drop}
 use borrow.Author.Tests.{lt-ltb, le-ltb, ltb-true}
-use Rattle.text.specs.Base.{if◌then◌else◌, ◌&◌, PLUS}
+use Rattle.std.specs.Prelude.{if◌then◌else◌}
+use Rattle.text.specs.Base.{◌&◌, PLUS}
 use Rattle.values.specs.Numbers.{all_digits, decimal_from, digits, number}
 use Rattle.text.proofs.Scan.{rest_more, rest-none, and_false, by_cases, within-true, within_low, within_high}
 

@@ -2,7 +2,8 @@
 -- Assumes nothing.
 use Rattle.std.specs.Prelude.{ℕ, zero, suc, ◌+◌, ◌-◌, ◌*◌, ◌^◌, Bool, true, List, [], ◌∷◌, eqb, ltb, ℤ, pos, negsuc}
 use Rattle.std.proofs.Math.Option.{Option, none, some, map}
-use Rattle.text.specs.Base.{if◌then◌else◌, ◌&◌, within, PLUS, MINUS}
+use Rattle.std.specs.Prelude.{if◌then◌else◌}
+use Rattle.text.specs.Base.{◌&◌, within, PLUS, MINUS}
 use Rattle.values.specs.declared.number.Number.{Number}
 use Rattle.values.specs.declared.number.Number.TheVariants as number-variants
 use Rattle.values.specs.declared.number.Integer.{Integer}

@@ -12,7 +12,7 @@ use Rattle.text.specs.Literal.{utf8}
 use Rattle.text.specs.Parts as text-Parts
 use Rattle.values.specs.Numbers as values-Numbers
 use Rattle.values.specs.Decimal as values-Decimal
-use Rattle.verdicts.specs.Expected.{Matching, exact, regex, greaterThan, lessThan, greaterOrEqual, lessOrEqual, Expected, terminal, result, result_field, error, stderr_count, daemon, trust, server_features}
+use Rattle.verdicts.specs.Expected.{Matching, exact, regex, greater_than, less_than, greater_or_equal, less_or_equal, Expected, terminal, result, result_field, error, stderr_count, daemon, trust, server_features}
 use Rattle.verdicts.specs.Told.{Response, Info, Subject, greeting, reply, absent, u64, string_set, missing}
 use Rattle.verdicts.specs.Lookup as Lookup
 use Rattle.verdicts.specs.Decisions as Decisions
@@ -42,11 +42,11 @@ pub examples :
     × (decides (exact (utf8 "/")) (utf8 "/") ≡ Passed)
     × (decides (exact (utf8 "/")) (utf8 "any") ≡ Failed)
     -- P7: `>= 9223372036854775807` on 9223372036854775808 fails
-    × (decides (greaterOrEqual (pos 9223372036854775807)) (utf8 "9223372036854775808") ≡ Failed)
-    × (decides (greaterOrEqual (pos 9223372036854775807)) (utf8 "9223372036854775807") ≡ Passed)
-    × (decides (greaterOrEqual (pos 5)) (utf8 "6") ≡ Passed)
-    × (decides (greaterOrEqual (pos 5)) (utf8 "-6") ≡ Failed)
-    × (decides (lessThan (pos 5)) (utf8 " 4") ≡ Failed)
+    × (decides (greater_or_equal (pos 9223372036854775807)) (utf8 "9223372036854775808") ≡ Failed)
+    × (decides (greater_or_equal (pos 9223372036854775807)) (utf8 "9223372036854775807") ≡ Passed)
+    × (decides (greater_or_equal (pos 5)) (utf8 "6") ≡ Passed)
+    × (decides (greater_or_equal (pos 5)) (utf8 "-6") ≡ Failed)
+    × (decides (less_than (pos 5)) (utf8 " 4") ≡ Failed)
     -- P8: `{}` against no features fails, the value being `{  }`
     × (verdict (told none) (server_features (exact (utf8 "{}"))) ≡ Failed)
     × (verdict (told none) (server_features (exact (utf8 "{  }"))) ≡ Passed)
@@ -63,11 +63,11 @@ pub examples :
     × (verdict (told none) (terminal (utf8 "Last")) ≡ Failed)
     -- messages
     × (message refused (terminal (utf8 "Last")) ≡ utf8 "expected terminal Last, got Error")
-    × (message refused (stderr_count (greaterThan (pos 5))) ≡ utf8 "stderr.count: expected > 5, got 3")
+    × (message refused (stderr_count (greater_than (pos 5))) ≡ utf8 "stderr.count: expected > 5, got 3")
     × (message refused (result_field [] (exact [])) ≡ utf8 "result field result. not found")
     × (message refused (error (regex (utf8 "^p"))) ≡ utf8 "undecided: /^p/")
     × (message listing (result (exact (utf8 "[a, b]"))) ≡ utf8 "result = [a, b]")
-    × (message listing (result (lessThan (negsuc 0))) ≡ utf8 "result: expected < -1, got [a, b]")
+    × (message listing (result (less_than (negsuc 0))) ≡ utf8 "result: expected < -1, got [a, b]")
     × (message listing (error (exact [])) ≡ utf8 "expected error but none received")
     × (message (told none) (server_features (exact (utf8 "{}"))) ≡ utf8 "server_features: expected {}, got {  }")
     × (message (told none) (terminal (utf8 "Last")) ≡ utf8 "non-handshake expect in preamble: ")

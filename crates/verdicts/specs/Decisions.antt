@@ -3,11 +3,12 @@
 use Rattle.std.specs.Prelude.{ℕ, Bool, true, false, not, List, [], ◌∷◌, eqb, ℤ}
 use Rattle.std.proofs.Math.Option.{Option, none, some}
 use Rattle.std.specs.Int.Signed.{lt_z, le_z}
-use Rattle.text.specs.Base.{if◌then◌else◌, ◌&◌, ◌or◌}
+use Rattle.std.specs.Prelude.{if◌then◌else◌}
+use Rattle.text.specs.Base.{◌&◌, ◌or◌}
 use Rattle.text.specs.Literal.{utf8}
 use Rattle.text.specs.Parts.{starts_with, same_bytes}
 use Rattle.values.specs.Numbers.{signed}
-use Rattle.verdicts.specs.Expected.{Matching, exact, regex, greaterThan, lessThan, greaterOrEqual, lessOrEqual}
+use Rattle.verdicts.specs.Expected.{Matching, exact, regex, greater_than, less_than, greater_or_equal, less_or_equal}
 use Rattle.verdicts.specs.declared.Verdict.{Verdict}
 use Rattle.verdicts.specs.declared.Verdict.TheVariants.{Passed, Failed, Undecided}
 
@@ -51,7 +52,7 @@ ordered holds (some v) = passed_if (holds v)
 unfoldable pub decides : Matching → (value : List ℕ) → Verdict
 decides (exact text) value = passed_if (same_bytes value text)
 decides (regex pattern) value = pattern_decides pattern value
-decides (greaterThan n) value = ordered (λ v. lt_z n v) (signed value)
-decides (lessThan n) value = ordered (λ v. lt_z v n) (signed value)
-decides (greaterOrEqual n) value = ordered (λ v. le_z n v) (signed value)
-decides (lessOrEqual n) value = ordered (λ v. le_z v n) (signed value)
+decides (greater_than n) value = ordered (λ v. lt_z n v) (signed value)
+decides (less_than n) value = ordered (λ v. lt_z v n) (signed value)
+decides (greater_or_equal n) value = ordered (λ v. le_z n v) (signed value)
+decides (less_or_equal n) value = ordered (λ v. le_z v n) (signed value)

@@ -4,7 +4,7 @@ use Rattle.std.specs.Prelude.{ℕ, List, ℤ}
 -- how a value is compared
 pub data Matching : Type 0 where
   exact regex : List ℕ → Matching
-  greaterThan lessThan greaterOrEqual lessOrEqual : ℤ → Matching
+  greater_than less_than greater_or_equal less_or_equal : ℤ → Matching
 
 -- what is expected: the name of the last message, with no matcher; a result, or a field of it; an error's message; the count of messages; what the
 -- handshake told

@@ -21,7 +21,7 @@ use Rattle.script.specs.declared.response.ResultData.{ResultData}
 use Rattle.script.specs.declared.response.ResultData.TheVariants as ResultData
 use Rattle.script.specs.declared.response.DaemonResponse.{DaemonResponse}
 use Rattle.script.specs.declared.response.HandshakeInfo.{HandshakeInfo}
-use Rattle.verdicts.specs.Expected.{Matching, exact, regex, greaterThan, lessThan, greaterOrEqual, lessOrEqual, Expected}
+use Rattle.verdicts.specs.Expected.{Matching, exact, regex, greater_than, less_than, greater_or_equal, less_or_equal, Expected}
 use Rattle.verdicts.specs.Expected as expected
 use Rattle.verdicts.specs.Told.{PathInfo, Response, Info}
 use Rattle.verdicts.specs.Told as told
@@ -35,10 +35,10 @@ text_at bytes p = part bytes p.start p.len
 unfoldable pub matching_of : (text : List ℕ) → Matcher → Matching
 matching_of text (Exact p) = exact (text_at text p)
 matching_of text (Regex p) = regex (text_at text p)
-matching_of text (GreaterThan n) = greaterThan n
-matching_of text (LessThan n) = lessThan n
-matching_of text (GreaterOrEqual n) = greaterOrEqual n
-matching_of text (LessOrEqual n) = lessOrEqual n
+matching_of text (GreaterThan n) = greater_than n
+matching_of text (LessThan n) = less_than n
+matching_of text (GreaterOrEqual n) = greater_or_equal n
+matching_of text (LessOrEqual n) = less_or_equal n
 
 unfoldable pub expected_of : (text : List ℕ) → Expect → Expected
 expected_of text (Terminal p) = expected.terminal (text_at text p)

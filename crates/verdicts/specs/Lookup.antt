@@ -3,7 +3,7 @@
 use Rattle.std.specs.Prelude.{ℕ, Bool, true, false, List, [], ◌∷◌, ◌++◌, eqb}
 use Prim.Native.String.{String}
 use Rattle.std.proofs.Math.Option.{Option, none, some, map, get_or}
-use Rattle.text.specs.Base.{if◌then◌else◌}
+use Rattle.std.specs.Prelude.{if◌then◌else◌}
 use Rattle.text.specs.Literal.{utf8, spells}
 use Rattle.values.specs.Decimal.{decimal}
 use Rattle.verdicts.specs.Expected.{Expected, terminal, result, result_field, error, stderr_count, daemon, trust, server_features}

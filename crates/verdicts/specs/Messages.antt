@@ -5,7 +5,7 @@ use Prim.Native.String.{String}
 use Rattle.std.proofs.Math.Option.{Option, none, some}
 use Rattle.text.specs.Literal.{utf8}
 use Rattle.values.specs.Decimal.{decimal}
-use Rattle.verdicts.specs.Expected.{Matching, exact, regex, greaterThan, lessThan, greaterOrEqual, lessOrEqual, Expected, terminal, result, result_field, error, stderr_count, daemon, trust, server_features}
+use Rattle.verdicts.specs.Expected.{Matching, exact, regex, greater_than, less_than, greater_or_equal, less_or_equal, Expected, terminal, result, result_field, error, stderr_count, daemon, trust, server_features}
 use Rattle.verdicts.specs.Told.{Response, Info, Subject, greeting, reply}
 use Rattle.verdicts.specs.Lookup.{looked, looked_in, told_in}
 use Rattle.verdicts.specs.Decisions.{decides}
@@ -22,10 +22,10 @@ integer (negsuc n) = utf8 "-" ++ decimal (suc n)
 unfoldable pub shown : Matching → List ℕ
 shown (exact text) = text
 shown (regex pattern) = utf8 "/" ++ pattern ++ utf8 "/"
-shown (greaterThan n) = utf8 "> " ++ integer n
-shown (lessThan n) = utf8 "< " ++ integer n
-shown (greaterOrEqual n) = utf8 ">= " ++ integer n
-shown (lessOrEqual n) = utf8 "<= " ++ integer n
+shown (greater_than n) = utf8 "> " ++ integer n
+shown (less_than n) = utf8 "< " ++ integer n
+shown (greater_or_equal n) = utf8 ">= " ++ integer n
+shown (less_or_equal n) = utf8 "<= " ++ integer n
 
 -- ---- of a value that was looked up
 

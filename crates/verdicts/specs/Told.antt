@@ -16,9 +16,9 @@ pub data Result : Type 0 where
   str : List ℕ → Result
   path_info : PathInfo → Result
   string_set : List (List ℕ) → Result
-  collect_garbage : (bytesFreed : ℕ) → Result
-  substitutable_path_info : (valid : Bool) → (downloadSize nar_size : Option ℕ) → Result
-  missing : (downloadSize nar_size : ℕ) → Result
+  collect_garbage : (bytes_freed : ℕ) → Result
+  substitutable_path_info : (valid : Bool) → (download_size nar_size : Option ℕ) → Result
+  missing : (download_size nar_size : ℕ) → Result
 
 pub record Response : Type 0 where
   -- the name of the last message

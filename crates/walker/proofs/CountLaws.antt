@@ -7,7 +7,7 @@ use mathlib.Core.List.{List, ◌∷◌}
 use native.Mathlib.Omega.{arith}
 use lib.ListN.{length}
 use denote.Ref.{Bor}
-use Rattle.text.specs.Base.{if◌then◌else◌}
+use Rattle.std.specs.Prelude.{if◌then◌else◌}
 use Rattle.text.specs.Parts.{starts_with}
 use Rattle.text.specs.Lines.{lines}
 use Rattle.text.specs.declared.lines.Line.{Line}

@@ -3,7 +3,8 @@ use Prim.Native.Nat.{ℕ}
 use mathlib.Core.Path.{◌≡◌, sym, ◌∙◌}
 use mathlib.Core.Bool.{Bool, true, false}
 use mathlib.Core.List.{List}
-use Rattle.text.specs.Base.{if◌then◌else◌, BLANK}
+use Rattle.std.specs.Prelude.{if◌then◌else◌}
+use Rattle.text.specs.Base.{BLANK}
 use Rattle.text.specs.declared.parts.Span.{Span}
 use Rattle.wire.specs.Operations.{named, op_of}
 use Rattle.wire.specs.declared.ops.Op.{Op}

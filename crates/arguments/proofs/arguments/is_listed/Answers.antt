@@ -12,17 +12,17 @@ use Rattle.arguments.proofs.ArgumentLaws.{list-words}
 use borrow.Author.Rules.{rules}
 use Rattle.arguments.proofs.arguments.is_listed.Goals as goal
 
-other : (text : List ℕ) (takes : Takes) (listOpen : Bool) (t : Span) → (takes ≡ Options → ⊥) → false ≡ listed text takes listOpen t
+other : (text : List ℕ) (takes : Takes) (list_open : Bool) (t : Span) → (takes ≡ Options → ⊥) → false ≡ listed text takes list_open t
 unfolding listed
-other text NoLines listOpen t _ = refl
-other text Options listOpen t h = absurd (h refl)
-other text Garbage listOpen t _ = refl
-other text Verify listOpen t _ = refl
-other text Texts listOpen t _ = refl
-other text Store listOpen t _ = refl
-other text Multiple listOpen t _ = refl
-other text FirstData listOpen t _ = refl
-other text FirstRaw listOpen t _ = refl
+other text NoLines list_open t _ = refl
+other text Options list_open t h = absurd (h refl)
+other text Garbage list_open t _ = refl
+other text Verify list_open t _ = refl
+other text Texts list_open t _ = refl
+other text Store list_open t _ = refl
+other text Multiple list_open t _ = refl
+other text FirstData list_open t _ = refl
+other text FirstRaw list_open t _ = refl
 
 pub returns-then-not-list_open : goal.returns-then-not-list_open
 returns-then-not-list_open c = search (rules, list-words, not-true, not-false)

@@ -1,7 +1,7 @@
 -- `entries::entries::read_entries` meets its contract. Assumes nothing.
 use Prim.Native.Nat.{ℕ, ◌+◌}
 use mathlib.Core.Path.{◌≡◌, refl, ap}
-use Rattle.below.specs.declared.lines.Next.TheVariants.{End}
+use Rattle.below.specs.declared.lines_below.Next.TheVariants.{End}
 use Rattle.entries.proofs.EntriesLaws.{next_falls, next_in, next_weaker, gone_first, gone_store, all_table, all_items, all_expectations, all_store, table-room, items-room, expectations-room, store-room, table_fits, items_fit, expectations_fit, gone_on}
 use borrow.Author.Rules.{rules}
 use Rattle.entries.proofs.entries.read_entries.Goals as goal

@@ -9,7 +9,7 @@ other : (w : Where) → (w ≡ InPreamble → ⊥) → Outside ≡ below_empty w
 unfolding below_empty
 other InPreamble h = absurd (h refl)
 other Outside _ = refl
-other (InBlock takes listOpen) _ = refl
+other (InBlock takes list_open) _ = refl
 other InEntry _ = refl
 
 pub returns-in-InPreamble : goal.returns-in-InPreamble

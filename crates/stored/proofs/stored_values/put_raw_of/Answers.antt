@@ -1,0 +1,15 @@
+-- `stored::stored_values::put_raw_of` meets its contract. Assumes nothing.
+use Rattle.written.proofs.WrittenLaws.{same_laws, none_laws}
+use Rattle.said.proofs.SaidLaws.{said_in}
+use Rattle.stored.proofs.WriteLaws.{said_laws}
+use borrow.Author.Rules.{rules}
+use Rattle.stored.proofs.stored_values.put_raw_of.Goals as goal
+
+pub put_hex-requires : goal.put_hex-requires
+put_hex-requires c = search (rules, same_laws, said_laws, said_in)
+
+pub returns-in-Absent : goal.returns-in-Absent
+returns-in-Absent c = search (rules, none_laws, said_laws)
+
+pub returns-in-Is : goal.returns-in-Is
+returns-in-Is c = search (rules, same_laws, said_laws)
