@@ -1,6 +1,5 @@
 -- The lines up to the next opening line, and what stands from there on. Assumes nothing.
-use Rattle.std.specs.Prelude.{ℕ, ◌+◌, ◌≤◌, ◌<◌, Bool, true, false, List, [], ◌∷◌, length, drop}
-use Rattle.std.specs.Prelude.{if◌then◌else◌}
+use Rattle.std.specs.Prelude.{ℕ, ◌+◌, ◌≤◌, ◌<◌, Bool, true, false, List, [], ◌∷◌, length, drop, if◌then◌else◌}
 use Rattle.text.specs.Lines.{lines_from}
 use Rattle.script.specs.Values.{plain_rules}
 use Rattle.script.specs.Roles.{Marked, marked, roles_from}

@@ -1,8 +1,7 @@
 -- A list of calls as a host hands it over, in rows of 22 numbers: the kind (0 close, 1 handshake, any other an entry), the number, how many bytes of the
 -- scratch the call is lent, and from 3 on the row of the handshake's information or of the response (crates/rows). Its texts stand in the lent bytes, its
 -- lists in the lent table. Assumes nothing.
-use Rattle.std.specs.Prelude.{ℕ, List, map, drop, eqb}
-use Rattle.std.specs.Prelude.{if◌then◌else◌}
+use Rattle.std.specs.Prelude.{ℕ, List, map, drop, eqb, if◌then◌else◌}
 use Rattle.told.specs.Told.{counted}
 use Rattle.rows.specs.Rows.{at, info_row, response_row}
 use Rattle.tallies.specs.declared.tally.Outcome.{Outcome}

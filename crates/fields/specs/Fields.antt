@@ -1,7 +1,6 @@
 -- The fields of a line of stored answers: words, some of which spell numbers and some bytes in hex. Assumes nothing.
-use Rattle.std.specs.Prelude.{ℕ, zero, suc, ◌-◌, ◌*◌, ◌^◌, List, [], ◌∷◌, ◌++◌, eqb, leb, ℤ, length, take}
+use Rattle.std.specs.Prelude.{ℕ, zero, suc, ◌-◌, ◌*◌, ◌^◌, List, [], ◌∷◌, ◌++◌, eqb, leb, ℤ, length, take, if◌then◌else◌}
 use Rattle.std.proofs.Math.Option.{Option, none, some}
-use Rattle.std.specs.Prelude.{if◌then◌else◌}
 use Rattle.text.specs.Base.{◌&◌, part}
 use Rattle.text.specs.Words.{word_at}
 use Rattle.text.specs.declared.parts.Span.{Span}

@@ -1,6 +1,5 @@
 -- What only the code that looks for a pattern, many places at a time, needs. Assumes nothing.
-use Rattle.std.specs.Prelude.{ℕ, ◌+◌, ◌≤◌, ◌<◌, ◌≡◌, List, eqb, get_or}
-use Rattle.std.specs.Prelude.{if◌then◌else◌}
+use Rattle.std.specs.Prelude.{ℕ, ◌+◌, ◌≤◌, ◌<◌, ◌≡◌, List, eqb, get_or, if◌then◌else◌}
 use Rattle.text.specs.Base.{◌&◌}
 
 -- At no place from i up to, not including, j stands the first byte with the last one `reach` bytes behind it.

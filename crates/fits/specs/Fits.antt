@@ -1,7 +1,6 @@
 -- Whether the tables that are lent are long enough: 21, 22, 23, 24 of document 01. Assumes nothing.
 use Rattle.std.proofs.Math.Option.{Option, none, some}
-use Rattle.std.specs.Prelude.{ltb}
-use Rattle.std.specs.Prelude.{if◌then◌else◌}
+use Rattle.std.specs.Prelude.{ltb, if◌then◌else◌}
 use Rattle.script.specs.Reading.{refusal, room}
 use Rattle.script.specs.declared.records.Counts.{Counts}
 use Rattle.script.specs.declared.records.Refusal.{Refusal}

@@ -1,6 +1,5 @@
 -- Hex by one walk over the bytes, as the code takes it; `HexLaws` shows that it answers what the definition does. Assumes nothing.
-use Rattle.std.specs.Prelude.{ℕ, ◌+◌, ◌*◌, ◌<◌, ◌≡◌, List, [], ◌∷◌, eqb, ltb, length, get_or}
-use Rattle.std.specs.Prelude.{if◌then◌else◌}
+use Rattle.std.specs.Prelude.{ℕ, ◌+◌, ◌*◌, ◌<◌, ◌≡◌, List, [], ◌∷◌, eqb, ltb, length, get_or, if◌then◌else◌}
 use Rattle.text.specs.Base.{◌or◌, within, BLANK, PLUS}
 use Rattle.values.specs.Hex.{hex_value, is_hex}
 use Rattle.hexadecimal.specs.declared.HexStep.{HexStep}

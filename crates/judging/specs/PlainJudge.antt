@@ -1,8 +1,7 @@
 -- Document 01, "Verdicts": the plain judge of demand 3. It is fed the text, the verdict list's length and, of each call, its kind, number, handshake
 -- information or response, and scratch length; none of our records. Assumes nothing.
-use Rattle.std.specs.Prelude.{ℕ, ◌+◌, not, List, [], ◌∷◌, map, length, replicate, get_or, ltb, eqb}
+use Rattle.std.specs.Prelude.{ℕ, ◌+◌, not, List, [], ◌∷◌, map, length, replicate, get_or, ltb, eqb, if◌then◌else◌}
 use Rattle.std.proofs.Math.Option.{Option, none, some}
-use Rattle.std.specs.Prelude.{if◌then◌else◌}
 use Rattle.text.specs.declared.lines.Line.{Line}
 use Rattle.script.specs.Plain.{plain_lines, opened, expectation_lines, owners, stated}
 use Rattle.script.specs.declared.records.Refusal.{Refusal}

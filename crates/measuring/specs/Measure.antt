@@ -1,6 +1,5 @@
 -- Measure as a walk: one line after another, and all that is carried are numbers. `MeasureLaws` shows that it gives the counts of the reading. Assumes nothing.
-use Rattle.std.specs.Prelude.{ℕ, ◌+◌, not, List, [], ◌∷◌, length, ltb}
-use Rattle.std.specs.Prelude.{if◌then◌else◌}
+use Rattle.std.specs.Prelude.{ℕ, ◌+◌, not, List, [], ◌∷◌, length, ltb, if◌then◌else◌}
 use Rattle.text.specs.Utf8.{well_formed}
 use Rattle.text.specs.Lines.{lines}
 use Rattle.text.specs.declared.parts.Span.{Span}

@@ -1,7 +1,6 @@
 -- The four ordering matchers as the code tells them apart. Assumes nothing.
-use Rattle.std.specs.Prelude.{ℕ, Bool, eqb, ℤ}
+use Rattle.std.specs.Prelude.{ℕ, Bool, eqb, ℤ, if◌then◌else◌}
 use Rattle.std.specs.Int.Signed.{lt_z, le_z}
-use Rattle.std.specs.Prelude.{if◌then◌else◌}
 use Rattle.verdicts.specs.Expected as expected
 use Rattle.verdicts.specs.Expected.{Matching}
 use Rattle.orders.specs.declared.Order.{Order}

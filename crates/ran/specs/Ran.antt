@@ -1,6 +1,5 @@
 -- A script read and judged by a list of calls: what the plain judge of demand 3, which sees the text alone, leaves, and what is answered. Assumes nothing.
-use Rattle.std.specs.Prelude.{ℕ, List, length, ltb}
-use Rattle.std.specs.Prelude.{if◌then◌else◌}
+use Rattle.std.specs.Prelude.{ℕ, List, length, ltb, if◌then◌else◌}
 use Rattle.script.specs.Reading.{Parsed, refused_at, read}
 use Rattle.script.specs.declared.records.Script.{Script}
 use Rattle.judge.specs.Tally.{tally_of}

@@ -1,6 +1,5 @@
 -- What a line of the sample comes to. Assumes nothing.
-use Rattle.std.specs.Prelude.{ℕ, List}
-use Rattle.std.specs.Prelude.{if◌then◌else◌}
+use Rattle.std.specs.Prelude.{ℕ, List, if◌then◌else◌}
 use Rattle.text.specs.Literal.{spells}
 use Rattle.text.specs.Words.{word_at}
 use Rattle.fields.specs.Fields.{word_bytes}

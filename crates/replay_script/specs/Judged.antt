@@ -1,7 +1,6 @@
 -- What a stored answer of the Rust to Message says, and whether Message does so. On a line, behind the word `judged`: 39 numbers; the number of the
 -- matcher; in hex the text, the bytes of what it is judged against, and the message. Assumes nothing.
-use Rattle.std.specs.Prelude.{ℕ, Bool, false, List, ℤ, length, get_or}
-use Rattle.std.specs.Prelude.{if◌then◌else◌}
+use Rattle.std.specs.Prelude.{ℕ, Bool, false, List, ℤ, length, get_or, if◌then◌else◌}
 use Rattle.text.specs.Base.{part}
 use Rattle.verdicts.specs.Told.{Subject, greeting, reply}
 use Rattle.verdicts.specs.Held.{expected_of, response_of, info_of, expect_in, response_in, info_in}

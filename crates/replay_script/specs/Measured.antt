@@ -1,8 +1,7 @@
 -- Whether Measure answers what is stored. On a line, behind the word `measure`: the refusal's number or 0, its line, entries, items, expectations, store
 -- bytes; and the text in hex. Assumes nothing.
-use Rattle.std.specs.Prelude.{ℕ, List, eqb, get_or, drop}
+use Rattle.std.specs.Prelude.{ℕ, List, eqb, get_or, drop, if◌then◌else◌}
 use Rattle.std.proofs.Math.Option.{Option, none, some}
-use Rattle.std.specs.Prelude.{if◌then◌else◌}
 use Rattle.text.specs.Trim.{trimmed}
 use Rattle.script.specs.Reading.{Parsed, measured}
 use Rattle.script.specs.declared.records.Counts.{Counts}

@@ -1,6 +1,5 @@
 -- How an indented line begins, the sorts of lines, and where the line below an empty one stands. Assumes nothing.
-use Rattle.std.specs.Prelude.{ℕ, List}
-use Rattle.std.specs.Prelude.{if◌then◌else◌}
+use Rattle.std.specs.Prelude.{ℕ, List, if◌then◌else◌}
 use Rattle.text.specs.Base.{◌or◌}
 use Rattle.text.specs.declared.parts.Span.{Span}
 use Rattle.script.specs.Pieces.{is_empty, begins}

@@ -1,7 +1,6 @@
 -- Rows of numbers: a host hands over numbers and byte slices only, so an expectation, a response and the handshake's information come in rows. A row
 -- that is too short has 0 for what is missing; a number that stands for no kind reads as the last one. Assumes nothing.
-use Rattle.std.specs.Prelude.{ℕ, ◌%◌, Bool, not, List, get_or, eqb, ℤ}
-use Rattle.std.specs.Prelude.{if◌then◌else◌}
+use Rattle.std.specs.Prelude.{ℕ, ◌%◌, Bool, not, List, get_or, eqb, ℤ, if◌then◌else◌}
 use Rattle.version.specs.declared.ProtocolVersion.{ProtocolVersion}
 use Rattle.script.specs.declared.records.Place.{Place}
 use Rattle.script.specs.declared.records.Items.{Items}

@@ -1,5 +1,4 @@
-// A script read into tables of its own and judged by a list of calls, for a host that has no records. The function here holds slices of records: its
-// derivation is made by tools/walk.py.
+// A script read into tables of its own and judged by a list of calls, for a host that has no records. The function here holds slices of records.
 #![tactic(auto)]
 
 ghost use Rattle.std.specs.Prelude.{map, ◌≡◌, length};

@@ -1,8 +1,7 @@
 -- The values that were said so far, by key, in two lists of numbers: where the last value of each key starts and where it ends. A key that was not said
 -- ends before it starts. Assumes nothing.
-use Rattle.std.specs.Prelude.{ℕ, List, ltb, get_or}
+use Rattle.std.specs.Prelude.{ℕ, List, ltb, get_or, if◌then◌else◌}
 use Rattle.std.proofs.Math.Option.{Option, none, some}
-use Rattle.std.specs.Prelude.{if◌then◌else◌}
 use Rattle.text.specs.Parts.{span}
 use Rattle.text.specs.declared.parts.Span.{Span}
 use Rattle.script.specs.Operations.{key_row}

@@ -1,8 +1,7 @@
 -- Document 01, "The script": what a script holds, the Rust's own `Script`, read off what its lines are. A value that is a part of the text is a piece of
 -- it; a value that goes into the store is its bytes. Assumes nothing.
-use Rattle.std.specs.Prelude.{ℕ, ◌^◌, Bool, true, false, not, List, [], ◌∷◌, ◌++◌}
+use Rattle.std.specs.Prelude.{ℕ, ◌^◌, Bool, true, false, not, List, [], ◌∷◌, ◌++◌, if◌then◌else◌}
 use Rattle.std.proofs.Math.Option.{Option, none, some}
-use Rattle.std.specs.Prelude.{if◌then◌else◌}
 use Rattle.text.specs.Base.{BLANK}
 use Rattle.values.specs.Numbers.{number}
 use Rattle.text.specs.declared.parts.Span.{Span}
@@ -57,7 +56,7 @@ pub data Call : Type 0 where
   AddPermRoot : (path gc-root : Span) → Call
   AddSignatures : (path : Span) → (sigs : List Span) → Call
   AddTextToStore : (suffix text : List ℕ) → (refs : List Span) → Call
-  AddToStore : (name cam_str_lem : List ℕ) → (refs : List Span) → (repair : Bool) → (contents : Framed) → Call
+  AddToStore : (name cam_str : List ℕ) → (refs : List Span) → (repair : Bool) → (contents : Framed) → Call
   AddMultipleToStore : (repair dont-check-sigs : Bool) → (contents : Framed) → Call
   AddBuildLog : (path : Span) → (contents : Framed) → Call
   RegisterDrvOutput : (value : Span) → Call

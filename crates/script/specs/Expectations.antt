@@ -1,7 +1,6 @@
 -- Document 01, "The script", and `parse_expect` and `parse_matcher` of the Rust: expectations and their matchers. Assumes nothing.
-use Rattle.std.specs.Prelude.{ℕ, ◌-◌, List, [], ◌∷◌, ltb, ℤ}
+use Rattle.std.specs.Prelude.{ℕ, ◌-◌, List, [], ◌∷◌, ltb, ℤ, if◌then◌else◌}
 use Rattle.std.proofs.Math.Option.{Option, none, some}
-use Rattle.std.specs.Prelude.{if◌then◌else◌}
 use Rattle.text.specs.Base.{◌&◌}
 use Rattle.values.specs.Numbers.{signed}
 use Rattle.text.specs.declared.parts.Span.{Span}

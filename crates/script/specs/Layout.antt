@@ -79,11 +79,11 @@ laid i b (AddTextToStore suffix text refs) =
     (OpCall.AddTextToStore (place_of b (length suffix)) (place_of (b + length suffix) (length text)) (listed i refs))
     refs
     (suffix ++ text)
-laid i b (AddToStore name cam_str_lem refs repair contents) =
+laid i b (AddToStore name cam_str refs repair contents) =
     laid_out
-    (OpCall.AddToStore (place_of b (length name)) (place_of (b + length name) (length cam_str_lem)) (listed i refs) repair (framed_at (b + length name + length cam_str_lem) contents))
+    (OpCall.AddToStore (place_of b (length name)) (place_of (b + length name) (length cam_str)) (listed i refs) repair (framed_at (b + length name + length cam_str) contents))
     refs
-    (name ++ cam_str_lem ++ stored_of contents)
+    (name ++ cam_str ++ stored_of contents)
 laid i b (AddMultipleToStore repair dont-check-sigs contents) =
     laid_out (OpCall.AddMultipleToStore repair dont-check-sigs (framed_at b contents)) [] (stored_of contents)
 laid i b (AddBuildLog path contents) = laid_out (OpCall.AddBuildLog (place path) (framed_at b contents)) [] (stored_of contents)

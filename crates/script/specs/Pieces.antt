@@ -1,9 +1,8 @@
 -- Pieces of a text. A piece is a span of places; its bytes are those that the text has there, so a piece cannot say anything that the text does not.
 -- Assumes nothing.
-use Rattle.std.specs.Prelude.{ℕ, zero, suc, ◌+◌, ◌-◌, Bool, List, map, eqb}
+use Rattle.std.specs.Prelude.{ℕ, zero, suc, ◌+◌, ◌-◌, Bool, List, map, eqb, if◌then◌else◌}
 use Prim.Native.String.{String}
 use Rattle.std.proofs.Math.Option.{Option, none, some}
-use Rattle.std.specs.Prelude.{if◌then◌else◌}
 use Rattle.text.specs.Base.{part}
 use Rattle.text.specs.Literal.{spells, begins_with, word_length}
 use Rattle.text.specs.Trim.{trim_place}

@@ -1,7 +1,6 @@
 -- Document 01, "Verdicts": the lines as the plain judge sees them, from the text alone. Assumes nothing.
-use Rattle.std.specs.Prelude.{ℕ, suc, Bool, true, false, List, [], ◌∷◌, ◌++◌}
+use Rattle.std.specs.Prelude.{ℕ, suc, Bool, true, false, List, [], ◌∷◌, ◌++◌, if◌then◌else◌}
 use Rattle.std.proofs.Math.Option.{Option, none, some}
-use Rattle.std.specs.Prelude.{if◌then◌else◌}
 use Rattle.text.specs.Base.{◌or◌, BLANK}
 use Rattle.text.specs.Lines.{lines, indented}
 use Rattle.text.specs.declared.parts.Span.{Span}

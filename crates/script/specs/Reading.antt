@@ -1,7 +1,6 @@
 -- Document 01: the reading of a text, and Measure's refusals. Assumes nothing.
-use Rattle.std.specs.Prelude.{ℕ, min, not, List, [], ◌∷◌, map, length, ltb}
+use Rattle.std.specs.Prelude.{ℕ, min, not, List, [], ◌∷◌, map, length, ltb, if◌then◌else◌}
 use Rattle.std.proofs.Math.Option.{Option, none, some}
-use Rattle.std.specs.Prelude.{if◌then◌else◌}
 use Rattle.text.specs.Utf8.{well_formed}
 use Rattle.text.specs.Lines.{lines}
 use Rattle.script.specs.Answers.{first_of}

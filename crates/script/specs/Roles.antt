@@ -1,8 +1,7 @@
 -- Document 01, "The script": what each line of a text is. One line after another, and all that is carried from line to line is where the line stands.
 -- Assumes nothing.
-use Rattle.std.specs.Prelude.{ℕ, ◌+◌, Bool, true, false, not, List, [], ◌∷◌, eqb}
+use Rattle.std.specs.Prelude.{ℕ, ◌+◌, Bool, true, false, not, List, [], ◌∷◌, eqb, if◌then◌else◌}
 use Rattle.std.proofs.Math.Option.{Option, none, some}
-use Rattle.std.specs.Prelude.{if◌then◌else◌}
 use Rattle.text.specs.Base.{◌&◌, ◌or◌, BLANK, QUOTE}
 use Rattle.text.specs.Parts.{span}
 use Rattle.text.specs.Lines.{indented}

@@ -1,7 +1,6 @@
 -- Document 01, "The script": timestamps. Assumes nothing.
-use Rattle.std.specs.Prelude.{ℕ, ◌+◌, Bool, false, List, [], ◌∷◌, ◌++◌, map, length, eqb, leb, pos}
+use Rattle.std.specs.Prelude.{ℕ, ◌+◌, Bool, false, List, [], ◌∷◌, ◌++◌, map, length, eqb, leb, pos, if◌then◌else◌}
 use Rattle.std.proofs.Math.Option.{Option, none, some}
-use Rattle.std.specs.Prelude.{if◌then◌else◌}
 use Rattle.text.specs.Base.{◌&◌, ◌or◌, within, PLUS, MINUS}
 use Rattle.text.specs.Literal.{spells}
 use Rattle.text.specs.Parts.{span, pair_position}

@@ -1,7 +1,6 @@
 -- Document 01, "Lines and words" and "The script": the values that stand in the store, and data. Assumes nothing.
-use Rattle.std.specs.Prelude.{ℕ, List, [], ◌∷◌, eqb}
+use Rattle.std.specs.Prelude.{ℕ, List, [], ◌∷◌, eqb, if◌then◌else◌}
 use Rattle.std.proofs.Math.Option.{some}
-use Rattle.std.specs.Prelude.{if◌then◌else◌}
 use Rattle.text.specs.Base.{QUOTE}
 use Rattle.values.specs.Hex.{hex_decoded}
 use Rattle.values.specs.Unquote.{unquoted}

@@ -278,30 +278,30 @@ module _ (text starts ends : List ℕ) (b : ℕ) where
   abbrev name : List ℕ
   name = unquoted_of plain_rules text (piece_at starts ends Key.Name)
 
-  abbrev cam_str_lem : List ℕ
-  cam_str_lem = unquoted_of plain_rules text (piece_at starts ends Key.CamStr)
+  abbrev cam_str : List ℕ
+  cam_str = unquoted_of plain_rules text (piece_at starts ends Key.CamStr)
 
   abbrev contents : List ℕ
   contents = stored_of (data_of plain_rules text (piece_at starts ends Key.Data))
 
   -- there is room for all three
-  pub store-room : (m : ℕ) → b + length (stored_by text (piece_at starts ends) Store) ≤ m → b + length name + length cam_str_lem + length contents ≤ m
+  pub store-room : (m : ℕ) → b + length (stored_by text (piece_at starts ends) Store) ≤ m → b + length name + length cam_str + length contents ≤ m
   unfolding stored_by first_by second_by third_by
-  store-room m h = omega (arith, length-append (name ++ cam_str_lem) contents, length-append name cam_str_lem)
+  store-room m h = omega (arith, length-append (name ++ cam_str) contents, length-append name cam_str)
 
   -- one written behind the other
-  pub store_written : (s t u v : List ℕ) (n m : ℕ) → b + length (stored_by text (piece_at starts ends) Store) ≤ length s → n ≡ length name → t ≡ written_at b name s → m ≡ length cam_str_lem
-      → u ≡ written_at (b + n) cam_str_lem t → v ≡ written_at (b + n + m) contents u → v ≡ written_at b (stored_by text (piece_at starts ends) Store) s
+  pub store_written : (s t u v : List ℕ) (n m : ℕ) → b + length (stored_by text (piece_at starts ends) Store) ≤ length s → n ≡ length name → t ≡ written_at b name s → m ≡ length cam_str
+      → u ≡ written_at (b + n) cam_str t → v ≡ written_at (b + n + m) contents u → v ≡ written_at b (stored_by text (piece_at starts ends) Store) s
   unfolding stored_by first_by second_by third_by
   store_written s t u v n m h e w f x y =
       let room = store-room (length s) h in
-      let both = length-append name cam_str_lem in
+      let both = length-append name cam_str in
       then_written
       b
-      (name ++ cam_str_lem)
+      (name ++ cam_str)
       s
       u
-      (then_written b name s t w (b + n) cam_str_lem u (omega arith) x (omega arith))
+      (then_written b name s t w (b + n) cam_str u (omega arith) x (omega arith))
       (b + n + m)
       contents
       v

@@ -1,7 +1,6 @@
 -- The refusals of a call, of which the first that applies counts; and what Close answers. Assumes nothing.
-use Rattle.std.specs.Prelude.{ℕ, ◌+◌, Bool, not, List, [], ◌∷◌, eqb}
+use Rattle.std.specs.Prelude.{ℕ, ◌+◌, Bool, not, List, [], ◌∷◌, eqb, if◌then◌else◌}
 use Rattle.std.proofs.Math.Option.{Option, none, some}
-use Rattle.std.specs.Prelude.{if◌then◌else◌}
 use Rattle.script.specs.Reading.{refusal}
 use Rattle.script.specs.declared.records.Refusal.{Refusal}
 use Rattle.tallies.specs.declared.tally.Counts.{Counts}

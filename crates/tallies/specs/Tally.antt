@@ -1,7 +1,6 @@
 -- Document 01, "Verdicts": a tally holds the next number (0 handshake, entries from 1) and counts of passed, failed, undecided. Closing says: failed if any
 -- failed; else undecided if any; else nothing checked if there is no verdict; else passed. Assumes nothing.
-use Rattle.std.specs.Prelude.{◌+◌, Bool, List, [], ◌∷◌, ltb, eqb}
-use Rattle.std.specs.Prelude.{if◌then◌else◌}
+use Rattle.std.specs.Prelude.{◌+◌, Bool, List, [], ◌∷◌, ltb, eqb, if◌then◌else◌}
 use Rattle.text.specs.Base.{◌or◌}
 use Rattle.verdicts.specs.declared.Verdict.{Verdict}
 use Rattle.tallies.specs.declared.tally.Counts.{Counts}

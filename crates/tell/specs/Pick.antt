@@ -1,6 +1,5 @@
 -- What only the code of Message needs. Assumes nothing.
-use Rattle.std.specs.Prelude.{ℕ, List}
-use Rattle.std.specs.Prelude.{if◌then◌else◌}
+use Rattle.std.specs.Prelude.{ℕ, List, if◌then◌else◌}
 use Rattle.script.specs.declared.records.Expectation.{Expectation}
 use Rattle.tell.specs.Tell.{placed, expect_at}
 use Rattle.tell.specs.declared.picks.Picked.{Picked}

@@ -55,7 +55,7 @@ texts :
 unfolding utf8 within well_formed well_formed_from table after scalars scalars_from trimmed trimmed_front trimmed_back strip_from size_of begins white_bytes backwards trim_place lines lines_from indented starts_with ends_with same_bytes position position_from pair_position pair_position_from split split_from words words_from
 texts = (refl, refl, refl, refl, refl, refl, refl, refl, refl, refl, refl, refl, refl, refl, refl, refl, refl, refl, refl, refl, refl, refl, refl, refl, refl, refl, refl, refl, refl, refl, refl, refl, refl, refl, refl, refl, refl, refl)
 
--- ---- The rows of whiteBytes are the encodings of the code points of whiteSpace, in order, and nothing else; and there are 25
+-- ---- The rows of white_bytes are the encodings of the code points of white_space, in order, and nothing else; and there are 25
 
 -- n numbers from x on
 counted : (x n : ℕ) → List ℕ

@@ -1,6 +1,5 @@
 -- Document 01, "Lines and words": lines. Assumes nothing.
-use Rattle.std.specs.Prelude.{ℕ, ◌+◌, ◌-◌, Bool, List, [], ◌∷◌, eqb, length, drop}
-use Rattle.std.specs.Prelude.{if◌then◌else◌}
+use Rattle.std.specs.Prelude.{ℕ, ◌+◌, ◌-◌, Bool, List, [], ◌∷◌, eqb, length, drop, if◌then◌else◌}
 use Rattle.text.specs.Base.{◌or◌, part, LF, CR}
 use Rattle.text.specs.Literal.{utf8}
 use Rattle.text.specs.Parts.{starts_with}

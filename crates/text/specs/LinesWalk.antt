@@ -1,6 +1,5 @@
 -- What only the code that finds a line needs (src/lines.rt). Assumes nothing.
-use Rattle.std.specs.Prelude.{ℕ, ◌-◌, List, eqb, ltb, get_or}
-use Rattle.std.specs.Prelude.{if◌then◌else◌}
+use Rattle.std.specs.Prelude.{ℕ, ◌-◌, List, eqb, ltb, get_or, if◌then◌else◌}
 use Rattle.text.specs.Base.{◌&◌, CR}
 
 -- where a line that began at start ends if its LF stands at lf

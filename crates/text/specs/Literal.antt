@@ -1,8 +1,7 @@
 -- How words are written down in definitions and worked examples: as quoted text. Assumes nothing.
-use Rattle.std.specs.Prelude.{ℕ, suc, Bool, true, false, List, [], ◌∷◌, ◌++◌, eqb}
+use Rattle.std.specs.Prelude.{ℕ, suc, Bool, true, false, List, [], ◌∷◌, ◌++◌, eqb, if◌then◌else◌}
 use Prim.Native.Char.{code}
 use Prim.Native.String.{String, [] as []ˢ, ◌∷◌ as ◌∷ˢ◌}
-use Rattle.std.specs.Prelude.{if◌then◌else◌}
 use Rattle.text.specs.Unicode.{encoded}
 
 -- the bytes of a quoted text, in UTF-8

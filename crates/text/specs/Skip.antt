@@ -1,6 +1,5 @@
 -- What only the code that looks for a byte eight at a time needs (src/skip.rt). Assumes nothing.
-use Rattle.std.specs.Prelude.{ℕ, ◌≤◌, ◌<◌, ◌≡◌, List, eqb, get_or}
-use Rattle.std.specs.Prelude.{if◌then◌else◌}
+use Rattle.std.specs.Prelude.{ℕ, ◌≤◌, ◌<◌, ◌≡◌, List, eqb, get_or, if◌then◌else◌}
 
 -- b does not stand from i up to, not including, j
 unfoldable pub Without : (b : ℕ) → List ℕ → (i j : ℕ) → Type 0

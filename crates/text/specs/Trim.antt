@@ -1,8 +1,7 @@
 -- Document 01, "Lines and words": trimming removes the White_Space characters at both ends. Said first of scalar values, then of bytes: as long as a text
 -- begins (ends) with the encoding of a White_Space character, that is taken off. The second says something of any bytes, UTF-8 or not; of the encodings of
 -- scalar values both say the same (characters/proofs/TrimTheorem.antt). Assumes nothing.
-use Rattle.std.specs.Prelude.{ℕ, zero, suc, ◌-◌, Bool, true, false, List, [], ◌∷◌, reverse, eqb, length}
-use Rattle.std.specs.Prelude.{if◌then◌else◌}
+use Rattle.std.specs.Prelude.{ℕ, zero, suc, ◌-◌, Bool, true, false, List, [], ◌∷◌, reverse, eqb, length, if◌then◌else◌}
 use Rattle.text.specs.Base.{◌&◌, within}
 use Rattle.text.specs.Utf8.{Range, ◌to◌}
 use Rattle.text.specs.Unicode.{white}

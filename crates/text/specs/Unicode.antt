@@ -1,6 +1,5 @@
 -- The Unicode Standard: scalar values, their encoding in UTF-8 and back, and the White_Space characters. Assumes nothing.
-use Rattle.std.specs.Prelude.{ℕ, zero, suc, ◌+◌, ◌*◌, ◌/◌, ◌%◌, Bool, true, false, List, [], ◌∷◌, ◌++◌, eqb, ltb}
-use Rattle.std.specs.Prelude.{if◌then◌else◌}
+use Rattle.std.specs.Prelude.{ℕ, zero, suc, ◌+◌, ◌*◌, ◌/◌, ◌%◌, Bool, true, false, List, [], ◌∷◌, ◌++◌, eqb, ltb, if◌then◌else◌}
 use Rattle.text.specs.Base.{◌&◌, ◌or◌, within}
 use Rattle.text.specs.Utf8.{Range, ◌to◌}
 

@@ -1,8 +1,7 @@
 -- Document 01, "Lines and words": UTF-8. A list of bytes is well formed if it is a row of ranges of table 3-7 of The Unicode Standard after the other.
 -- That this is what the Standard defines, the encodings of scalar values, is proved in characters/proofs/Unicode.antt. Assumes nothing.
-use Rattle.std.specs.Prelude.{ℕ, Bool, true, false, List, [], ◌∷◌}
+use Rattle.std.specs.Prelude.{ℕ, Bool, true, false, List, [], ◌∷◌, if◌then◌else◌}
 use Rattle.std.proofs.Math.Option.{Option, none, some}
-use Rattle.std.specs.Prelude.{if◌then◌else◌}
 use Rattle.text.specs.Base.{◌&◌, within}
 
 -- the numbers from lo to hi, both included

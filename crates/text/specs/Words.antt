@@ -1,6 +1,5 @@
 -- Document 01, "The script": a feature set without braces is split at white space. The words of a text stand between White_Space characters. Assumes nothing.
-use Rattle.std.specs.Prelude.{ℕ, zero, suc, ◌+◌, ◌-◌, List, [], ◌∷◌, eqb, drop}
-use Rattle.std.specs.Prelude.{if◌then◌else◌}
+use Rattle.std.specs.Prelude.{ℕ, zero, suc, ◌+◌, ◌-◌, List, [], ◌∷◌, eqb, drop, if◌then◌else◌}
 use Rattle.text.specs.Trim.{white_bytes, size_of}
 use Rattle.text.specs.declared.parts.Span.{Span}
 use Rattle.text.specs.Parts.{span}

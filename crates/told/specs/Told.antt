@@ -1,7 +1,6 @@
 -- Document 01, *Message* (one expectation, judged afresh as handshake or entry, a present value left in the scratch; the message stands at the start of
 -- its buffer, the rest untouched): 31, 32, 34, then 38 message longer than its buffer. Assumes nothing.
-use Rattle.std.specs.Prelude.{ℕ, Bool, not, List, length, take, ltb}
-use Rattle.std.specs.Prelude.{if◌then◌else◌}
+use Rattle.std.specs.Prelude.{ℕ, Bool, not, List, length, take, ltb, if◌then◌else◌}
 use Rattle.text.specs.Base.{overlaid}
 use Rattle.script.specs.Reading.{refusal}
 use Rattle.verdicts.specs.Expected.{Expected}

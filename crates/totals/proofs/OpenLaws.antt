@@ -17,8 +17,8 @@ use Rattle.measuring.specs.declared.Open.{Open}
 use Rattle.counts.specs.Counts.{set_count, quoted_count, data_count, raw_count, feature_count, inline_items}
 use Rattle.measuring.specs.Measure.{begun, told, pairs_on, say_on, opened, entry_items, entry_store, items_of, store_of, closed_items, closed_store, counts, close_on, entered}
 
-abbrev pub opens : (what : What) → (inline pairs paths refs suffix text name cam_str_lem contents raw features server-features : ℕ) → Open
-opens what inline pairs paths refs suffix text name cam_str_lem contents raw features server-features = record {
+abbrev pub opens : (what : What) → (inline pairs paths refs suffix text name cam_str contents raw features server_features : ℕ) → Open
+opens what inline pairs paths refs suffix text name cam_str contents raw features server_features = record {
   what = what;
   inline = inline;
   pairs = pairs;
@@ -27,11 +27,11 @@ opens what inline pairs paths refs suffix text name cam_str_lem contents raw fea
   suffix = suffix;
   text = text;
   name = name;
-  cam_str = cam_str_lem;
+  cam_str = cam_str;
   «data» = contents;
   raw = raw;
   features = features;
-  server_features = server-features;
+  server_features = server_features;
 }
 
 -- a line with a key whose value takes n items or bytes: that number alone is overwritten

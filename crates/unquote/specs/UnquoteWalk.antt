@@ -1,7 +1,6 @@
 -- The five replacements by one walk over the bytes, as the code takes it; `UnquoteLaws` shows that it answers what the definition does. A
 -- token is the byte that comes out next and how many bytes it stands for. Assumes nothing.
-use Rattle.std.specs.Prelude.{ℕ, ◌+◌, List, eqb, get_or}
-use Rattle.std.specs.Prelude.{if◌then◌else◌}
+use Rattle.std.specs.Prelude.{ℕ, ◌+◌, List, eqb, get_or, if◌then◌else◌}
 use Rattle.text.specs.Base.{◌&◌, TAB, LF, CR, QUOTE, BACKSLASH}
 use Rattle.unquote.specs.declared.Token.{Token}
 

@@ -1,6 +1,5 @@
 -- A number in decimal digits, with no zero in front. Assumes nothing.
-use Rattle.std.specs.Prelude.{ℕ, zero, suc, ◌+◌, ◌/◌, ◌%◌, List, [], ◌∷◌, ◌++◌, ltb}
-use Rattle.std.specs.Prelude.{if◌then◌else◌}
+use Rattle.std.specs.Prelude.{ℕ, zero, suc, ◌+◌, ◌/◌, ◌%◌, List, [], ◌∷◌, ◌++◌, ltb, if◌then◌else◌}
 
 -- The digits of n in at most so many steps: the last digit stands behind the digits of the tenth.
 unfoldable pub decimal_by : (steps n : ℕ) → List ℕ

@@ -1,6 +1,5 @@
 -- Document 01, "Lines and words": hex. Assumes nothing.
-use Rattle.std.specs.Prelude.{ℕ, ◌+◌, ◌-◌, ◌*◌, Bool, List, [], ◌∷◌, ◌++◌, eqb, ltb}
-use Rattle.std.specs.Prelude.{if◌then◌else◌}
+use Rattle.std.specs.Prelude.{ℕ, ◌+◌, ◌-◌, ◌*◌, Bool, List, [], ◌∷◌, ◌++◌, eqb, ltb, if◌then◌else◌}
 use Rattle.text.specs.Base.{◌&◌, within, BLANK, PLUS}
 
 -- a text without the bytes that pass the test

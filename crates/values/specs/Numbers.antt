@@ -1,8 +1,7 @@
 -- Document 01, "Lines and words": numbers are as Rust's `parse`: digits, at least one, in range; `+` allowed; `-` only for i64.
 -- Assumes nothing.
-use Rattle.std.specs.Prelude.{ℕ, zero, suc, ◌+◌, ◌-◌, ◌*◌, ◌^◌, Bool, true, List, [], ◌∷◌, eqb, ltb, ℤ, pos, negsuc}
+use Rattle.std.specs.Prelude.{ℕ, zero, suc, ◌+◌, ◌-◌, ◌*◌, ◌^◌, Bool, true, List, [], ◌∷◌, eqb, ltb, ℤ, pos, negsuc, if◌then◌else◌}
 use Rattle.std.proofs.Math.Option.{Option, none, some, map}
-use Rattle.std.specs.Prelude.{if◌then◌else◌}
 use Rattle.text.specs.Base.{◌&◌, within, PLUS, MINUS}
 use Rattle.values.specs.declared.number.Number.{Number}
 use Rattle.values.specs.declared.number.Number.TheVariants as number-variants

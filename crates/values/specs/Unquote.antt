@@ -1,6 +1,5 @@
 -- Document 01, "Lines and words": unquoting. Assumes nothing.
-use Rattle.std.specs.Prelude.{ℕ, ◌-◌, Bool, List, [], ◌∷◌, eqb, leb, length, get_or}
-use Rattle.std.specs.Prelude.{if◌then◌else◌}
+use Rattle.std.specs.Prelude.{ℕ, ◌-◌, Bool, List, [], ◌∷◌, eqb, leb, length, get_or, if◌then◌else◌}
 use Rattle.text.specs.Base.{◌&◌, part, TAB, LF, CR, QUOTE, BACKSLASH}
 
 -- text with `"` at both ends and length 2 or more

@@ -1,6 +1,5 @@
 -- How a host is given a verdict alone: by its number, or 31, or 32. Assumes nothing.
-use Rattle.std.specs.Prelude.{ℕ, Bool, not, List, length}
-use Rattle.std.specs.Prelude.{if◌then◌else◌}
+use Rattle.std.specs.Prelude.{ℕ, Bool, not, List, length, if◌then◌else◌}
 use Rattle.script.specs.declared.records.Expect.{Expect}
 use Rattle.script.specs.declared.response.DaemonResponse.{DaemonResponse}
 use Rattle.script.specs.declared.response.HandshakeInfo.{HandshakeInfo}

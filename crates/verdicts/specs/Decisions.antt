@@ -1,9 +1,8 @@
 -- Document 01, "Verdicts": what a matcher decides of a value. Ordering matchers compare as i64; a value that is no i64 fails. A pattern without any of
 -- `\ . + * ? ( ) | [ ] { } ^ $` passes if the value contains it; with one of them it is undecided. Assumes nothing.
-use Rattle.std.specs.Prelude.{ℕ, Bool, true, false, not, List, [], ◌∷◌, eqb, ℤ}
+use Rattle.std.specs.Prelude.{ℕ, Bool, true, false, not, List, [], ◌∷◌, eqb, ℤ, if◌then◌else◌}
 use Rattle.std.proofs.Math.Option.{Option, none, some}
 use Rattle.std.specs.Int.Signed.{lt_z, le_z}
-use Rattle.std.specs.Prelude.{if◌then◌else◌}
 use Rattle.text.specs.Base.{◌&◌, ◌or◌}
 use Rattle.text.specs.Literal.{utf8}
 use Rattle.text.specs.Parts.{starts_with, same_bytes}

@@ -1,9 +1,8 @@
 -- Document 01, "Verdicts": the value looked up is that of `extract_result_value`, or the handshake text; lists are joined by comma and blank, in
 -- `[` `]` or, for features, `{ ` and ` }`. Assumes nothing.
-use Rattle.std.specs.Prelude.{ℕ, Bool, true, false, List, [], ◌∷◌, ◌++◌, eqb}
+use Rattle.std.specs.Prelude.{ℕ, Bool, true, false, List, [], ◌∷◌, ◌++◌, eqb, if◌then◌else◌}
 use Prim.Native.String.{String}
 use Rattle.std.proofs.Math.Option.{Option, none, some, map, get_or}
-use Rattle.std.specs.Prelude.{if◌then◌else◌}
 use Rattle.text.specs.Literal.{utf8, spells}
 use Rattle.values.specs.Decimal.{decimal}
 use Rattle.verdicts.specs.Expected.{Expected, terminal, result, result_field, error, stderr_count, daemon, trust, server_features}

@@ -1,7 +1,6 @@
 -- Document 01, "Verdicts": the verdict of one expectation, and its number in a slot. Assumes nothing.
-use Rattle.std.specs.Prelude.{ℕ, List, eqb}
+use Rattle.std.specs.Prelude.{ℕ, List, eqb, if◌then◌else◌}
 use Rattle.std.proofs.Math.Option.{Option, none, some}
-use Rattle.std.specs.Prelude.{if◌then◌else◌}
 use Rattle.text.specs.Parts.{same_bytes}
 use Rattle.verdicts.specs.Expected.{Matching, Expected, terminal, result, result_field, error, stderr_count, daemon, trust, server_features}
 use Rattle.verdicts.specs.Told.{Response, Info, Subject, greeting, reply}

@@ -1,6 +1,5 @@
 -- How many bytes the code sets aside for a number, and what is left of a room. Assumes nothing.
-use Rattle.std.specs.Prelude.{ℕ, ◌-◌, leb}
-use Rattle.std.specs.Prelude.{if◌then◌else◌}
+use Rattle.std.specs.Prelude.{ℕ, ◌-◌, leb, if◌then◌else◌}
 use Rattle.writing.specs.declared.room.Room.{Room}
 use Rattle.writing.specs.declared.room.Room.TheVariants.{Left, Short}
 

@@ -1,4 +1,4 @@
--- `hex::hex_count` meets its contract. The loop's invariant: the bytes counted, and those that the rest becomes with what is held, are
+-- `hexadecimal::hex_count` meets its contract. The loop's invariant: the bytes counted, and those that the rest becomes with what is held, are
 -- as many as the text becomes. The measure is what is left of the text. Assumes nothing.
 use Prim.Native.Nat.{ℕ, ◌+◌, ◌≤◌, ◌<◌}
 use mathlib.Core.Path.{◌≡◌, ap, ◌∙◌}

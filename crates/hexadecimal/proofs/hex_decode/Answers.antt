@@ -1,4 +1,4 @@
--- `hex::hex_decode` meets its contract: the front that is lent has exactly the room of the bytes. Assumes nothing.
+-- `hexadecimal::hex_decode` meets its contract: the front that is lent has exactly the room of the bytes. Assumes nothing.
 use borrow.Author.Rules.{rules}
 use Rattle.text.proofs.Front.{fronts}
 use Rattle.hexadecimal.proofs.hex_decode.Goals as goal

@@ -1,4 +1,4 @@
--- `hex::hex_fill` meets its contract. The loop's invariant: what is written, and then what the rest becomes with what is held, is what
+-- `hexadecimal::hex_fill` meets its contract. The loop's invariant: what is written, and then what the rest becomes with what is held, is what
 -- the text becomes. The measure is what is left of the text. Assumes nothing.
 use Prim.Native.Nat.{ℕ, ◌+◌, ◌≤◌, ◌<◌}
 use mathlib.Core.Path.{◌≡◌}

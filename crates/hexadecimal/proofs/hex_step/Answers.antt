@@ -1,4 +1,4 @@
--- `hex::hex_step` meets its contract: the table says whether the byte is a digit. Assumes nothing.
+-- `hexadecimal::hex_step` meets its contract: the table says whether the byte is a digit. Assumes nothing.
 use Prim.Native.Nat.{ℕ, ◌+◌, ◌*◌, ◌≤◌, ◌<◌}
 use mathlib.Core.Path.{◌≡◌, sym, ◌∙◌}
 use mathlib.Core.List.{List}

@@ -1,4 +1,4 @@
--- `hex::hex_table` meets its contract: one test, which antt computes, goes over all 256 entries. Assumes nothing.
+-- `hexadecimal::hex_table` meets its contract: one test, which antt computes, goes over all 256 entries. Assumes nothing.
 use mathlib.Core.Path.{refl}
 use Rattle.text.specs.Base.{within}
 use Rattle.values.specs.Hex.{hex_value}

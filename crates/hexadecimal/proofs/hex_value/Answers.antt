@@ -1,4 +1,4 @@
--- `hex::hex_value` meets its contract, by the table's rule. Assumes nothing.
+-- `hexadecimal::hex_value` meets its contract, by the table's rule. Assumes nothing.
 use Rattle.hexadecimal.proofs.hex_value.Goals as goal
 
 pub returns : goal.returns

@@ -1,4 +1,4 @@
--- `hex::on_other` meets its contract: test by test. Assumes nothing.
+-- `hexadecimal::on_other` meets its contract: test by test. Assumes nothing.
 use Prim.Native.Nat.{ℕ}
 use mathlib.Core.Path.{◌≡◌, sym, ◌∙◌}
 use mathlib.Core.Bool.{Bool, true, false}
