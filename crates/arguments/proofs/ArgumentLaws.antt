@@ -1,4 +1,5 @@
 -- Laws of argument lines for the proofs of code: what a line says, from the signs that were found in it. For `search` to use. Assumes nothing.
+use Rattle.std.specs.Prelude.{None, Option, Some}
 use Prim.Native.Nat.{ℕ, ◌+◌}
 use mathlib.Core.Path.{◌≡◌, refl, sym, ◌∙◌}
 use mathlib.Core.Bool.{Bool, true, false}
@@ -6,10 +7,8 @@ use mathlib.Core.List.{List, [], ◌∷◌}
 use types.Run.{OneOf, miss}
 use denote.Enum.Declared.{tag_of}
 use Rattle.text.specs.Base.{◌&◌, QUOTE}
-use Rattle.text.specs.Parts.{span, starts_with, position, found_of}
+use Rattle.text.specs.Parts.{span, starts_with, position}
 use Rattle.text.specs.declared.parts.Span.{Span}
-use Rattle.text.specs.declared.parts.Found.{Found}
-use Rattle.text.specs.declared.parts.Found.TheVariants.{At, Nothing}
 use Rattle.text.proofs.LiteralLaws.{codes}
 use Rattle.text.proofs.Scan.{never}
 use Rattle.script.specs.Pieces.{bytes, begins, trim, cut_at}
@@ -23,10 +22,7 @@ use Rattle.script.specs.declared.roles.Takes.TheVariants.{NoLines, Options, Garb
 use Rattle.script.specs.contracts.roles.Takes.{the_type}
 use Rattle.script.specs.declared.roles.Saying.{Saying}
 use Rattle.script.specs.declared.roles.Saying.TheVariants.{Known, Pair, NoColon, Unknown, NoPair, NoRaw}
-use Rattle.arguments.specs.KeyRead.{key_of}
 use Rattle.arguments.specs.ArgumentRead.{pair_saying, pair_value, pair_behind, listed}
-use Rattle.arguments.specs.declared.keys.KeyFound.{KeyFound}
-use Rattle.arguments.specs.declared.keys.KeyFound.TheVariants as found
 use Rattle.pieces.proofs.BehindLaws.{begins-is, behind-some, behind-none, cut-some, cut-none}
 
 -- the numbers of those operations whose lines have keys
@@ -47,23 +43,23 @@ module _ (text : List ℕ) where
 
   -- ---- key, colon, value
 
-  module _ (keys : List Key) (t : Span) (n : ℕ) (key : Span) (k : key ≡ trim text (span t.start (t.start + n))) (f : KeyFound) (e : key_of f ≡ key_in keys (bytes text key)) where
-    pub keyed_known : (value : Span) (w : Key) → value ≡ trim text (span (t.start + n + 1) t.end) → f ≡ found.Is w → Known w value ≡ keyed text keys (cut_at t n)
-    unfolding keyed key_of cut_at
+  module _ (keys : List Key) (t : Span) (n : ℕ) (key : Span) (k : key ≡ trim text (span t.start (t.start + n))) (f : Option Key) (e : f ≡ key_in keys (bytes text key)) where
+    pub keyed_known : (value : Span) (w : Key) → value ≡ trim text (span (t.start + n + 1) t.end) → f ≡ Some w → Known w value ≡ keyed text keys (cut_at t n)
+    unfolding keyed cut_at
     keyed_known value w v h = rw (v, ← k, ← e, h, keyed)
 
-    pub keyed_unknown : (value : Span) → value ≡ trim text (span (t.start + n + 1) t.end) → f ≡ found.Unknown → Unknown key value ≡ keyed text keys (cut_at t n)
-    unfolding keyed key_of cut_at
+    pub keyed_unknown : (value : Span) → value ≡ trim text (span (t.start + n + 1) t.end) → f ≡ None → Unknown key value ≡ keyed text keys (cut_at t n)
+    unfolding keyed cut_at
     keyed_unknown value v h =
-        let d : key_of f ≡ key_in keys (bytes text (trim text (span t.start (t.start + n)))) = rw k at e in
+        let d : f ≡ key_in keys (bytes text (trim text (span t.start (t.start + n)))) = rw k at e in
         rw (k, v, ← d, h, keyed)
 
-  module _ (keys : List Key) (t : Span) (f : Found) (e : found_of f ≡ position COLON (bytes text t)) where
-    pub colon_found : (n : ℕ) (s : Saying) → f ≡ At n → s ≡ keyed text keys (cut_at t n) → s ≡ key_saying text keys t
+  module _ (keys : List Key) (t : Span) (f : Option ℕ) (e : f ≡ position COLON (bytes text t)) where
+    pub colon_found : (n : ℕ) (s : Saying) → f ≡ Some n → s ≡ keyed text keys (cut_at t n) → s ≡ key_saying text keys t
     unfolding key_saying
     colon_found n s h q = rw (cut-some text t.start t.end COLON f e n h, key_saying, q)
 
-    pub colon_missing : f ≡ Nothing → NoColon ≡ key_saying text keys t
+    pub colon_missing : f ≡ None → NoColon ≡ key_saying text keys t
     unfolding key_saying
     colon_missing h = rw (cut-none text t.start t.end COLON f e h, key_saying)
 
@@ -83,12 +79,12 @@ module _ (text : List ℕ) where
     unfolding pair_saying pair_value
     no_quote n = rw (behind-none text c "\"" r e n, pair_value, pair_saying)
 
-    module _ (y : r ≡ true) (f : Found) (h : found_of f ≡ position QUOTE (bytes text (span (c.start + 1) c.end))) where
-      pub no_end : f ≡ Nothing → NoPair ≡ pair_saying (pair_value text name c)
+    module _ (y : r ≡ true) (f : Option ℕ) (h : f ≡ position QUOTE (bytes text (span (c.start + 1) c.end))) where
+      pub no_end : f ≡ None → NoPair ≡ pair_saying (pair_value text name c)
       unfolding pair_saying pair_value
       no_end g = rw (behind-some text c "\"" r e y, cut-none text (c.start + 1) c.end QUOTE f h g, pair_value, pair_saying)
 
-      pub pair_found : (n : ℕ) → f ≡ At n → Pair name (span (c.start + 1) (c.start + 1 + n)) ≡ pair_saying (pair_value text name c)
+      pub pair_found : (n : ℕ) → f ≡ Some n → Pair name (span (c.start + 1) (c.start + 1 + n)) ≡ pair_saying (pair_value text name c)
       unfolding pair_saying pair_value cut_at
       pair_found n g = rw (behind-some text c "\"" r e y, cut-some text (c.start + 1) c.end QUOTE f h n g, pair_value, pair_saying)
 
@@ -97,12 +93,12 @@ module _ (text : List ℕ) where
     unfolding pair_saying pair_in
     no_name n = rw (behind-none text t "\"" r e n, pair_in, pair_saying)
 
-    module _ (y : r ≡ true) (f : Found) (h : found_of f ≡ position QUOTE (bytes text (span (t.start + 1) t.end))) where
-      pub name_open : f ≡ Nothing → NoPair ≡ pair_saying (pair_in text t)
+    module _ (y : r ≡ true) (f : Option ℕ) (h : f ≡ position QUOTE (bytes text (span (t.start + 1) t.end))) where
+      pub name_open : f ≡ None → NoPair ≡ pair_saying (pair_in text t)
       unfolding pair_saying pair_in
       name_open g = rw (behind-some text t "\"" r e y, cut-none text (t.start + 1) t.end QUOTE f h g, pair_in, pair_saying)
 
-      pub name_found : (n : ℕ) (s : Saying) → f ≡ At n → s ≡ pair_saying (pair_behind text (cut_at (span (t.start + 1) t.end) n).before (cut_at (span (t.start + 1) t.end) n).after) → s ≡ pair_saying (pair_in text t)
+      pub name_found : (n : ℕ) (s : Saying) → f ≡ Some n → s ≡ pair_saying (pair_behind text (cut_at (span (t.start + 1) t.end) n).before (cut_at (span (t.start + 1) t.end) n).after) → s ≡ pair_saying (pair_in text t)
       unfolding pair_saying pair_in pair_behind pair_value cut_at
       name_found n s g q = q ∙ rw (behind-some text t "\"" r e y, cut-some text (t.start + 1) t.end QUOTE f h n g, pair_in, pair_saying)
 

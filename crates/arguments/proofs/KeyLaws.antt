@@ -3,13 +3,12 @@ use Prim.Native.Nat.{ℕ, zero, suc, ◌+◌, ◌-◌, ◌<◌}
 use mathlib.Core.Path.{◌≡◌, refl, sym, ap, ◌∙◌}
 use mathlib.Core.Bool.{Bool, true, false}
 use mathlib.Core.List.{List, [], ◌∷◌, ◌++◌}
-use mathlib.Core.Option.{Option, none, some}
 use native.Mathlib.Omega.{arith}
 use native.Mathlib.Nat.{mod-lt, not-suc-le-zero}
 use lib.Dec.{eqb, leb, ltb}
 use lib.ListN.{get_or, length}
 use borrow.Author.Tests.{eqb-true, eqb-false, eq-eqb, leb-true, ltb-true}
-use Rattle.std.specs.Prelude.{if◌then◌else◌}
+use Rattle.std.specs.Prelude.{if◌then◌else◌, None, Option, Some}
 use Rattle.text.specs.Base.{◌&◌, part}
 use Rattle.text.specs.Literal.{spells}
 use Rattle.text.specs.Parts.{same_bytes}
@@ -71,15 +70,15 @@ equal (x ∷ a) [] e = never (sym e)
 equal (x ∷ a) (y ∷ b) e = let p = both (eqb x y) (same_bytes a b) e in let q = eqb-true x y p.0 in let r = equal a b p.1 in cc
 
 -- a key that is found has the name, and passes what all pass
-found : (s : List ℕ) (also : Key → Bool) (ks : List Key) (k : Key) → key_in ks s ≡ some k → every also ks ≡ true → (s ≡ codes (key_row k).name) × (also k ≡ true)
+found : (s : List ℕ) (also : Key → Bool) (ks : List Key) (k : Key) → key_in ks s ≡ Some k → every also ks ≡ true → (s ≡ codes (key_row k).name) × (also k ≡ true)
 unfolding key_in
 found s also [] k e t = let z : ◌≡◌ {A = ℕ} 0 1 = cc in absurd (omega arith)
 found s also (j ∷ ks) k e t =
     let all = both (also j) (every also ks) t in
     go (spells (key_row j).name s) (sym (spells_as (key_row j).name s)) e all.0 (λ f. found s also ks k f all.1)
   where
-    go : (b : Bool) → same_bytes s (codes (key_row j).name) ≡ b → (if b then some j else key_in ks s) ≡ some k → also j ≡ true
-        → (key_in ks s ≡ some k → (s ≡ codes (key_row k).name) × (also k ≡ true)) → (s ≡ codes (key_row k).name) × (also k ≡ true)
+    go : (b : Bool) → same_bytes s (codes (key_row j).name) ≡ b → (if b then Some j else key_in ks s) ≡ Some k → also j ≡ true
+        → (key_in ks s ≡ Some k → (s ≡ codes (key_row k).name) × (also k ≡ true)) → (s ≡ codes (key_row k).name) × (also k ≡ true)
     go true b f a later = let q : j ≡ k = cc in (equal s (codes (key_row j).name) b ∙ ap (λ (i : Key). codes (key_row i).name) q, sym (ap also q) ∙ a)
     go false b f a later = later f
 
@@ -130,12 +129,12 @@ same_key_lem j k e =
     sym (number-key j) ∙ ap (λ (i : ℕ). get_or by_number (i - 1) Key.Raw) n ∙ number-key k
 
 abbrev finds : Key → Option Key → Bool
-finds k none = false
-finds k (some j) = same_key j k
+finds k None = false
+finds k (Some j) = same_key j k
 
-is_found : (k : Key) (x : Option Key) → finds k x ≡ true → some k ≡ x
-is_found k none t = never (sym t)
-is_found k (some j) t = ap some (sym (same_key_lem j k t))
+is_found : (k : Key) (x : Option Key) → finds k x ≡ true → Some k ≡ x
+is_found k None t = never (sym t)
+is_found k (Some j) t = ap Some (sym (same_key_lem j k t))
 
 -- ---- the table of hints
 
@@ -160,26 +159,26 @@ module _ (table : List ℕ) (takes : Takes) where
     tests = both (every led (keys_of takes)) (below own 26) t
 
     -- a key that is found has the name that is hinted
-    led_to : (k : Key) → key_in (keys_of takes) s ≡ some k → same_bytes s (name_at (hint s)) ≡ true
+    led_to : (k : Key) → key_in (keys_of takes) s ≡ Some k → same_bytes s (name_at (hint s)) ≡ true
     unfolding led
     led_to k e = let p = found s led (keys_of takes) k e tests.0 in rw p.0 p.1
 
     -- a key that is hinted and has the name is found
-    owned : s ≡ name_at (hint s) → some (key_at (hint s)) ≡ key_in (keys_of takes) s
+    owned : s ≡ name_at (hint s) → Some (key_at (hint s)) ≡ key_in (keys_of takes) s
     unfolding own
     owned w =
         let o = each_below own 26 tests.1 (hint s) small in
         let same : hint (name_at (hint s)) ≡ hint s = ap hint (sym w) in
         is_found (key_at (hint s)) _ (rw (eq-eqb _ _ same) at o) ∙ ap (key_in (keys_of takes)) (sym w)
 
-    only : (if same_bytes s (name_at (hint s)) then some (key_at (hint s)) else none) ≡ key_in (keys_of takes) s
+    only : (if same_bytes s (name_at (hint s)) then Some (key_at (hint s)) else None) ≡ key_in (keys_of takes) s
     only = go (same_bytes s (name_at (hint s))) refl
       where
-        absent : (x : Option Key) → key_in (keys_of takes) s ≡ x → same_bytes s (name_at (hint s)) ≡ false → none ≡ x
-        absent none e f = refl
-        absent (some k) e f = never (sym (led_to k e) ∙ f)
+        absent : (x : Option Key) → key_in (keys_of takes) s ≡ x → same_bytes s (name_at (hint s)) ≡ false → None ≡ x
+        absent None e f = refl
+        absent (Some k) e f = never (sym (led_to k e) ∙ f)
 
-        go : (b : Bool) → same_bytes s (name_at (hint s)) ≡ b → (if b then some (key_at (hint s)) else none) ≡ key_in (keys_of takes) s
+        go : (b : Bool) → same_bytes s (name_at (hint s)) ≡ b → (if b then Some (key_at (hint s)) else None) ≡ key_in (keys_of takes) s
         go true e = owned (equal s (name_at (hint s)) e)
         go false e = absent (key_in (keys_of takes) s) refl e
 

@@ -1,6 +1,5 @@
 -- What the code's answers about argument lines say. Assumes nothing.
-use Rattle.std.specs.Prelude.{ℕ, Bool, false, List}
-use Rattle.std.proofs.Math.Option.{Option, none, some}
+use Rattle.std.specs.Prelude.{ℕ, Bool, false, List, None, Option, Some}
 use Rattle.text.specs.Base.{◌&◌, QUOTE}
 use Rattle.text.specs.declared.parts.Span.{Span}
 use Rattle.script.specs.Answers.{◌>>=◌}
@@ -22,15 +21,15 @@ SayingIn text NoRaw = Unit {0}
 
 -- in an override list a line is a pair or none
 unfoldable pub pair_saying : Option Saying → Saying
-pair_saying none = NoPair
-pair_saying (some p) = p
+pair_saying None = NoPair
+pair_saying (Some p) = p
 
 -- the pair of that name whose value stands in quotes at the front of `c`
 unfoldable pub pair_value : (text : List ℕ) → (name c : Span) → Option Saying
 pair_value text name c = do
   quoted ← behind text "\"" c
   value ← cut text QUOTE quoted
-  some (Pair name value.before)
+  Some (Pair name value.before)
 
 -- the pair whose name ended before `after`
 unfoldable pub pair_behind : (text : List ℕ) → (name after : Span) → Option Saying

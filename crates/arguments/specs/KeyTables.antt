@@ -1,6 +1,5 @@
 -- What the code's tables have to say of the 26 keys of argument lines. Assumes nothing.
-use Rattle.std.specs.Prelude.{ℕ, ◌+◌, ◌-◌, ◌*◌, ◌%◌, ◌≤◌, ◌<◌, ◌≡◌, List, [], ◌∷◌, ◌++◌, length, get_or, if◌then◌else◌}
-use Rattle.std.proofs.Math.Option.{none, some}
+use Rattle.std.specs.Prelude.{ℕ, ◌+◌, ◌-◌, ◌*◌, ◌%◌, ◌≤◌, ◌<◌, ◌≡◌, List, [], ◌∷◌, ◌++◌, length, get_or, if◌then◌else◌, None, Some}
 use Rattle.text.specs.Base.{part}
 use Rattle.text.specs.Parts.{same_bytes}
 use Rattle.text.proofs.LiteralLaws.{codes}
@@ -61,7 +60,7 @@ name_sum takes s = (shift_of takes + length s + 7 * get_or s 0 0) % 36
 -- of the keys of an operation s can name the one at place n, and no other
 pub record Meant (takes : Takes) (s : List ℕ) (n : ℕ) : Type 0 where
   pub small : n < 26
-  pub only : (if same_bytes s (name_at n) then some (key_at n) else none) ≡ key_in (keys_of takes) s
+  pub only : (if same_bytes s (name_at n) then Some (key_at n) else None) ≡ key_in (keys_of takes) s
 
 -- by the sum of a text, the place of the key that it can name
 pub record Hints (table : List ℕ) : Type 0 where

@@ -6,9 +6,8 @@ ghost use Rattle.script.specs.Roles.{pair_in, keyed, key_saying, raw_saying, say
 ghost use Rattle.script.specs.Inside.{In};
 ghost use Rattle.arguments.specs.ArgumentRead.{SayingIn, pair_saying, pair_value, pair_behind, listed};
 
-use crate::keys::KeyFound;
 use script::roles::{Key, Saying, Takes};
-use text::parts::{Found, Span};
+use text::parts::Span;
 
 // The pair of that name whose value stands in quotes at the front of `c`, or no pair.
 fn pair_value(text: &[u8], name: Span, c: Span) -> Saying
@@ -24,7 +23,7 @@ fn pair_value(text: &[u8], name: Span, c: Span) -> Saying
         start: c.start + 1,
         end: c.end,
     };
-    let Found::At(n) = pieces::pieces::find_in(text, quoted, b'"') else {
+    let Some(n) = pieces::pieces::find_in(text, quoted, b'"') else {
         return Saying::NoPair;
     };
     let start = quoted.start;
@@ -84,7 +83,7 @@ fn pair_in(text: &[u8], t: Span) -> Saying
         start: t.start + 1,
         end: t.end,
     };
-    let Found::At(n) = pieces::pieces::find_in(text, a, b'"') else {
+    let Some(n) = pieces::pieces::find_in(text, a, b'"') else {
         return Saying::NoPair;
     };
     pair_cut(text, a, n)
@@ -113,8 +112,8 @@ fn keyed(text: &[u8], takes: Takes, t: Span, n: usize) -> Saying
         },
     );
     match crate::keys::key_in(text, takes, key) {
-        KeyFound::Is(k) => Saying::Known(k, value),
-        KeyFound::Unknown => Saying::Unknown(key, value),
+        Some(k) => Saying::Known(k, value),
+        None => Saying::Unknown(key, value),
     }
 }
 
@@ -124,7 +123,7 @@ fn key_saying(text: &[u8], takes: Takes, t: Span) -> Saying
     ensures value { result ≡ key_saying text.now (keys_of takes) t }
     ensures saying_in { SayingIn text.now result }
 {
-    let Found::At(n) = pieces::pieces::find_in(text, t, b':') else {
+    let Some(n) = pieces::pieces::find_in(text, t, b':') else {
         return Saying::NoColon;
     };
     keyed(text, takes, t, n)

@@ -4,18 +4,10 @@ ghost use Rattle.text.specs.Parts.{same_bytes};
 ghost use Rattle.script.specs.Pieces.{bytes};
 ghost use Rattle.script.specs.Operations.{keys_of, key_in};
 ghost use Rattle.script.specs.Inside.{In};
-ghost use Rattle.arguments.specs.KeyRead.{key_of};
 ghost use Rattle.arguments.specs.KeyTables.{argument_keys, key_at, name_at, letters, Starts, shift_of, Meant, Hints};
 
 use script::roles::{Key, Takes};
 use text::parts::Span;
-
-// The key of a name, if there is one.
-#[derive(Clone, Copy)]
-pub enum KeyFound {
-    Is(Key),
-    Unknown,
-}
 
 // The names of the 26 keys, one behind the other.
 const NAMES: [u8; 257] = *b"\
@@ -212,13 +204,13 @@ fn key_at(place: usize) -> Key
 }
 
 // The key of that name among those of the operation: one can have it, and one comparison tells whether it has.
-pub fn key_in(text: &[u8], takes: Takes, p: Span) -> KeyFound
+pub fn key_in(text: &[u8], takes: Takes, p: Span) -> Option<Key>
     requires { In text.now p }
-    ensures { key_of result ≡ key_in (keys_of takes) (bytes text.now p) }
+    ensures { result ≡ key_in (keys_of takes) (bytes text.now p) }
 {
     let place = key_hint(text, takes, p);
     if is_named(text, p, place) {
-        return KeyFound::Is(key_at(place));
+        return Some(key_at(place));
     }
-    KeyFound::Unknown
+    None
 }

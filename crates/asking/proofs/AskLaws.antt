@@ -1,13 +1,13 @@
 -- What the calls ask of the scratch, row by row. Assumes nothing.
 use Prim.Native.Nat.{ℕ, suc, ◌+◌, ◌≤◌, ◌<◌}
-use mathlib.Core.Path.{◌≡◌, refl, ap, ◌∙◌}
-use mathlib.Core.Bool.{true, false}
+use mathlib.Core.Path.{◌≡◌, ap, ◌∙◌}
+use mathlib.Core.Bool.{false}
 use mathlib.Core.List.{List, [], ◌∷◌}
 use native.Mathlib.Omega.{arith}
-use lib.ListN.{length, drop, get_or, drop_of_length-le}
+use lib.ListN.{length, drop, get_or}
 use lib.Seq.{drop-cons}
 use lib.Dec.{ltb}
-use borrow.Author.Tests.{lt-ltb, le-ltb, ltb-false}
+use borrow.Author.Tests.{ltb-false}
 use Rattle.rows.specs.Rows.{at}
 use Rattle.judging.proofs.Orders.{neither}
 use Rattle.asking.specs.Asking.{asks_more}
@@ -19,18 +19,6 @@ rows_from rows i h =
     drop-cons rows i [] h ∙ ap (λ (n : ℕ). get_or rows i [] ∷ drop n rows) e
 
 module _ (lent : ℕ) (rows : List (List ℕ)) (i : ℕ) where
-  pub asks_here : i < length rows → lent < at (get_or rows i []) 2 → asks_more lent (drop i rows) ≡ true
-  unfolding asks_more
-  asks_here h g = ap (asks_more lent) (rows_from rows i h) ∙ rw (lt-ltb lent (at (get_or rows i []) 2) g) refl
-
-  pub asks_later : i < length rows → at (get_or rows i []) 2 ≤ lent → asks_more lent (drop i rows) ≡ asks_more lent (drop (i + 1) rows)
-  unfolding asks_more
-  asks_later h g = ap (asks_more lent) (rows_from rows i h) ∙ rw (le-ltb lent (at (get_or rows i []) 2) g) refl
-
-  pub asks_nothing : length rows ≤ i → asks_more lent (drop i rows) ≡ false
-  unfolding asks_more
-  asks_nothing h = ap (asks_more lent) (drop_of_length-le rows h)
-
   -- where no row asks for more, row i does not, nor do those behind it
   pub lent_here : i < length rows → asks_more lent (drop i rows) ≡ false → at (get_or rows i []) 2 ≤ lent
   unfolding asks_more

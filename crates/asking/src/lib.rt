@@ -8,13 +8,5 @@ ghost use Rattle.asking.specs.Asking.{asks_more};
 pub fn asks_more(calls: &[[u64; 22]], lent: usize) -> bool
     ensures { result ≡ asks_more lent calls.now }
 {
-    let mut i: usize = 0;
-    while i < calls.len() {
-        let row = calls[i];
-        if (lent as u64) < row[2] {
-            return true;
-        }
-        i += 1;
-    }
-    false
+    calls.iter().any(|row| (lent as u64) < row[2])
 }

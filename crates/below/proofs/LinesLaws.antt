@@ -1,9 +1,9 @@
 -- Laws of the loop over the lines up to the next opening line. Assumes nothing.
+use Rattle.std.specs.Prelude.{Option}
 use Prim.Native.Nat.{ℕ, ◌+◌, ◌≤◌, ◌<◌}
 use mathlib.Core.Path.{◌≡◌, refl, sym, ap, ◌∙◌}
 use mathlib.Core.Bool.{Bool, true, false}
 use mathlib.Core.List.{List, [], ◌∷◌, ◌++◌, map, map-append}
-use mathlib.Core.Option.{Option}
 use native.Mathlib.Omega.{arith}
 use lib.ListN.{length, set, length-append}
 use Rattle.text.specs.declared.parts.Span.{Span}
@@ -22,6 +22,7 @@ use Rattle.script.specs.declared.roles.Saying.{Saying}
 use Rattle.script.specs.declared.roles.Saying.TheVariants.{Known, Pair, NoColon, Unknown, NoPair, NoRaw}
 use Rattle.script.specs.declared.roles.Opening.{Opening}
 use Rattle.script.specs.declared.roles.Step.{Step}
+use Rattle.script.specs.declared.refusals.Reason.{Reason}
 use Rattle.script.specs.declared.roles.Role.{Role}
 use Rattle.script.specs.declared.roles.Role.TheVariants.{Nothing, Says, Expects, Opens, Bad}
 use Rattle.script.proofs.RolesInside.{role_in}
@@ -32,7 +33,7 @@ use Rattle.written.proofs.WrittenLaws.{Filling, filling_begun, filling_length, f
 use Rattle.below.specs.Below.{below_of, roles_at, ahead, ahead_of, NextIn, pairs_items}
 use Rattle.says.specs.Says.{pair_items, Forward}
 use Rattle.below.specs.declared.lines_below.Below.{Below}
-use Rattle.below.specs.declared.lines_below.Next.{Next}
+use Rattle.below.specs.declared.lines_below.Ahead.{Ahead}
 
 -- ---- one line, and those below it
 
@@ -133,7 +134,7 @@ module _ (options : Bool) (i x : ℕ) (starts₀ ends₀ : List ℕ) (items₀ :
       unfolding lead is_opening sayings saying_of expectations expectation_of ahead
       led_nothing q = silent (rw (e, q)) (rw (e, q)) (rw (e, q))
 
-      pub led_bad : (k : ℕ) → r ≡ Bad k → Turn starts ends items expects pairs count later
+      pub led_bad : (k : Reason) → r ≡ Bad k → Turn starts ends items expects pairs count later
       unfolding lead is_opening sayings saying_of expectations expectation_of ahead
       led_bad k q = silent (rw (e, q)) (rw (e, q)) (rw (e, q))
 
@@ -259,7 +260,7 @@ module _ (left : List Marked) (e : left ≡ []) where
   over_ahead = rw e
 
 -- what the answer says
-module _ (text : List ℕ) (r : Below) (pairs expects : ℕ) (next : Next) (e : r ≡ below_of pairs expects next) where
+module _ (text : List ℕ) (r : Below) (pairs expects : ℕ) (next : Option Ahead) (e : r ≡ below_of pairs expects next) where
   pub says-pairs : (n : ℕ) → pairs ≡ n → r.pairs ≡ n
   says-pairs n q = ap (λ (b : Below). b.pairs) e ∙ q
 

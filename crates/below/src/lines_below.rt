@@ -1,12 +1,11 @@
 // The lines up to the next opening line.
-ghost use Rattle.std.specs.Prelude.{◌≡◌, ◌+◌, ◌≤◌, length};
+ghost use Rattle.std.specs.Prelude.{◌≡◌, ◌+◌, ◌≤◌, length, None, Some};
 ghost use Rattle.script.specs.Contents as Contents;
 ghost use Rattle.script.specs.Contents.{last_of, lead, sayings};
 ghost use Rattle.script.specs.declared.roles.Key.{Key};
 ghost use Rattle.kept.specs.Kept.{Memo};
 ghost use Rattle.said.specs.Said.{piece_at};
 ghost use Rattle.written.specs.Written.{written_at};
-ghost use Rattle.below.specs.declared.lines_below.Next.TheVariants as Next;
 ghost use Rattle.below.specs.Below.{below_of, roles_at, ahead, ahead_of, NextIn, pairs_items};
 
 use kept::Kept;
@@ -22,19 +21,12 @@ pub struct Ahead {
     pub stands: Where,
 }
 
-// What comes behind some lines: the end of the text, or an entry.
-#[derive(Clone, Copy)]
-pub enum Next {
-    End,
-    Entry(Ahead),
-}
-
-// How many items and expectations were written, and what comes next.
+// How many items and expectations were written, and the entry that comes next; none where the text ends.
 #[derive(Clone, Copy)]
 pub struct Below {
     pub pairs: usize,
     pub expects: usize,
-    pub next: Next,
+    pub next: Option<Ahead>,
 }
 
 // The lines end at an opening line.
@@ -46,7 +38,7 @@ fn at_opening(
     at: usize,
     stands: Where,
 ) -> Below
-    ensures { result ≡ below_of pairs expects (Next.Entry (record { line = line; opening = opening; at = at; stands = stands })) }
+    ensures { result ≡ below_of pairs expects (Some (record { line = line; opening = opening; at = at; stands = stands })) }
 {
     let ahead = Ahead {
         line,
@@ -57,18 +49,18 @@ fn at_opening(
     Below {
         pairs,
         expects,
-        next: Next::Entry(ahead),
+        next: Some(ahead),
     }
 }
 
 // The lines end with the text.
 fn at_end(pairs: usize, expects: usize) -> Below
-    ensures { result ≡ below_of pairs expects Next.End }
+    ensures { result ≡ below_of pairs expects None }
 {
     Below {
         pairs,
         expects,
-        next: Next::End,
+        next: None,
     }
 }
 
@@ -127,7 +119,7 @@ pub fn read_lines(
             Role::Says(s) => pairs += says::say(s, starts, ends, options, items, i + pairs),
             Role::Expects(e) => {
                 let e = expectation_of(number, e);
-                slots::put_expectation(expectations, x + expects, e);
+                slots::put(expectations, x + expects, e);
                 expects += 1;
             }
             Role::Opens(p) => return at_opening(pairs, expects, number, p, turn.next, next),

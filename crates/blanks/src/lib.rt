@@ -4,7 +4,7 @@
 ghost use Rattle.std.specs.Prelude.{◌≡◌, [], ◌∷◌, length, replicate};
 ghost use Rattle.slots.specs.Blank.{blank_entry, blank_expectation};
 
-use script::records::{Entry, Expect, Expectation, Items, OpCall, Place, Stamp};
+use script::records::{Entry, Expect, Expectation, Items, OpCall, Place};
 use wire::ops::Op;
 
 pub fn blank_entry() -> Entry
@@ -12,7 +12,7 @@ pub fn blank_entry() -> Entry
 {
     Entry {
         line: 0,
-        timestamp_ms: Stamp::Absent,
+        timestamp_ms: None,
         op_call: OpCall::NoArgs {
             op: Op::IsValidPath,
         },

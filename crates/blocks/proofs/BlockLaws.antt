@@ -10,17 +10,6 @@ use Rattle.text.specs.Base.{part}
 use Rattle.written.specs.Written.{written_at}
 use Rattle.written.proofs.WrittenLaws.{written_twice, written_length}
 
--- ---- a part of a word, byte by byte
-
-module _ (s bytes : List ℕ) (i k : ℕ) (e : take k bytes ≡ part s i k) where
-  pub part_more : i + k < length s → k < length bytes → take (k + 1) (set bytes k (get_or s (i + k) 0)) ≡ part s i (k + 1)
-  part_more h l =
-      rw (add-one k, take-suc-set bytes k (get_or s (i + k) 0) l, take-suc (drop i s) k 0 (omega (arith, length-drop i s)), get_or-drop i s k 0)
-      (ap (λ (xs : List ℕ). xs ++ (get_or s (i + k) 0 ∷ [])) e)
-
-  pub part_all : (n : ℕ) → length bytes ≡ n → k ≡ n → bytes ≡ part s i n
-  part_all n l h = sym (take_all k bytes (omega arith)) ∙ e ∙ ap (part s i) h
-
 -- ---- a word, part by part
 
 -- ys are written where xs stand already, which are no more

@@ -1,17 +1,20 @@
 -- Laws of rows and of answers. Assumes nothing.
-use Prim.Native.Nat.{ℕ, ◌-◌, ◌<◌}
+use Prim.Native.Nat.{ℕ, ◌-◌}
 use mathlib.Core.Path.{◌≡◌, refl}
-use mathlib.Core.List.{List}
+use mathlib.Core.List.{List, [], ◌∷◌, map}
 use native.Mathlib.Omega.{arith}
 use lib.ListN.{length, take, drop, length-drop}
 use lib.Seq.{take_all}
 use lib.Dec.{eqb}
-use borrow.Author.Tests.{ne_eqb}
-use Rattle.std.specs.Prelude.{if◌then◌else◌}
-use Rattle.script.specs.Reading.{refusal}
+use Rattle.std.specs.Prelude.{if◌then◌else◌, Err, Ok, Result}
+use Rattle.script.specs.Refusals.{refusal, reason_number}
+use Rattle.script.specs.declared.records.Refusal.{Refusal}
+use Rattle.script.specs.declared.refusals.Reason.{Reason}
+use Rattle.script.specs.declared.refusals.Reason.TheVariants.{TextTooLong, NotUtf8, UnexpectedPreambleLine, UnknownExpectation, MatcherNumberUnreadable, TimestampWithoutMs, NoF64, NotCarried, UnknownOperation, BraceNotClosed, DataUnknown, FewEntries, FewItems, FewExpectations, FewStoreBytes, ExpectationOutside, PartOutside, WrongNumber, ValueTooLong, FewSlots, CountTooHigh, NotAllJudged, MessageTooLong}
+use Rattle.tallies.specs.declared.tally.Outcome.{Outcome}
 use Rattle.tallies.specs.declared.tally.Outcome.TheVariants.{Failed, Undecided, NothingChecked, Passed}
 use Rattle.tallies.specs.declared.calls.Answer.{Answer}
-use Rattle.tallies.specs.declared.calls.Answer.TheVariants.{Refused, Judged, Closed}
+use Rattle.tallies.specs.declared.calls.Answer.TheVariants.{Judged, Closed}
 use Rattle.calls.specs.CallRows.{outcome_code, answer_code}
 
 -- the part of a row from a place to its end
@@ -20,30 +23,55 @@ rest-is row i = take_all (length row - i) (drop i row) (omega (arith, length-dro
 
 -- ---- an answer is told by its number
 
--- the answer of a number
-pub answered : ℕ → Answer
-answered n =
-    if eqb n 0 then Judged
-    else if eqb n 101 then Closed Passed
-    else if eqb n 102 then Closed Failed
-    else if eqb n 103 then Closed Undecided
-    else if eqb n 104 then Closed NothingChecked
-    else Refused (refusal n 0)
+reasons : List Reason
+reasons =
+    TextTooLong
+    ∷ NotUtf8
+    ∷ UnexpectedPreambleLine
+    ∷ UnknownExpectation
+    ∷ MatcherNumberUnreadable
+    ∷ TimestampWithoutMs
+    ∷ NoF64
+    ∷ NotCarried
+    ∷ UnknownOperation
+    ∷ BraceNotClosed
+    ∷ DataUnknown
+    ∷ FewEntries
+    ∷ FewItems
+    ∷ FewExpectations
+    ∷ FewStoreBytes
+    ∷ ExpectationOutside
+    ∷ PartOutside
+    ∷ WrongNumber
+    ∷ ValueTooLong
+    ∷ FewSlots
+    ∷ CountTooHigh
+    ∷ NotAllJudged
+    ∷ MessageTooLong
+    ∷ []
 
-pub tells_judged : answered (answer_code Judged) ≡ Judged
-unfolding answered answer_code
+-- the first answer of a number
+first_of_number : ℕ → List (Result Answer Refusal) → Result Answer Refusal
+first_of_number n [] = Ok Judged
+first_of_number n (a ∷ as') = if eqb (answer_code a) n then a else first_of_number n as'
+
+-- the answer of a number
+pub answered : ℕ → Result Answer Refusal
+answered n =
+    first_of_number n
+    (Ok Judged ∷ Ok (Closed Passed) ∷ Ok (Closed Failed) ∷ Ok (Closed Undecided) ∷ Ok (Closed NothingChecked) ∷ map (λ r. Err (refusal r 0)) reasons)
+
+pub tells_judged : answered (answer_code (Ok Judged)) ≡ Ok Judged
+unfolding answered first_of_number answer_code
 tells_judged = refl
 
-pub tells_closed : (o : _) → answered (answer_code (Closed o)) ≡ Closed o
-unfolding answered answer_code outcome_code
+pub tells_closed : (o : Outcome) → answered (answer_code (Ok (Closed o))) ≡ Ok (Closed o)
+unfolding answered first_of_number answer_code outcome_code
 tells_closed Passed = refl
-tells_closed Failed = refl
-tells_closed Undecided = refl
-tells_closed NothingChecked = refl
+tells_closed _ = refl
 
--- every refusal has line 0 and a number from 1 to 38
-pub tells_refused : (n : ℕ) → 0 < n → n < 100 → answered (answer_code (Refused (refusal n 0))) ≡ Refused (refusal n 0)
-unfolding answered answer_code
-tells_refused n a b =
-    rw (ne_eqb n 0 (λ z. omega arith), ne_eqb n 101 (λ z. omega arith), ne_eqb n 102 (λ z. omega arith), ne_eqb n 103 (λ z. omega arith), ne_eqb n 104 (λ z. omega arith))
-    refl
+-- every refusal has line 0
+pub tells_refused : (r : Reason) → answered (answer_code (Err (refusal r 0))) ≡ Err (refusal r 0)
+unfolding answered first_of_number reasons answer_code outcome_code reason_number
+tells_refused TextTooLong = refl
+tells_refused _ = refl

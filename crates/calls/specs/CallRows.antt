@@ -1,7 +1,9 @@
 -- A list of calls as a host hands it over, in rows of 22 numbers: the kind (0 close, 1 handshake, any other an entry), the number, how many bytes of the
 -- scratch the call is lent, and from 3 on the row of the handshake's information or of the response (crates/rows). Its texts stand in the lent bytes, its
 -- lists in the lent table. Assumes nothing.
-use Rattle.std.specs.Prelude.{ℕ, List, map, drop, eqb, if◌then◌else◌}
+use Rattle.std.specs.Prelude.{ℕ, List, map, drop, eqb, if◌then◌else◌, Err, Ok, Result}
+use Rattle.script.specs.Refusals.{reason_number}
+use Rattle.script.specs.declared.records.Refusal.{Refusal}
 use Rattle.told.specs.Told.{counted}
 use Rattle.rows.specs.Rows.{at, info_row, response_row}
 use Rattle.tallies.specs.declared.tally.Outcome.{Outcome}
@@ -9,7 +11,7 @@ use Rattle.tallies.specs.declared.tally.Outcome.TheVariants.{Failed, Undecided, 
 use Rattle.verdicts.specs.declared.handed.Handed.{Handed}
 use Rattle.verdicts.specs.declared.handed.Handed.TheVariants.{Info, Response}
 use Rattle.tallies.specs.declared.calls.Answer.{Answer}
-use Rattle.tallies.specs.declared.calls.Answer.TheVariants.{Refused, Judged, Closed}
+use Rattle.tallies.specs.declared.calls.Answer.TheVariants.{Judged, Closed}
 use Rattle.judging.specs.Calls.{Judging, Call, judge, close}
 
 -- ---- a call
@@ -31,7 +33,7 @@ module _ (bytes : List ℕ) (lists : List (List ℕ)) where
   unfoldable pub calls_of : (rows : List (List ℕ)) → List Call
   calls_of rows = map call_of rows
 
--- ---- an answer: a refusal's number (31 to 37), 0 for judged, above 100 what closing says
+-- ---- an answer: the number of a refusal's reason, 0 for judged, above 100 what closing says
 
 -- what closing says
 unfoldable pub outcome_code : Outcome → ℕ
@@ -41,7 +43,7 @@ outcome_code Undecided = 103
 outcome_code NothingChecked = 104
 
 -- an answer
-unfoldable pub answer_code : Answer → ℕ
-answer_code (Refused r) = r.number
-answer_code Judged = 0
-answer_code (Closed o) = outcome_code o
+unfoldable pub answer_code : Result Answer Refusal → ℕ
+answer_code (Err r) = reason_number r.reason
+answer_code (Ok Judged) = 0
+answer_code (Ok (Closed o)) = outcome_code o

@@ -2,9 +2,11 @@
 ghost use Rattle.std.specs.Prelude.{◌≡◌};
 ghost use Rattle.calls.specs.CallRows.{outcome_code, answer_code};
 
+use script::records::Refusal;
 use tallies::calls::Answer;
 use tallies::tally::Outcome;
 
+#[tactic(auto, unfolding(crate::specs::CallRows::outcome_code))]
 fn outcome_code(o: Outcome) -> u64
     ensures { result ≡ outcome_code o }
 {
@@ -16,12 +18,13 @@ fn outcome_code(o: Outcome) -> u64
     }
 }
 
-pub fn answer_code(a: Answer) -> u64
+#[tactic(auto, unfolding(crate::specs::CallRows::answer_code))]
+pub fn answer_code(a: Result<Answer, Refusal>) -> u64
     ensures { result ≡ answer_code a }
 {
     match a {
-        Answer::Refused(r) => r.number,
-        Answer::Judged => 0,
-        Answer::Closed(o) => outcome_code(o),
+        Err(r) => r.reason.number(),
+        Ok(Answer::Judged) => 0,
+        Ok(Answer::Closed(o)) => outcome_code(o),
     }
 }

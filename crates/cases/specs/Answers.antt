@@ -1,9 +1,10 @@
 -- What a stored answer of the Rust to Measure is compared with. Assumes nothing.
-use Rattle.std.specs.Prelude.{ℕ, Bool, eqb}
+use Rattle.std.specs.Prelude.{ℕ, Bool, eqb, Err, Ok}
 use Rattle.text.specs.Base.{◌&◌}
-use Rattle.script.specs.Reading.{Parsed, refused_at, read}
+use Rattle.script.specs.Refusals.{reason_number}
 use Rattle.script.specs.declared.records.Counts.{Counts}
 use Rattle.cases.specs.declared.Answer.{Answer}
+use Rattle.script.specs.Reading.{Parsed}
 
 abbrev pub answer : (number line entries items expectations store : ℕ) → Answer
 answer number line entries items expectations store =
@@ -11,8 +12,8 @@ answer number line entries items expectations store =
 
 -- an answer in the numbers of a line: those of a refusal and no counts, or no refusal and the counts
 unfoldable pub answer_of : Parsed Counts → Answer
-answer_of (refused_at r) = answer r.number r.line 0 0 0 0
-answer_of (read t) = answer 0 0 t.entries t.items t.expectations t.store
+answer_of (Err r) = answer (reason_number r.reason) r.line 0 0 0 0
+answer_of (Ok t) = answer 0 0 t.entries t.items t.expectations t.store
 
 -- all six numbers are equal
 unfoldable pub same_answer : Answer → Answer → Bool

@@ -2,14 +2,13 @@
 #![tactic(auto)]
 
 ghost use Rattle.std.specs.Prelude.{◌≡◌, ◌≤◌};
-ghost use Rattle.parse.specs.MeasureRead.{measured_of};
-ghost use Rattle.cases.specs.Answers.{answer_of, same_answer, matched};
+ghost use Rattle.cases.specs.Answers.{answer_of, matched};
 ghost use Rattle.cases.specs.Cases.{counted, total};
 
-use parse::measure::Measured;
+use script::records::{Counts, Refusal};
 
 // An answer of Measure, in the numbers of a line.
-#[derive(Clone, Copy)]
+#[derive(Clone, Copy, PartialEq, Eq)]
 pub struct Answer {
     pub number: u64,
     pub line: usize,
@@ -39,19 +38,20 @@ pub struct Tally {
     pub wrong: usize,
 }
 
-fn answer_of(m: Measured) -> Answer
-    ensures { result ≡ answer_of (measured_of m) }
+#[tactic(auto, unfolding(crate::specs::Answers::answer_of))]
+fn answer_of(m: Result<Counts, Refusal>) -> Answer
+    ensures { result ≡ answer_of m }
 {
     match m {
-        Measured::Refused(r) => Answer {
-            number: r.number,
+        Err(r) => Answer {
+            number: r.reason.number(),
             line: r.line,
             entries: 0,
             items: 0,
             expectations: 0,
             store: 0,
         },
-        Measured::Read(c) => Answer {
+        Ok(c) => Answer {
             number: 0,
             line: 0,
             entries: c.entries,
@@ -62,36 +62,17 @@ fn answer_of(m: Measured) -> Answer
     }
 }
 
-fn same_answer(a: Answer, b: Answer) -> bool
-    ensures { result ≡ same_answer a b }
-{
-    if a.number != b.number {
-        return false;
-    }
-    if a.line != b.line {
-        return false;
-    }
-    if a.entries != b.entries {
-        return false;
-    }
-    if a.items != b.items {
-        return false;
-    }
-    if a.expectations != b.expectations {
-        return false;
-    }
-    a.store == b.store
-}
-
 // Whether Measure answered what is stored.
-pub fn agrees(m: Measured, stored: Answer) -> bool
-    ensures { result ≡ matched (measured_of m) stored }
+#[tactic(auto, unfolding(crate::specs::Answers::same_answer))]
+pub fn agrees(m: Result<Counts, Refusal>, stored: Answer) -> bool
+    ensures { result ≡ matched m stored }
 {
-    same_answer(answer_of(m), stored)
+    answer_of(m) == stored
 }
 
 impl Tally {
     // With one case more. The counts are small: a case takes a line of the input.
+    #[tactic(auto, unfolding(crate::specs::Cases::counted))]
     pub fn with(mut self, c: Case) -> Tally
         requires { total self ≤ 0x100000 }
         ensures { result ≡ counted self c }

@@ -3,7 +3,6 @@ use Prim.Native.Nat.{ℕ, zero, suc, ◌+◌, ◌-◌, ◌≤◌, ◌<◌}
 use mathlib.Core.Path.{◌≡◌, refl, sym, ◌∙◌}
 use mathlib.Core.Bool.{Bool, true, false}
 use mathlib.Core.List.{List, [], ◌∷◌, ◌++◌}
-use mathlib.Core.Option.{Option, none, some}
 use native.Mathlib.Omega.{arith}
 use native.Mathlib.Nat.{le_refl}
 use native.Mathlib.Numerals.{add-one}
@@ -14,7 +13,7 @@ use borrow.Author.Tests.{leb-true, ltb-true, ltb-false, eqb-true, eqb-false}
 use Rattle.text.proofs.Scan.{both, never, rest-none, within_low}
 use Rattle.text.proofs.Utf8Laws.{after_ascii}
 use Rattle.text.proofs.LineLaws.{lines_at, known, lines_none, end_begun, over, at_lf, at_other}
-use Rattle.std.specs.Prelude.{if◌then◌else◌}
+use Rattle.std.specs.Prelude.{if◌then◌else◌, None, Option, Some}
 use Rattle.text.specs.Base.{◌&◌, within, part, LF, CR}
 use Rattle.text.specs.Utf8.{Range, Row, table, after, well_formed_from, well_formed}
 use Rattle.text.specs.declared.lines.Line.{Line}
@@ -32,16 +31,16 @@ high_rows : List Row → Bool
 high_rows [] = true
 high_rows (r ∷ rows) = high r.following & high_rows rows
 
-after_high : (rows : List Row) (x : ℕ) (due : List Range) → high_rows rows ≡ true → after rows x ≡ some due → high due ≡ true
+after_high : (rows : List Row) (x : ℕ) (due : List Range) → high_rows rows ≡ true → after rows x ≡ Some due → high due ≡ true
 unfolding after high_rows
 after_high [] x due h e = let z : ◌≡◌ {A = Bool} true false = cc in never z
 after_high (r ∷ rows) x due h e = let p = both (high r.following) (high_rows rows) h in go (within r.first.lo r.first.hi x) e p.0 (after_high rows x due p.1)
   where
-    go : (b : Bool) → (if b then some r.following else after rows x) ≡ some due → high r.following ≡ true → (after rows x ≡ some due → high due ≡ true) → high due ≡ true
+    go : (b : Bool) → (if b then Some r.following else after rows x) ≡ Some due → high r.following ≡ true → (after rows x ≡ Some due → high due ≡ true) → high due ≡ true
     go true e h ih = let f : r.following ≡ due = cc in rw (← f) h
     go false e h ih = ih e
 
-table_high : (x : ℕ) (due : List Range) → after table x ≡ some due → high due ≡ true
+table_high : (x : ℕ) (due : List Range) → after table x ≡ Some due → high due ≡ true
 unfolding high_rows high table
 table_high x due e = after_high table x due refl e
 
@@ -57,8 +56,8 @@ cut_from (x ∷ a) [] c b h l w = go (after table x) refl (λ due k. cut_from a 
     go : (o : Option (List Range)) → after table x ≡ o
         → ((due : List Range) → high due ≡ true → well_formed_from due (a ++ c ∷ b) ≡ true → (well_formed_from due a ≡ true) × (well_formed_from [] b ≡ true))
         → (well_formed_from [] (x ∷ a) ≡ true) × (well_formed_from [] b ≡ true)
-    go none e ih = never (sym (rw (e, well_formed_from) at w))
-    go (some due) e ih = let p = ih due (table_high x due e) (rw (e, well_formed_from) at w) in (rw (e, well_formed_from) p.0, p.1)
+    go None e ih = never (sym (rw (e, well_formed_from) at w))
+    go (Some due) e ih = let p = ih due (table_high x due e) (rw (e, well_formed_from) at w) in (rw (e, well_formed_from) p.0, p.1)
 cut_from (x ∷ a) (r ∷ due) c b h l w =
     let p = both (within r.lo r.hi x) (well_formed_from due (a ++ c ∷ b)) w in
     let ih = cut_from a due c b (both (leb 0x80 r.lo) (high due) h).1 l p.1 in

@@ -1,9 +1,9 @@
 -- A scalar value and its encoding: how the rows of table 3-7 and the encodings of table 3-6 fit together. Assumes nothing.
+use Rattle.std.specs.Prelude.{None, Some}
 use Prim.Native.Nat.{ℕ, ◌+◌, ◌*◌, ◌/◌, ◌%◌, ◌≤◌, ◌<◌}
 use mathlib.Core.Path.{◌≡◌, refl, ◌∙◌}
 use mathlib.Core.Bool.{Bool, true, false}
 use mathlib.Core.List.{List, [], ◌∷◌, ◌++◌, reverse}
-use mathlib.Core.Option.{none, some}
 use native.Mathlib.Omega.{arith}
 use lib.Dec.{ltb, leb}
 use lib.ListN.{length, drop}
@@ -58,13 +58,13 @@ pub record Second4 (w x : ℕ) : Type 0 where
 -- ---- the rows of table 3-7 by their first byte
 
 pub data Class (x : ℕ) : Type 0 where
-  one : x < 0x80 → after table x ≡ some [] → Class x
-  two : 0xC2 ≤ x → x ≤ 0xDF → after table x ≡ some (0x80 to 0xBF ∷ []) → Class x
+  one : x < 0x80 → after table x ≡ Some [] → Class x
+  two : 0xC2 ≤ x → x ≤ 0xDF → after table x ≡ Some (0x80 to 0xBF ∷ []) → Class x
   three : (lo hi : ℕ) → 0xE0 ≤ x → x ≤ 0xEF → ((y : ℕ) → lo ≤ y → y ≤ hi → Second3 x y) → ((y : ℕ) → Second3 x y → (lo ≤ y) × (y ≤ hi))
-      → after table x ≡ some (lo to hi ∷ 0x80 to 0xBF ∷ []) → Class x
+      → after table x ≡ Some (lo to hi ∷ 0x80 to 0xBF ∷ []) → Class x
   four : (lo hi : ℕ) → 0xF0 ≤ x → x ≤ 0xF4 → ((y : ℕ) → lo ≤ y → y ≤ hi → Second4 x y) → ((y : ℕ) → Second4 x y → (lo ≤ y) × (y ≤ hi))
-      → after table x ≡ some (lo to hi ∷ 0x80 to 0xBF ∷ 0x80 to 0xBF ∷ []) → Class x
-  bad : (0xC2 ≤ x → 0xF5 ≤ x) → 0x80 ≤ x → after table x ≡ none → Class x
+      → after table x ≡ Some (lo to hi ∷ 0x80 to 0xBF ∷ 0x80 to 0xBF ∷ []) → Class x
+  bad : (0xC2 ≤ x → 0xF5 ≤ x) → 0x80 ≤ x → after table x ≡ None → Class x
 
 -- an ED that keeps out of the surrogates
 below_gap : (y : ℕ) → y ≤ 0xBF → (15328 ≤ 0xED * 64 + y → 15360 ≤ 0xED * 64 + y) → y ≤ 0x9F
@@ -108,7 +108,7 @@ module _ (x : ℕ) where
   unfolding after table
   from_F4 h = from_F1 (omega arith) ∙ rw (within_high 0xF1 0xF3 x h)
 
-  from_F5 : 0xF5 ≤ x → after table x ≡ none
+  from_F5 : 0xF5 ≤ x → after table x ≡ None
   unfolding after table
   from_F5 h = from_F4 (omega arith) ∙ rw (within_high 0xF4 0xF4 x h)
 

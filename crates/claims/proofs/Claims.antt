@@ -1,4 +1,5 @@
 -- What is claimed of the whole: read this file first. Each proof is a citation. Assumes nothing.
+use Rattle.std.specs.Prelude.{Ok}
 use Prim.Native.Nat.{ℕ}
 use mathlib.Core.Path.{◌≡◌, refl, ap, ◌∙◌}
 use mathlib.Core.Logic.{◌↔◌}
@@ -15,8 +16,7 @@ use Rattle.script.specs.declared.records.Entry.{Entry}
 use Rattle.script.specs.declared.records.Expectation.{Expectation}
 use Rattle.script.specs.declared.records.Script.{Script}
 use Rattle.written.specs.Written.{written_at}
-use Rattle.read.specs.Read.{lent_of, answer_of, script_or, tables_or}
-use Rattle.read.specs.declared.reading.Answer.TheVariants as Answer
+use Rattle.read.specs.Read.{lent_of, script_or, tables_or}
 use Rattle.judging.specs.Calls.{Call}
 use Rattle.judging.specs.Judge.{Lent}
 use Rattle.judging.specs.PlainJudge.{plain_run}
@@ -111,7 +111,7 @@ module _
     (text : List ℕ) (entries : List Entry) (items : List (List ℕ)) (expectations : List Expectation) (store : List ℕ)
     -- the script that it answers, and the tables that it leaves: three clauses of its contract
     (script : Script) (entries-left : List Entry) (expectations-left : List Expectation)
-    (answers : answer_of (Answer.Read script) ≡ script_or (read_into (lent_of entries items expectations store) text))
+    (answers : Ok script ≡ script_or (read_into (lent_of entries items expectations store) text))
     (leaves-entries : entries-left ≡ written_at 0 (tables_or (read_into (lent_of entries items expectations store) text)).entries entries)
     (leaves-expectations : expectations-left ≡ written_at 0 (tables_or (read_into (lent_of entries items expectations store) text)).expectations expectations)
     -- a verdict list, and the calls

@@ -3,32 +3,22 @@
 
 ghost use Rattle.std.specs.Prelude.{◌≡◌};
 ghost use Rattle.tallies.specs.Answers.{close_answer};
-ghost use Rattle.tallies.specs.declared.calls.Answer.TheVariants.{Refused};
-ghost use Rattle.script.specs.Reading.{refusal};
 
 use script::records::Refusal;
+use script::refusals::Reason;
 use tallies::calls::Answer;
 use tallies::tally::Counts;
 
-// A refusal of a call has line 0.
-fn refused(number: u64) -> Answer
-    ensures { result ≡ Refused (refusal number 0) }
-{
-    Answer::Refused(Refusal { number, line: 0 })
-}
-
 // No sum is made: the count of entries may be forged.
-pub fn close_answer(next: usize, counts: Counts, entries: usize) -> Answer
+#[tactic(auto, using(tallies::proofs::CloseLaws::close_laws))]
+pub fn close_answer(next: usize, counts: Counts, entries: usize) -> Result<Answer, Refusal>
     ensures { result ≡ close_answer next counts entries }
 {
     if counts.over_limit() {
-        return refused(36);
+        return Err(Refusal::from(Reason::CountTooHigh));
     }
-    if next == 0 {
-        return refused(37);
+    if next == 0 || next - 1 != entries {
+        return Err(Refusal::from(Reason::NotAllJudged));
     }
-    if next - 1 != entries {
-        return refused(37);
-    }
-    Answer::Closed(counts.outcome())
+    Ok(Answer::Closed(counts.outcome()))
 }

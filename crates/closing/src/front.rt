@@ -7,7 +7,6 @@ ghost use Rattle.tables.specs.Items.{items_for};
 ghost use Rattle.said.specs.Said.{piece_at, SaidIn};
 ghost use Rattle.stored.specs.Closing.{front_of};
 
-use said::said::Piece;
 use script::roles::Key;
 
 // How many features the client has, and how many the server.
@@ -32,8 +31,8 @@ fn put_features_of(
     ensures after { items.new ≡ written_at at (items_for (or_none (features_in text.now (piece_at starts.now ends.now k)))) items.old }
 {
     match said::said::value_of(starts, ends, k) {
-        Piece::Absent => 0,
-        Piece::Is(v) => item_sets::put_features(text, v, items, at),
+        None => 0,
+        Some(v) => item_sets::put_features(text, v, items, at),
     }
 }
 

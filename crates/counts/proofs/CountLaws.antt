@@ -3,25 +3,23 @@ use Prim.Native.Nat.{ℕ, zero, suc, ◌+◌, ◌-◌, ◌*◌, ◌^◌, ◌≤�
 use mathlib.Core.Path.{◌≡◌, refl, sym, ap, ◌∙◌}
 use mathlib.Core.Bool.{Bool, true, false}
 use mathlib.Core.List.{List, [], ◌∷◌, map}
-use mathlib.Core.Option.{Option, none, some}
 use native.Mathlib.Omega.{arith}
 use native.Mathlib.Nat.{add-zero, zero-add}
 use lib.Dec.{eqb}
-use lib.ListN.{length, get_or, drop, length-map}
+use lib.ListN.{length, length-map}
 use borrow.Author.Tests.{eq-eqb, ne_eqb, eqb-true, eqb-false}
-use Rattle.std.specs.Prelude.{if◌then◌else◌}
+use Rattle.std.proofs.lemmas.List.Sums.{count_by-le-length, sum_by-cons}
+use Rattle.std.specs.Prelude.{count_by, cond, if◌then◌else◌, None, Option, Some}
 use Rattle.text.specs.Base.{◌&◌, part, BLANK}
 use Rattle.values.specs.Hex.{hex_decoded}
 use Rattle.values.specs.Unquote.{unquoted}
-use Rattle.text.specs.Parts.{span, part_of, starts_with, position, found_of, split_from, split, part_at}
+use Rattle.text.specs.Parts.{span, part_of, starts_with, position, split_from, split, part_at}
 use Rattle.text.specs.Words.{words_from, words, word_at}
-use Rattle.text.specs.declared.parts.Found.{Found}
-use Rattle.text.specs.declared.parts.Found.TheVariants.{At, Nothing}
 use Rattle.text.specs.Trim.{trim_place, white_bytes, size_of}
 use Rattle.text.specs.declared.parts.Span.{Span}
 use Rattle.text.specs.declared.parts.Part.{Part}
 use Rattle.text.proofs.LiteralLaws.{codes, begins_as}
-use Rattle.text.proofs.Scan.{rest_more, rest-none, by_cases, by_test, both}
+use Rattle.text.proofs.Scan.{by_cases, by_test, both}
 use Rattle.text.proofs.PartLaws.{parts_at}
 use Rattle.text.proofs.PartLaws as Parts
 use Rattle.text.proofs.WordLaws.{words_at, known}
@@ -54,48 +52,21 @@ use Rattle.script.proofs.RolesInside.{cut_or_in}
 
 -- ---- the parts between separators
 
--- they are as many wherever the walk begins
-any_start : (b : ℕ) (s : List ℕ) (start at start' at' : ℕ) → length (split_from b start at s) ≡ length (split_from b start' at' s)
+-- one more than there are separators, wherever the walk begins
+pub parts_are : (b : ℕ) (s : List ℕ) (start at : ℕ) → length (split_from b start at s) ≡ count_by (λ x. eqb x b) s + 1
 unfolding split_from
-any_start b [] start at start' at' = refl
-any_start b (x ∷ s) start at start' at' =
-    go (eqb x b) (any_start b s start (at + 1) start' (at' + 1)) (any_start b s (at + 1) (at + 1) (at' + 1) (at' + 1))
+parts_are b [] start at = refl
+parts_are b (x ∷ s) start at =
+    go (eqb x b) (parts_are b s start (at + 1)) (parts_are b s (at + 1) (at + 1)) ∙ ap (λ (n : ℕ). n + 1) (sym (sum_by-cons (λ y. cond (eqb y b) 1 0) x s))
   where
-    go : (t : Bool) → length (split_from b start (at + 1) s) ≡ length (split_from b start' (at' + 1) s)
-        → length (split_from b (at + 1) (at + 1) s) ≡ length (split_from b (at' + 1) (at' + 1) s)
-        → length (if t then (part_of start at true ∷ split_from b (at + 1) (at + 1) s) else split_from b start (at + 1) s)
-        ≡ length (if t then (part_of start' at' true ∷ split_from b (at' + 1) (at' + 1) s) else split_from b start' (at' + 1) s)
-    go true p q = ap suc q
-    go false p q = p
-
-module _ (b : ℕ) (s : List ℕ) (i n total : ℕ) (q : n + length (split b (drop i s)) ≡ total) where
-  pub parts_over : length s ≤ i → n + 1 ≡ total
-  unfolding split split_from
-  parts_over h = rw (rest-none s i h) at q
-
-  pub parts_next : i < length s → get_or s i 0 ≡ b → n + 1 + length (split b (drop (i + 1) s)) ≡ total
-  unfolding split split_from
-  parts_next h x =
-      let k : length (split b (drop i s)) ≡ suc (length (split b (drop (i + 1) s))) = rw (rest_more s i h, eq-eqb (get_or s i 0) b x) (ap suc (any_start b (drop (i + 1) s) 1 1 0 0)) in
-      omega arith
-
-  pub parts_same : i < length s → (get_or s i 0 ≡ b → ⊥) → n + length (split b (drop (i + 1) s)) ≡ total
-  unfolding split split_from
-  parts_same h x =
-      let k : length (split b (drop i s)) ≡ length (split b (drop (i + 1) s)) = rw (rest_more s i h, ne_eqb (get_or s i 0) b x) (any_start b (drop (i + 1) s) 0 1 0 0) in
-      omega arith
-
-pub ruleset part-counts = (parts_over, parts_next, parts_same)
+    go : (t : Bool) → length (split_from b start (at + 1) s) ≡ count_by (λ x. eqb x b) s + 1 → length (split_from b (at + 1) (at + 1) s) ≡ count_by (λ x. eqb x b) s + 1
+        → length (if t then (part_of start at true ∷ split_from b (at + 1) (at + 1) s) else split_from b start (at + 1) s) ≡ cond t 1 0 + count_by (λ x. eqb x b) s + 1
+    go true p q = omega arith
+    go false p q = omega arith
 
 split_most : (b : ℕ) (s : List ℕ) → length (split b s) ≤ length s + 1
-unfolding split split_from
-split_most b [] = omega arith
-split_most b (x ∷ s) = go (eqb x b) (split_most b s) (any_start b s 0 1 0 0) (any_start b s 1 1 0 0)
-  where
-    go : (t : Bool) → length (split_from b 0 0 s) ≤ length s + 1 → length (split_from b 0 1 s) ≡ length (split_from b 0 0 s) → length (split_from b 1 1 s) ≡ length (split_from b 0 0 s)
-        → length (if t then (part_of 0 0 true ∷ split_from b 1 1 s) else split_from b 0 1 s) ≤ length (x ∷ s) + 1
-    go true h p q = omega arith
-    go false h p q = omega arith
+unfolding split
+split_most b s = omega (arith, parts_are b s 0 0, count_by-le-length (λ x. eqb x b) s)
 
 -- ---- pieces
 
@@ -131,21 +102,13 @@ module _ (text : List ℕ) (p : Span) where
       go true e = omega (arith, items-none (eqb-true p.start p.end e), i.forward)
       go false e = omega (arith, items-some (eqb-false p.start p.end e), split_most COMMA (bytes text p), length-bytes text p i, i.forward)
 
-found_none : found_of Nothing ≡ none
-unfolding found_of
-found_none = refl
-
-found_some : (n : ℕ) → found_of (At n) ≡ some n
-unfolding found_of
-found_some n = refl
-
 -- f is the answer of `pieces::find_in` behind the opening brace
-module _ (text : List ℕ) (p : Span) (f : Found) (e : found_of f ≡ position CLOSING-BRACE (bytes text p)) where
-  pub not_braced : f ≡ Nothing → 0 ≡ length (braced_items text p)
+module _ (text : List ℕ) (p : Span) (f : Option ℕ) (e : f ≡ position CLOSING-BRACE (bytes text p)) where
+  pub not_braced : f ≡ None → 0 ≡ length (braced_items text p)
   unfolding braced_items items_or braced_set
   not_braced h = rw (cut-none text p.start p.end CLOSING-BRACE f e h)
 
-  pub braced : (n k : ℕ) (q : Span) → f ≡ At n → q ≡ trim text (span p.start (p.start + n)) → k ≡ length (path_items text q) → k ≡ length (braced_items text p)
+  pub braced : (n k : ℕ) (q : Span) → f ≡ Some n → q ≡ trim text (span p.start (p.start + n)) → k ≡ length (path_items text q) → k ≡ length (braced_items text p)
   unfolding braced_items items_or braced_set cut_at
   braced n k q h z c = rw (cut-some text p.start p.end CLOSING-BRACE f e n h, ← z) c
 
@@ -154,12 +117,12 @@ unfolding position
 braced_fit text p i = go (position CLOSING-BRACE (bytes text p)) refl
   where
     go : (o : Option ℕ) → position CLOSING-BRACE (bytes text p) ≡ o → p.start + length (braced_items text p) ≤ p.end
-    go none e = omega (arith, not_braced text p Nothing (found_none ∙ sym e) refl, i.forward)
-    go (some n) e =
+    go None e = omega (arith, not_braced text p None (sym e) refl, i.forward)
+    go (Some n) e =
         let b : Span = span p.start (p.start + n) in
         let l = position_in CLOSING-BRACE 0 n (bytes text p) e in
         let j : In text b = record { forward = omega arith; inside = omega (arith, length-bytes text p i, i.inside) } in
-        omega (arith, braced text p (At n) (found_some n ∙ sym e) n _ (trim text b) refl refl refl, items_fit text (trim text b) (trim_in text b j), trim_start text b j, trim_stop text b j, length-bytes text p i, i.forward)
+        omega (arith, braced text p (Some n) (sym e) n _ (trim text b) refl refl refl, items_fit text (trim text b) (trim_in text b j), trim_start text b j, trim_stop text b j, length-bytes text p i, i.forward)
 
 -- by what stands behind the opening brace
 module _ (text : List ℕ) (v : Span) where
@@ -167,11 +130,11 @@ module _ (text : List ℕ) (v : Span) where
   module _ (q : Span) (z : q ≡ trim text v) (b : Bool) (e : b ≡ starts_with (codes "{") (bytes text q)) where
     pub set-braced : (n : ℕ) → b ≡ true → n ≡ length (braced_items text (span (q.start + 1) q.end)) → n ≡ set_count text v
     unfolding set_count items_by
-    set-braced n t k = k ∙ ap length (sym (items_by_lem text v (some (span (q.start + 1) q.end)) (rw (← z) (behind-some text q "{" b e t))))
+    set-braced n t k = k ∙ ap length (sym (items_by_lem text v (Some (span (q.start + 1) q.end)) (rw (← z) (behind-some text q "{" b e t))))
 
     set-plain : b ≡ false → set_count text v ≡ length (if is_empty q then [] else (q ∷ []))
     unfolding set_count items_by plain_set
-    set-plain f = rw z (ap length (items_by_lem text v none (rw (← z) (behind-none text q "{" b e f))))
+    set-plain f = rw z (ap length (items_by_lem text v None (rw (← z) (behind-none text q "{" b e f))))
 
     pub set_empty : b ≡ false → q.start ≡ q.end → 0 ≡ set_count text v
     unfolding is_empty
@@ -243,8 +206,8 @@ module _ (text : List ℕ) (v : Span) where
     no_data f = go (behind text "@file:" v) refl
       where
         go : (o : Option Span) → behind text "@file:" v ≡ o → 0 ≡ data_count text v
-        go none q = simp (behind-none text v "x\"" b e f, q)
-        go (some r) q = simp (behind-none text v "x\"" b e f, q)
+        go None q = simp (behind-none text v "x\"" b e f, q)
+        go (Some r) q = simp (behind-none text v "x\"" b e f, q)
 
     pub data_fits : (n : ℕ) → In text v → b ≡ true → n ≡ length (hex_decoded (bytes text (span (v.start + 2) v.end))) → v.start + n ≤ v.end
     data_fits n i t k = omega (arith, hex-fits text (span (v.start + 2) v.end) n (behind_in text v.start v.end 2 b (codes "x\"") e t i refl) k)
@@ -297,11 +260,7 @@ words_most zero start (x ∷ s) at h =
     go false false longer apart = omega arith
 
 module _ (s : List ℕ) (at n total : ℕ) (q : n + length (words_at s at) ≡ total) where
-  pub words_over : length s ≤ at → n ≡ total
-  unfolding words_from
-  words_over h = let k : length (words_at s at) ≡ 0 = rw (rest-none s at h, eq-eqb at at refl) in omega arith
-
-  module _ (h : at < length s) (w : Span) (e : w ≡ word_at s at) where
+  module _ (h : at ≤ length s) (w : Span) (e : w ≡ word_at s at) where
     pub words_end : w.start ≡ w.end → n ≡ total
     words_end z = omega (arith, ap length ((known s at w (omega arith) e).none z))
 
@@ -317,7 +276,7 @@ module _ (s : List ℕ) (at n total : ℕ) (q : n + length (words_at s at) ≡ t
     pub words_fall : (w.start ≡ w.end → ⊥) → length s - w.end < length s - at
     words_fall z = let k = known s at w (omega arith) e in omega (arith, k.begins, k.forward, k.inside, z)
 
-pub ruleset word_counts = (words_over, words_end, words-next, words-on, words_in, words_fall)
+pub ruleset word_counts = (words_end, words-next, words-on, words_in, words_fall)
 
 -- ---- items between commas that are not empty
 
@@ -541,15 +500,15 @@ module _ (text : List ℕ) (args : Span) where
   after_start i = go (position BLANK (bytes text args)) refl
     where
       go : (o : Option ℕ) → position BLANK (bytes text args) ≡ o → args.start ≤ (cut_or text BLANK args).after.start
-      go none e = let k = ap (λ (c : Cut). c.after.start) (cut-or_none text BLANK args Nothing (found_none ∙ sym e) refl) in omega (arith, k, i.forward)
-      go (some n) e = let k = ap (λ (c : Cut). c.after.start) (cut_or-some text BLANK args (At n) (found_some n ∙ sym e) n refl) in omega (arith, k)
+      go None e = let k = ap (λ (c : Cut). c.after.start) (cut-or_none text BLANK args None (sym e) refl) in omega (arith, k, i.forward)
+      go (Some n) e = let k = ap (λ (c : Cut). c.after.start) (cut_or-some text BLANK args (Some n) (sym e) n refl) in omega (arith, k)
 
   after_end : (cut_or text BLANK args).after.end ≡ args.end
   after_end = go (position BLANK (bytes text args)) refl
     where
       go : (o : Option ℕ) → position BLANK (bytes text args) ≡ o → (cut_or text BLANK args).after.end ≡ args.end
-      go none e = ap (λ (c : Cut). c.after.end) (cut-or_none text BLANK args Nothing (found_none ∙ sym e) refl)
-      go (some n) e = ap (λ (c : Cut). c.after.end) (cut_or-some text BLANK args (At n) (found_some n ∙ sym e) n refl)
+      go None e = ap (λ (c : Cut). c.after.end) (cut-or_none text BLANK args None (sym e) refl)
+      go (Some n) e = ap (λ (c : Cut). c.after.end) (cut_or-some text BLANK args (Some n) (sym e) n refl)
 
   -- an opening line has no more items than bytes behind its operation's name
   pub inline-fits : (op : Op) → In text args → args.start + inline_items text (form_of op).shape args ≤ args.end

@@ -1,6 +1,5 @@
 -- How many items, or bytes of the store, a value takes. Assumes nothing.
-use Rattle.std.specs.Prelude.{ℕ, List, length}
-use Rattle.std.proofs.Math.Option.{some}
+use Rattle.std.specs.Prelude.{ℕ, List, length, Some}
 use Rattle.text.specs.Base.{BLANK}
 use Rattle.text.specs.declared.parts.Span.{Span}
 use Rattle.script.specs.Pieces.{cut_or}
@@ -39,13 +38,13 @@ module _ (text : List ℕ) where
   set_count v = length (items_in text v)
 
   unfoldable pub quoted_count : Span → ℕ
-  quoted_count v = length (unquoted_of plain_rules text (some v))
+  quoted_count v = length (unquoted_of plain_rules text (Some v))
 
   unfoldable pub data_count : Span → ℕ
-  data_count v = length (stored_of (data_of plain_rules text (some v)))
+  data_count v = length (stored_of (data_of plain_rules text (Some v)))
 
   unfoldable pub raw_count : Span → ℕ
-  raw_count v = length (hex_of plain_rules text (some v))
+  raw_count v = length (hex_of plain_rules text (Some v))
 
   unfoldable pub feature_count : Span → ℕ
   feature_count v = length (Sets.features text v)

@@ -1,5 +1,5 @@
 // How many items and bytes of the store a value takes.
-ghost use Rattle.std.specs.Prelude.{◌≡◌, true, ◌+◌, ◌≤◌, length};
+ghost use Rattle.std.specs.Prelude.{◌≡◌, ◌+◌, ◌≤◌, length};
 ghost use Rattle.text.specs.Parts.{split};
 ghost use Rattle.text.specs.Words.{words};
 ghost use Rattle.script.specs.Operations.{form_of};
@@ -9,23 +9,14 @@ ghost use Rattle.tables.specs.SetRead.{braced_items};
 ghost use Rattle.counts.specs.Counts.{set_count, quoted_count, data_count, raw_count, feature_count, inline_items};
 
 use openings::SetPlace;
-use text::parts::{Found, Span};
+use text::parts::Span;
 use wire::ops::Op;
 
 // How many parts stand between the commas: one more than there are commas.
 fn part_count(s: &[u8]) -> usize
     ensures { result ≡ length (split COMMA s.now) }
 {
-    let mut i: usize = 0;
-    let mut commas: usize = 0;
-    while i < s.len() {
-        let x = s[i];
-        i += 1;
-        if x == 0x2C {
-            commas += 1;
-        }
-    }
-    commas + 1
+    s.iter().filter(|x| **x == b',').count() + 1
 }
 
 // The items between the braces of a path set; where nothing stands there it has none. The piece is trimmed.
@@ -46,7 +37,7 @@ fn braced_count(text: &[u8], p: Span) -> usize
     requires { In text.now p }
     ensures { result ≡ length (braced_items text.now p) }
 {
-    let Found::At(n) = pieces::pieces::find_in(text, p, 0x7D) else {
+    let Some(n) = pieces::pieces::find_in(text, p, 0x7D) else {
         return 0;
     };
     let start = p.start;
@@ -106,12 +97,13 @@ fn filled_count(text: &[u8], p: Span) -> usize
     n
 }
 
+// How many words a text has.
 fn word_count(s: &[u8]) -> usize
     ensures { result ≡ length (words s.now) }
 {
     let mut at: usize = 0;
     let mut n: usize = 0;
-    while at < s.len() {
+    loop {
         let w = words::word_at(s, at);
         if w.start == w.end {
             return n;
@@ -119,7 +111,6 @@ fn word_count(s: &[u8]) -> usize
         at = w.end;
         n += 1;
     }
-    n
 }
 
 // The items of a feature set.

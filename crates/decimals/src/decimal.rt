@@ -11,13 +11,7 @@ pub fn decimal_len(n: u64) -> usize
     ensures value { result ≡ length (decimal n) }
     ensures upper_bound { result ≤ number_room }
 {
-    let mut rest = n;
-    let mut len: usize = 1;
-    while 10 <= rest {
-        rest = rest / 10;
-        len += 1;
-    }
-    len
+    if 10 <= n { decimal_len(n / 10) + 1 } else { 1 }
 }
 
 // Writes a number from `at` on, and says where the next byte goes.

@@ -11,7 +11,7 @@ use verdicts::Verdict;
 pub fn exact(text: &[u8], value: &[u8]) -> Verdict
     ensures { result ≡ decides (expected.exact text.now) value.now }
 {
-    orders::passed_if(same_values::same_value(value, text))
+    orders::passed_if(text::parts::same(value, text))
 }
 
 pub fn regex(pattern: &[u8], value: &[u8]) -> Verdict

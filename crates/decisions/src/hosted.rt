@@ -8,18 +8,18 @@ ghost use Rattle.orders.specs.Orders.{matching, order_of};
 pub fn exact(text: &[u8], value: &[u8]) -> u8
     ensures { result ≡ code (decides (expected.exact text.now) value.now) }
 {
-    verdicts::code_of(crate::decide::exact(text, value))
+    u8::from(crate::decide::exact(text, value))
 }
 
 pub fn pattern(pattern: &[u8], value: &[u8]) -> u8
     ensures { result ≡ code (decides (expected.regex pattern.now) value.now) }
 {
-    verdicts::code_of(crate::decide::regex(pattern, value))
+    u8::from(crate::decide::regex(pattern, value))
 }
 
 // The kinds are numbered as `order_of` says.
 pub fn ordering(kind: u8, n: i64, value: &[u8]) -> u8
     ensures { result ≡ code (decides (matching (order_of kind) n) value.now) }
 {
-    verdicts::code_of(orders::compare(orders::order_of(kind), n, value))
+    u8::from(orders::compare(orders::order_of(kind), n, value))
 }

@@ -10,7 +10,7 @@ use Rattle.text.specs.Base.{overlaid}
 use Rattle.written.specs.Written.{written_at}
 use Rattle.tables.specs.Items.{item_of}
 use Rattle.written.proofs.WrittenLaws.{written_length, written_twice}
-use Rattle.script.specs.Reading.{Parsed, read_into}
+use Rattle.script.specs.Reading.{read_into, Parsed}
 use Rattle.script.specs.Layout.{Reading}
 use Rattle.read.specs.Read.{lent_of, script_or, tables_or}
 use Rattle.script.specs.declared.records.Entry.{Entry}

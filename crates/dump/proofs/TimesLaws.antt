@@ -1,35 +1,24 @@
 -- Laws of reading again and again: the tables keep their lengths, so that each time the answer is the same. Assumes nothing.
+use Rattle.std.specs.Prelude.{Err, Ok}
 use Prim.Native.Nat.{ℕ, ◌+◌, ◌≤◌}
-use mathlib.Core.Path.{◌≡◌, refl, sym, ap, ◌∙◌}
+use mathlib.Core.Path.{◌≡◌, refl, ap, ◌∙◌}
 use mathlib.Core.List.{List}
 use native.Mathlib.Numerals.{add-one}
 use lib.ListN.{length, replicate, length-replicate}
-use Rattle.script.specs.Reading.{Parsed, refused_at, read, read_into}
+use Rattle.script.specs.Reading.{read_into, Parsed}
 use Rattle.script.specs.Layout.{Reading}
 use Rattle.script.specs.declared.records.Entry.{Entry}
 use Rattle.script.specs.declared.records.Expectation.{Expectation}
-use Rattle.read.specs.Read.{answer_of, script_or, lent_of}
-use Rattle.read.specs.declared.reading.Answer.{Answer}
-use Rattle.read.specs.declared.reading.Answer.TheVariants.{Refused, Read}
-use Rattle.read.specs.contracts.reading.Answer.{the_type}
-use denote.Enum.Declared.{tag_of}
+use Rattle.read.specs.Read.{script_or, lent_of}
 use Rattle.script.specs.declared.records.Counts.{Counts}
 use native.Mathlib.Omega.{arith}
 use Rattle.dump.specs.Times.{refusal_number, many_lent, last_number}
-
-pub number_by : (a x : Answer) → a ≡ x → (r : ℕ) → r ≡ refusal_number (answer_of x) → r ≡ refusal_number (answer_of a)
-number_by a x e r h = h ∙ ap (λ (y : Answer). refusal_number (answer_of y)) (sym e)
-
--- where it was read
-pub number_read : (a : Answer) → tag_of the_type a ≡ 1 → 0 ≡ refusal_number (answer_of a)
-unfolding refusal_number answer_of
-number_read (Refused r) e = absurd (omega (arith, e))
-number_read (Read s) e = refl
+use Rattle.script.specs.declared.records.Script.{Script}
 
 number_or : (p : Parsed Reading) → refusal_number (script_or p) ≡ refusal_number p
 unfolding refusal_number script_or
-number_or (refused_at r) = refl
-number_or (read r) = refl
+number_or (Err r) = refl
+number_or (Ok r) = refl
 
 pub never_read : (text : List ℕ) → 0 ≡ last_number text 0
 unfolding last_number
@@ -41,7 +30,7 @@ module _ (text : List ℕ) (es : List Entry) (is : List (List ℕ)) (xs : List E
     many : lent_of es is xs bs ≡ many_lent
     many = rw (f, g, h, i)
 
-    pub once_more : (a : Answer) → answer_of a ≡ script_or (read_into (lent_of es is xs bs) text) → (r : ℕ) → r ≡ refusal_number (answer_of a) → (n : ℕ) → r ≡ last_number text (n + 1)
+    pub once_more : (a : Parsed Script) → a ≡ script_or (read_into (lent_of es is xs bs) text) → (r : ℕ) → r ≡ refusal_number a → (n : ℕ) → r ≡ last_number text (n + 1)
     unfolding last_number
     once_more a e r q n = rw (add-one n) (q ∙ ap refusal_number e ∙ number_or (read_into (lent_of es is xs bs) text) ∙ ap (λ (c : Counts). refusal_number (read_into c text)) many)
 

@@ -2,7 +2,7 @@
 -- table is dumped, used or not, so that the host also sees what was not written. Assumes nothing.
 use Rattle.std.specs.Prelude.{ℕ, min, replicate}
 use mathlib.Core.List.{List, [], ◌∷◌, ◌++◌, map, flat_map}
-use Rattle.script.specs.Reading.{Parsed, read_into}
+use Rattle.script.specs.Reading.{read_into, Parsed}
 use Rattle.script.specs.Layout.{Reading}
 use Rattle.script.specs.declared.records.Expectation.{Expectation}
 use Rattle.script.specs.declared.records.Entry.{Entry}

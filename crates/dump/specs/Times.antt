@@ -1,11 +1,12 @@
 -- What reading a text again and again answers. Assumes nothing.
-use Rattle.std.specs.Prelude.{ℕ, zero, suc, List}
-use Rattle.script.specs.Reading.{Parsed, refused_at, read, read_into}
+use Rattle.std.specs.Prelude.{ℕ, zero, suc, List, Err, Ok}
+use Rattle.script.specs.Reading.{read_into, Parsed}
+use Rattle.script.specs.Refusals.{reason_number}
 use Rattle.script.specs.declared.records.Counts.{Counts}
 
 unfoldable pub refusal_number : {A : Type 0} → Parsed A → ℕ
-refusal_number (refused_at r) = r.number
-refusal_number (read a) = 0
+refusal_number (Err r) = reason_number r.reason
+refusal_number (Ok a) = 0
 
 -- the tables that are lent each time
 abbrev pub many_lent : Counts

@@ -1,26 +1,26 @@
 // The numbers of what Read answers.
 ghost use Rattle.std.specs.Prelude.{◌≡◌};
-ghost use Rattle.read.specs.Read.{answer_of};
 ghost use Rattle.numbers.specs.Numbers.{maybe_numbers, maybe_items_numbers, script_numbers, head_numbers};
 
-use read::reading::Answer;
-use script::records::{Maybe, MaybeItems, Script};
+use script::records::{Items, Place, Refusal, Script};
 
-fn maybe_numbers(m: Maybe) -> [u64; 3]
+#[tactic(auto, unfolding(numbers::specs::Numbers::maybe_numbers, call_fields::specs::CallFields::place_numbers))]
+fn maybe_numbers(m: Option<Place>) -> [u64; 3]
     ensures { result ≡ maybe_numbers m }
 {
     match m {
-        Maybe::Absent => [0, 0, 0],
-        Maybe::At(p) => [1, p.start as u64, p.len as u64],
+        None => [0, 0, 0],
+        Some(p) => [1, p.start as u64, p.len as u64],
     }
 }
 
-fn maybe_items_numbers(m: MaybeItems) -> [u64; 3]
+#[tactic(auto, unfolding(numbers::specs::Numbers::maybe_items_numbers, call_fields::specs::CallFields::items_numbers))]
+fn maybe_items_numbers(m: Option<Items>) -> [u64; 3]
     ensures { result ≡ maybe_items_numbers m }
 {
     match m {
-        MaybeItems::Absent => [0, 0, 0],
-        MaybeItems::Are(i) => [1, i.first as u64, i.count as u64],
+        None => [0, 0, 0],
+        Some(i) => [1, i.first as u64, i.count as u64],
     }
 }
 
@@ -62,13 +62,14 @@ fn script_numbers(s: Script) -> [u64; 20]
     ]
 }
 
-pub fn head_numbers(a: Answer) -> [u64; 20]
-    ensures { result ≡ head_numbers (answer_of a) }
+#[tactic(auto, unfolding(numbers::specs::Numbers::head_numbers, call_fields::specs::CallFields::padded))]
+pub fn head_numbers(a: Result<Script, Refusal>) -> [u64; 20]
+    ensures { result ≡ head_numbers a }
 {
     match a {
-        Answer::Refused(r) => [
+        Err(r) => [
             1,
-            r.number,
+            r.reason.number(),
             r.line as u64,
             0,
             0,
@@ -88,6 +89,6 @@ pub fn head_numbers(a: Answer) -> [u64; 20]
             0,
             0,
         ],
-        Answer::Read(s) => script_numbers(s),
+        Ok(s) => script_numbers(s),
     }
 }

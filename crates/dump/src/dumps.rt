@@ -1,13 +1,11 @@
 // The dump of a reading into lent tables, and into tables of its own.
 ghost use Rattle.std.specs.Prelude.{◌≡◌, ◌+◌, ◌*◌, ◌≤◌, min, length};
 ghost use Rattle.text.specs.Base.{overlaid};
-ghost use Rattle.read.specs.Read.{answer_of};
 ghost use Rattle.written.specs.Written.{written_at};
 ghost use Rattle.numbers.specs.Numbers.{in_bytes, head_numbers};
 ghost use Rattle.dump.specs.Dump.{dump_into, read_dump};
 
-use read::reading::Answer;
-use script::records::{Entry, Expectation};
+use script::records::{Entry, Expectation, Refusal, Script};
 
 // How many bytes a dump has.
 fn dump_size(entries: usize, items: usize, expectations: usize, store: usize) -> usize
@@ -18,10 +16,10 @@ fn dump_size(entries: usize, items: usize, expectations: usize, store: usize) ->
 }
 
 // Writes the answer at the front, and says where it ends.
-fn put_answer(out: &mut [u8], a: Answer) -> usize
+fn put_answer(out: &mut [u8], a: Result<Script, Refusal>) -> usize
     requires { 160 ≤ length out.old }
-    ensures value { result ≡ length (in_bytes (head_numbers (answer_of a))) }
-    ensures out_after { out.new ≡ written_at 0 (in_bytes (head_numbers (answer_of a))) out.old }
+    ensures value { result ≡ length (in_bytes (head_numbers a)) }
+    ensures out_after { out.new ≡ written_at 0 (in_bytes (head_numbers a)) out.old }
 {
     let numbers = crate::answers::head_numbers(a);
     numbers::bytes::put_numbers(out, 0, &numbers)

@@ -1,17 +1,17 @@
 // Reading again and again, for a host that measures how long it takes.
 ghost use Rattle.std.specs.Prelude.{◌≡◌};
-ghost use Rattle.read.specs.Read.{answer_of};
 ghost use Rattle.dump.specs.Times.{refusal_number, last_number};
 
-use read::reading::Answer;
+use script::records::{Refusal, Script};
 
 // The number of the refusal, or 0.
-fn number_of(a: Answer) -> u64
-    ensures { result ≡ refusal_number (answer_of a) }
+#[tactic(auto, unfolding(crate::specs::Times::refusal_number))]
+fn number_of(a: Result<Script, Refusal>) -> u64
+    ensures { result ≡ refusal_number a }
 {
     match a {
-        Answer::Refused(r) => r.number,
-        Answer::Read(_) => 0,
+        Err(r) => r.reason.number(),
+        Ok(_) => 0,
     }
 }
 

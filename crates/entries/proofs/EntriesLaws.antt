@@ -1,4 +1,5 @@
 -- Laws of the loop over the entries. Assumes nothing.
+use Rattle.std.specs.Prelude.{None, Option, Some}
 use Prim.Native.Nat.{ℕ, suc, ◌+◌, ◌-◌, ◌≤◌, ◌<◌}
 use mathlib.Core.Path.{◌≡◌, refl, sym, ap, ◌∙◌}
 use mathlib.Core.List.{List, [], ◌∷◌, ◌++◌, map, map-append}
@@ -19,7 +20,6 @@ use Rattle.tables.specs.Items.{item_of}
 use Rattle.written.proofs.WrittenLaws.{Filling, filling_begun, filling_length, filled, filling_room, filling_on, filling_place, filling_more, written_one}
 use Rattle.below.specs.Below.{roles_at, ahead, ahead_of, NextIn}
 use Rattle.below.specs.declared.lines_below.Ahead.{Ahead}
-use Rattle.below.specs.declared.lines_below.Next.{Next}
 use Rattle.entries.specs.Entries.{entry_at, laid_entry, entries_ahead}
 
 -- ---- what is ahead
@@ -38,35 +38,35 @@ entries-ahead text (m ∷ ms) = go m.role (entries-ahead text ms)
     go (Bad n) e = e
 
 -- how far it is to the end of the text
-unfoldable pub left_in : (text : List ℕ) → Next → ℕ
-left_in text Next.End = 0
-left_in text (Next.Entry a) = suc (length text - a.at)
+unfoldable pub left_in : (text : List ℕ) → Option Ahead → ℕ
+left_in text None = 0
+left_in text (Some a) = suc (length text - a.at)
 
-module _ (text : List ℕ) (next : Next) (a : Ahead) (e : next ≡ Next.Entry a) where
-  pub next_falls : (after : Next) → a.at ≤ length text → NextIn text a.at after → left_in text after < left_in text next
+module _ (text : List ℕ) (next : Option Ahead) (a : Ahead) (e : next ≡ Some a) where
+  pub next_falls : (after : Option Ahead) → a.at ≤ length text → NextIn text a.at after → left_in text after < left_in text next
   unfolding left_in NextIn
-  next_falls Next.End h i = rw e (omega arith)
-  next_falls (Next.Entry b) h i = rw e (omega (arith, i.0, i.1))
+  next_falls None h i = rw e (omega arith)
+  next_falls (Some b) h i = rw e (omega (arith, i.0, i.1))
 
   pub next_in : NextIn text 0 next → (a.at ≤ length text) × (a.line ≤ a.at) × In text a.opening.args
   unfolding NextIn
-  next_in i = let j : NextIn text 0 (Next.Entry a) = (rw e at i) in (j.1, j.2, j.3)
+  next_in i = let j : NextIn text 0 (Some a) = (rw e at i) in (j.1, j.2, j.3)
 
   -- the entry at hand, and those behind it
-  pub entries_more : (after : Next) → ahead_of text after ≡ ahead (roles_at text a.stands a.at (a.line + 1))
+  pub entries_more : (after : Option Ahead) → ahead_of text after ≡ ahead (roles_at text a.stands a.at (a.line + 1))
       → entries plain_rules text (ahead_of text next) ≡ entry_at text a ∷ entries plain_rules text (ahead_of text after)
   unfolding ahead_of entries entry_on entry_at
   entries_more after q = rw e (ap (λ (es : List EntryContents). entry_at text a ∷ es) (entries-ahead text (roles_at text a.stands a.at (a.line + 1)) ∙ ap (entries plain_rules text) (sym q)))
 
-pub next_weaker : (text : List ℕ) (from : ℕ) (next : Next) → NextIn text from next → NextIn text 0 next
+pub next_weaker : (text : List ℕ) (from : ℕ) (next : Option Ahead) → NextIn text from next → NextIn text 0 next
 unfolding NextIn
-next_weaker text from Next.End i = tt
-next_weaker text from (Next.Entry a) i = (omega (arith, i.0), i.1, i.2, i.3)
+next_weaker text from None i = tt
+next_weaker text from (Some a) i = (omega (arith, i.0), i.1, i.2, i.3)
 
 -- ---- the loop
 
 -- What holds before each entry: the tables hold those before it, and those that are ahead are still to come.
-pub record Gone (text : List ℕ) (front early : ℕ) (entries₀ : List Entry) (items₀ : List (List ℕ)) (expectations₀ : List Expectation) (store₀ : List ℕ) (T : Tables) (next : Next)
+pub record Gone (text : List ℕ) (front early : ℕ) (entries₀ : List Entry) (items₀ : List (List ℕ)) (expectations₀ : List Expectation) (store₀ : List ℕ) (T : Tables) (next : Option Ahead)
     (table : List Entry) (items : List (List ℕ)) (expectations : List Expectation) (store : List ℕ) (n i x b : ℕ) : Type 0 where
   pub k : ℕ
   pub j : ℕ
@@ -78,7 +78,7 @@ pub record Gone (text : List ℕ) (front early : ℕ) (entries₀ : List Entry) 
   pub store-filled : Filling 0 T.store store₀ store b (tables_from i x b (entries plain_rules text (ahead_of text next))).store
 
 module _ (text : List ℕ) (front early : ℕ) (entries₀ : List Entry) (items₀ : List (List ℕ)) (expectations₀ : List Expectation) (store₀ : List ℕ) where
-  pub gone_first : (first : Next) → length (entries_ahead text first front early).entries ≤ length entries₀ → front + length (entries_ahead text first front early).items ≤ length items₀
+  pub gone_first : (first : Option Ahead) → length (entries_ahead text first front early).entries ≤ length entries₀ → front + length (entries_ahead text first front early).items ≤ length items₀
       → early + length (entries_ahead text first front early).expectations ≤ length expectations₀ → length (entries_ahead text first front early).store ≤ length store₀
       → Gone text front early entries₀ items₀ expectations₀ store₀ (entries_ahead text first front early) first entries₀ items₀ expectations₀ store₀ 0 front early 0
   unfolding entries_ahead
@@ -93,7 +93,7 @@ module _ (text : List ℕ) (front early : ℕ) (entries₀ : List Entry) (items�
     store-filled = filling_begun 0 _ store₀ _ refl (omega arith);
   }
 
-  module _ (T : Tables) (next : Next) (table : List Entry) (items : List (List ℕ)) (expectations : List Expectation) (store : List ℕ) (n i x b : ℕ)
+  module _ (T : Tables) (next : Option Ahead) (table : List Entry) (items : List (List ℕ)) (expectations : List Expectation) (store : List ℕ) (n i x b : ℕ)
       (g : Gone text front early entries₀ items₀ expectations₀ store₀ T next table items expectations store n i x b) where
     -- the tables keep their lengths
     pub gone_table : length table ≡ length entries₀
@@ -109,7 +109,7 @@ module _ (text : List ℕ) (front early : ℕ) (entries₀ : List Entry) (items�
     gone_store = filling_length 0 _ store₀ store b _ g.store-filled
 
     -- nothing is ahead
-    module _ (e : next ≡ Next.End) where
+    module _ (e : next ≡ None) where
       over : tables_from i x b (entries plain_rules text (ahead_of text next)) ≡ record { entries = []; items = []; expectations = []; store = [] }
       unfolding ahead_of entries tables_from
       over = rw e
@@ -127,7 +127,7 @@ module _ (text : List ℕ) (front early : ℕ) (entries₀ : List Entry) (items�
       all_store = (filled 0 _ store₀ store b _ g.store-filled (ap (λ (t : Tables). t.store) over)).1
 
     -- an entry is ahead
-    module _ (a : Ahead) (e : next ≡ Next.Entry a) where
+    module _ (a : Ahead) (e : next ≡ Some a) where
       abbrev E : EntryContents
       E = entry_at text a
 
@@ -193,7 +193,7 @@ module _ (text : List ℕ) (front early : ℕ) (entries₀ : List Entry) (items�
           omega (arith, g.x_is, g.expectations-filled.count, ap length expectations-left ∙ length-append E.expects later.expectations)
 
       -- it is read
-      pub gone_on : (after : Next) (table' : List Entry) (items' : List (List ℕ)) (expectations' : List Expectation) (store' : List ℕ) (n' i' x' b' : ℕ)
+      pub gone_on : (after : Option Ahead) (table' : List Entry) (items' : List (List ℕ)) (expectations' : List Expectation) (store' : List ℕ) (n' i' x' b' : ℕ)
           → ahead_of text after ≡ ahead (roles_at text a.stands a.at (a.line + 1)) → table' ≡ set table n (laid_entry i x b E) → items' ≡ written_at i (map item_of (laid i b E.call).items) items
           → expectations' ≡ written_at x E.expects expectations → store' ≡ written_at b (laid i b E.call).store store
           → n' ≡ n + 1 → i' ≡ i + length (laid i b E.call).items → x' ≡ x + length E.expects → b' ≡ b + length (laid i b E.call).store

@@ -1,9 +1,9 @@
 -- One entry: what the code writes and stores is what the reading lays out. Assumes nothing.
+use Rattle.std.specs.Prelude.{None, Option}
 use Prim.Native.Nat.{ℕ, ◌+◌, ◌≤◌, ◌<◌}
 use mathlib.Core.Path.{◌≡◌, refl, sym, ap, ◌∙◌}
 use mathlib.Core.Bool.{Bool}
 use mathlib.Core.List.{List, ◌++◌, map}
-use mathlib.Core.Option.{Option, none}
 use native.Mathlib.Omega.{arith}
 use lib.ListN.{length, set, replicate, length-append, length-map}
 use Rattle.text.specs.declared.parts.Span.{Span}
@@ -25,7 +25,6 @@ use Rattle.stored.specs.Closing.{set_items, stored, sizes_for, pairs_for, entry_
 use Rattle.stored.proofs.ClosingLaws.{laid-items, laid-store, laid_item_count, laid_store_count, sizes-sum, sizes-room, laid_entry_lem}
 use Rattle.stored.proofs.WriteLaws.{items-length, items-append}
 use Rattle.below.specs.Below.{roles_at, pairs_items, ahead_of, NextIn}
-use Rattle.below.specs.declared.lines_below.Next.{Next}
 use Rattle.entries.specs.declared.entries.Advance.{Advance}
 use Rattle.below.specs.declared.lines_below.Ahead.{Ahead}
 use Rattle.entries.specs.Entries.{takes_pairs, entry_at, laid_entry}
@@ -96,7 +95,7 @@ module _ (text : List ℕ) (a : Ahead) (i x b : ℕ) where
       abbrev value : Key → Option Span
       value = piece_at starts ends
 
-      left_by : (k : Key) → value k ≡ last_of k none ss
+      left_by : (k : Key) → value k ≡ last_of k None ss
       left_by k = v k ∙ ap (λ (p : Option Span). last_of k p ss) (said-none k)
 
       said : (k : Key) → value k ≡ value_of k ss
@@ -179,7 +178,7 @@ module _ (text : List ℕ) (a : Ahead) (i x b : ℕ) where
       store_written store store' q = rw all_stored q
 
 -- what the answer says
-module _ (text : List ℕ) (z : Sizes) (n : ℕ) (next : Next) (r : Advance) (e : r ≡ record { items = z.items; expects = n; store = z.first + z.second + z.third; next = next }) where
+module _ (text : List ℕ) (z : Sizes) (n : ℕ) (next : Option Ahead) (r : Advance) (e : r ≡ record { items = z.items; expects = n; store = z.first + z.second + z.third; next = next }) where
   pub says-items : (m : ℕ) → z.items ≡ m → r.items ≡ m
   says-items m h = ap (λ (s : Advance). s.items) e ∙ h
 
@@ -189,8 +188,8 @@ module _ (text : List ℕ) (z : Sizes) (n : ℕ) (next : Next) (r : Advance) (e 
   pub says-store : (m : ℕ) → z.first + z.second + z.third ≡ m → r.store ≡ m
   says-store m h = ap (λ (s : Advance). s.store) e ∙ h
 
-  pub says-ahead : (ms : List Marked) → ahead_of text next ≡ ms → ahead_of text r.next ≡ ms
-  says-ahead ms h = ap (λ (s : Advance). ahead_of text s.next) e ∙ h
+  pub says-ahead : (later : List Marked) → ahead_of text next ≡ later → ahead_of text r.next ≡ later
+  says-ahead later h = ap (λ (s : Advance). ahead_of text s.next) e ∙ h
 
   pub says-next : (from : ℕ) → NextIn text from next → NextIn text from r.next
   says-next from h = rw e h

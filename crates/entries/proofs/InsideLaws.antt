@@ -3,10 +3,9 @@ use Prim.Native.Nat.{ℕ, ◌≤◌}
 use mathlib.Core.Path.{◌≡◌}
 use mathlib.Core.Bool.{Bool, true, false}
 use mathlib.Core.List.{List, [], ◌∷◌, ◌++◌}
-use mathlib.Core.Option.{Option, none, some}
 use native.Mathlib.Omega.{arith}
 use lib.ListN.{length, drop, length-drop}
-use Rattle.std.specs.Prelude.{if◌then◌else◌}
+use Rattle.std.specs.Prelude.{if◌then◌else◌, None, Option, Some}
 use Rattle.text.specs.Lines.{lines_from}
 use Rattle.text.specs.declared.parts.Span.{Span}
 use Rattle.text.specs.declared.lines.Line.{Line}
@@ -71,7 +70,7 @@ module _ (text : List ℕ) where
   unfolding SayingIn OptIn value_or
   value_in k (Known k' p) v i j = go (same_key k k')
     where
-      go : (b : Bool) → OptIn text (if b then some p else v)
+      go : (b : Bool) → OptIn text (if b then Some p else v)
       go true = i
       go false = j
   value_in k (Pair a b) v i j = j
@@ -87,7 +86,7 @@ module _ (text : List ℕ) where
 
   module _ (w : Where) (at number : ℕ) (h : at ≤ length text) where
     -- the values that the lines up to the next opening line leave, where there was none before them
-    pub values_in : (starts ends : List ℕ) → ((k : Key) → piece_at starts ends k ≡ last_of k none (sayings (lead (roles_at text w at number)))) → SaidIn text starts ends
+    pub values_in : (starts ends : List ℕ) → ((k : Key) → piece_at starts ends k ≡ last_of k None (sayings (lead (roles_at text w at number)))) → SaidIn text starts ends
     unfolding SaidIn OptIn
     values_in starts ends v k =
-        rw (v k) (last_in k none (sayings (lead (roles_at text w at number))) tt (sayings_in (lead (roles_at text w at number)) (lead_in (roles_at text w at number) (at_in w at number h))))
+        rw (v k) (last_in k None (sayings (lead (roles_at text w at number))) tt (sayings_in (lead (roles_at text w at number)) (lead_in (roles_at text w at number) (at_in w at number h))))

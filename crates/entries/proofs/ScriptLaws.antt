@@ -1,9 +1,9 @@
 -- The preamble and the entries: what the code writes and stores is what the reading lays out. Assumes nothing.
+use Rattle.std.specs.Prelude.{None, Option}
 use Prim.Native.Nat.{ℕ, ◌+◌, ◌≤◌}
 use mathlib.Core.Path.{◌≡◌, refl, sym, ap, ap₂, ◌∙◌}
 use mathlib.Core.Bool.{false}
 use mathlib.Core.List.{List, [], ◌++◌, map, map-append}
-use mathlib.Core.Option.{Option, none}
 use native.Mathlib.Omega.{arith}
 use native.Mathlib.Nat.{zero-add}
 use lib.ListN.{length, replicate, length-append, length-map}
@@ -33,11 +33,11 @@ use Rattle.stored.specs.Closing.{front_of}
 use Rattle.stored.proofs.ClosingLaws.{laid_front}
 use Rattle.stored.proofs.WriteLaws.{items-length}
 use Rattle.below.specs.Below.{roles_at, ahead, ahead_of, pairs_items}
-use Rattle.below.specs.declared.lines_below.Next.{Next}
 use Rattle.entries.specs.Entries.{entries_ahead}
 use Rattle.entries.specs.Whole.{reading_of}
 use Rattle.entries.proofs.EntriesLaws.{entries-ahead}
 use Rattle.entries.proofs.InsideLaws.{values_in}
+use Rattle.below.specs.declared.lines_below.Ahead.{Ahead}
 
 module _ (text : List ℕ) where
   abbrev ms : List Marked
@@ -101,7 +101,7 @@ module _ (text : List ℕ) where
     abbrev value : Key → Option Span
     value = piece_at starts ends
 
-    left_by : (k : Key) → value k ≡ last_of k none (sayings above)
+    left_by : (k : Key) → value k ≡ last_of k None (sayings above)
     left_by k = v k ∙ ap (λ (p : Option Span). last_of k p (sayings above)) (said-none k)
 
     said : (k : Key) → value k ≡ value_of k (sayings above)
@@ -144,7 +144,7 @@ module _ (text : List ℕ) where
             ∙ preamble-is text above
             ∙ sym the_preamble
 
-        module _ (next : Next) (a : ahead_of text next ≡ ahead ms) where
+        module _ (next : Option Ahead) (a : ahead_of text next ≡ ahead ms) where
           tables_are : entries_ahead text next (features + server) n ≡ rest
           unfolding entries_ahead
           tables_are =

@@ -9,7 +9,7 @@ ghost use Rattle.kept.specs.Kept.{Memo};
 ghost use Rattle.below.specs.Below.{ahead, ahead_of, NextIn, roles_at};
 ghost use Rattle.entries.specs.Entries.{takes_pairs, entry_at, laid_entry, entries_ahead};
 
-use below::lines_below::{Ahead, Next, read_lines};
+use below::lines_below::{Ahead, read_lines};
 use closing::entry::entry_of;
 use kept::Kept;
 use records::calls::Sizes;
@@ -23,7 +23,7 @@ pub struct Advance {
     pub items: usize,
     pub expects: usize,
     pub store: usize,
-    pub next: Next,
+    pub next: Option<Ahead>,
 }
 
 // Whether the operation takes an override list.
@@ -37,7 +37,7 @@ fn takes_pairs(op: Op) -> bool
 }
 
 // What was taken, and what comes next.
-fn advanced(z: Sizes, expects: usize, next: Next) -> Advance
+fn advanced(z: Sizes, expects: usize, next: Option<Ahead>) -> Advance
     requires { z.first + z.second + z.third < 0x1_0000_0000_0000_0000 }
     ensures { result ≡ record { items = z.items; expects = expects; store = z.first + z.second + z.third; next = next } }
 {
@@ -106,7 +106,7 @@ pub fn read_entry(
     );
     let z = put_values(text, op, args, &starts, &ends, ls.pairs, items, i, store, b);
     let e = entry_of(text, a.line, p, &starts, &ends, i, b, z, x, ls.expects);
-    slots::put_entry(entries, n, e);
+    slots::put(entries, n, e);
     let next = ls.next;
     advanced(z, ls.expects, next)
 }
@@ -115,7 +115,7 @@ pub fn read_entry(
 pub fn read_entries(
     text: &[u8],
     kept: &[Kept],
-    first: Next,
+    first: Option<Ahead>,
     entries: &mut [Entry],
     items: &mut [[usize; 2]],
     front: usize,
@@ -143,10 +143,7 @@ pub fn read_entries(
     let mut i = front;
     let mut x = early;
     let mut b: usize = 0;
-    loop {
-        let Next::Entry(a) = next else {
-            return;
-        };
+    while let Some(a) = next {
         let r = read_entry(
             text,
             kept,
@@ -164,7 +161,6 @@ pub fn read_entries(
         i += r.items;
         x += r.expects;
         b += r.store;
-        let after = r.next;
-        next = after;
+        next = r.next;
     }
 }

@@ -16,30 +16,22 @@ use messages::rooms::frame_room;
 use messages::writes::put_frame;
 use scratch::put::write_value;
 use scratch::rooms::value_room;
-use script::records::Expect;
+use script::records::{Expect, Refusal};
+use script::refusals::Reason;
 use script::response::{DaemonResponse, HandshakeInfo};
 use sought::value::Value;
-use told::{Told, counted_of, refused};
+use told::{Told, counted_of};
 use verdict_of::{entry_verdict, handshake_verdict};
 use verdicts::Verdict;
-use writing::room::Room;
 
+#[tactic(auto, unfolding(crate::specs::ExpectRead::no_value))]
 fn is_missing(v: Value) -> bool
     ensures { result ≡ no_value v }
 {
-    match v {
-        Value::Missing => true,
-        Value::Number(_) => false,
-        Value::Text(_) => false,
-        Value::Unknown => false,
-        Value::Trusted => false,
-        Value::NotTrusted => false,
-        Value::List(_) => false,
-        Value::Features(_) => false,
-    }
+    matches!(v, Value::Missing)
 }
 
-// Writes a value and a message, once it is known that both fit: 34, then 38.
+// Writes a value and a message, once it is known that both fit, the value first.
 fn tell(
     f: Frame,
     v: Verdict,
@@ -49,25 +41,17 @@ fn tell(
     lists: &[[usize; 2]],
     scratch: &mut [u8],
     buffer: &mut [u8],
-) -> Told
+) -> Result<Told, Refusal>
     ensures value { result ≡ framed_as v (length (value_text bytes.now lists.now value)) (length (frame_bytes text.now bytes.now (value_text bytes.now lists.now value) f)) (length scratch.old) (length buffer.old) }
     ensures scratch_after { scratch.new ≡ unless_refused result (value_text bytes.now lists.now value) scratch.old }
     ensures buffer_after { buffer.new ≡ unless_refused result (frame_bytes text.now bytes.now (value_text bytes.now lists.now value) f) buffer.old }
 {
-    match value_room(value, bytes, lists, scratch.len()) {
-        Room::Short => refused(34),
-        Room::Left(k) => {
-            let len = scratch.len() - k;
-            match frame_room(f, text, bytes, len, buffer.len()) {
-                Room::Short => refused(38),
-                Room::Left(_) => {
-                    let n = write_value(value, bytes, lists, scratch);
-                    let told = put_frame(f, text, bytes, &scratch[..n], buffer);
-                    Told::Says(v, told)
-                }
-            }
-        }
-    }
+    let left = value_room(value, bytes, lists, scratch.len()).ok_or(Reason::ValueTooLong)?;
+    let long = scratch.len() - left;
+    frame_room(f, text, bytes, long, buffer.len()).ok_or(Reason::MessageTooLong)?;
+    let n = write_value(value, bytes, lists, scratch);
+    let len = put_frame(f, text, bytes, &scratch[..n], buffer);
+    Ok(Told { verdict: v, len })
 }
 
 // The message of an expectation that is judged against a response.
@@ -79,23 +63,22 @@ pub fn entry_message(
     lists: &[[usize; 2]],
     scratch: &mut [u8],
     buffer: &mut [u8],
-) -> Told
+) -> Result<Told, Refusal>
     ensures value { result ≡ told_of (expect_in (length text.now) e) (response_in (length bytes.now) (counted lists.now) r) (reply (response_of bytes.now (counted lists.now) r)) (expected_of text.now e) (length scratch.old) (length buffer.old) }
     ensures scratch_after { scratch.new ≡ unless_refused result (present_bytes (looked_in (response_of bytes.now (counted lists.now) r) (expected_of text.now e))) scratch.old }
     ensures buffer_after { buffer.new ≡ unless_refused result (entry_message (response_of bytes.now (counted lists.now) r) (expected_of text.now e)) buffer.old }
 {
-    if places::expect_in(text.len(), e) {
-        let table = counted_of(lists);
-        if response_places::response_in(bytes.len(), table, r) {
-            let value = looked_entry(e, text, r);
-            let v = entry_verdict(e, value, text, r, bytes, table);
-            let terminal = r.terminal;
-            let f = entry_frame(e, is_missing(value), v, terminal);
-            return tell(f, v, value, text, bytes, table, scratch, buffer);
-        }
-        return refused(32);
+    if !places::expect_in(text.len(), e) {
+        return Err(Refusal::from(Reason::ExpectationOutside));
     }
-    refused(31)
+    let table = counted_of(lists);
+    if !response_places::response_in(bytes.len(), table, r) {
+        return Err(Refusal::from(Reason::PartOutside));
+    }
+    let value = looked_entry(e, text, r);
+    let v = entry_verdict(e, value, text, r, bytes, table);
+    let f = entry_frame(e, is_missing(value), v, r.terminal);
+    tell(f, v, value, text, bytes, table, scratch, buffer)
 }
 
 // The message of an expectation that is judged against what the handshake told.
@@ -107,20 +90,20 @@ pub fn handshake_message(
     lists: &[[usize; 2]],
     scratch: &mut [u8],
     buffer: &mut [u8],
-) -> Told
+) -> Result<Told, Refusal>
     ensures value { result ≡ told_of (expect_in (length text.now) e) (info_in (length bytes.now) (counted lists.now) i) (greeting (info_of bytes.now (counted lists.now) i)) (expected_of text.now e) (length scratch.old) (length buffer.old) }
     ensures scratch_after { scratch.new ≡ unless_refused result (present_bytes (told_in (info_of bytes.now (counted lists.now) i) (expected_of text.now e))) scratch.old }
     ensures buffer_after { buffer.new ≡ unless_refused result (handshake_message (info_of bytes.now (counted lists.now) i) (expected_of text.now e)) buffer.old }
 {
-    if places::expect_in(text.len(), e) {
-        let table = counted_of(lists);
-        if response_places::info_in(bytes.len(), table, i) {
-            let value = looked_handshake(e, i);
-            let v = handshake_verdict(e, value, text, i, bytes, table);
-            let f = handshake_frame(e, v);
-            return tell(f, v, value, text, bytes, table, scratch, buffer);
-        }
-        return refused(32);
+    if !places::expect_in(text.len(), e) {
+        return Err(Refusal::from(Reason::ExpectationOutside));
     }
-    refused(31)
+    let table = counted_of(lists);
+    if !response_places::info_in(bytes.len(), table, i) {
+        return Err(Refusal::from(Reason::PartOutside));
+    }
+    let value = looked_handshake(e, i);
+    let v = handshake_verdict(e, value, text, i, bytes, table);
+    let f = handshake_frame(e, v);
+    tell(f, v, value, text, bytes, table, scratch, buffer)
 }

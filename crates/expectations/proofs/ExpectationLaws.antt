@@ -1,20 +1,18 @@
 -- Laws of expectations for the proofs of code: what an expectation is, from its first byte and the word that was found there. For `search` to use.
 -- Assumes nothing.
+use Rattle.std.specs.Prelude.{Err, None, Ok, Option, Some}
 use Prim.Native.Nat.{ℕ, ◌+◌}
 use Prim.Native.String.{String}
 use mathlib.Core.Path.{◌≡◌, refl, sym, ◌∙◌}
 use mathlib.Core.Bool.{Bool, true, false}
 use mathlib.Core.List.{List, [], ◌∷◌}
-use mathlib.Core.Option.{Option, none, some}
 use native.Mathlib.Omega.{arith}
 use lib.ListN.{length, get_or}
 use borrow.Author.Tests.{ne_eqb}
-use Rattle.text.specs.Parts.{span, starts_with, position, found_of}
+use Rattle.text.specs.Parts.{span, starts_with, position}
 use Rattle.text.specs.declared.parts.Span.{Span}
-use Rattle.text.specs.declared.parts.Found.{Found}
-use Rattle.text.specs.declared.parts.Found.TheVariants.{At, Nothing}
 use Rattle.text.proofs.LiteralLaws.{codes}
-use Rattle.script.specs.Answers.{Answer, given, refused, first_of}
+use Rattle.script.specs.Answers.{first_of, Answer}
 use Rattle.script.specs.Pieces.{place, bytes, behind, trim, cut_at}
 use Rattle.script.specs.Expectations.{COLON, about, matcher, matching, terminal, field, result, expectation}
 use Rattle.script.specs.Roles.{expecting, expect_role}
@@ -25,27 +23,26 @@ use Rattle.script.specs.declared.records.Expect.TheVariants as expect
 use Rattle.script.specs.declared.roles.Role.{Role}
 use Rattle.script.specs.declared.roles.Role.TheVariants.{Bad}
 use Rattle.script.specs.Inside.{In}
-use Rattle.matchers.specs.MatcherAnswers.{matcher_of}
-use Rattle.matchers.specs.declared.matchers.MatcherAnswer.{MatcherAnswer}
-use Rattle.matchers.specs.declared.matchers.MatcherAnswer.TheVariants.{Given, Refused}
 use Rattle.expectations.specs.ExpectAnswers.{expect_about, about_behind, about_word, field_at, by_sign}
 use Rattle.expectations.specs.declared.Subject.{Subject}
 use Rattle.expectations.specs.declared.Subject.TheVariants.{Result, Field, Error, StderrCount, Daemon, Trust, ServerFeatures}
 use Rattle.pieces.proofs.BehindLaws.{fronts, front_behind, front_is, front_fits, behind-some, behind-none, cut-some, cut-none}
+use Rattle.script.specs.declared.refusals.Reason.{Reason}
+use Rattle.script.specs.declared.refusals.Reason.TheVariants.{UnknownExpectation}
 
 -- what is made of the matcher that was read
-module _ (text : List ℕ) (r : Span) (n : ℕ) (s : Subject) (t : Span) (e : t ≡ trim text (span (r.start + n) r.end)) (a : MatcherAnswer) (q : matcher_of a ≡ matcher text t) where
-  pub matcher-given : (m : Matcher) → a ≡ Given m → (x : Expect) → x ≡ expect_about s m → given x ≡ about_behind text r n s
-  unfolding matcher_of about about_behind
+module _ (text : List ℕ) (r : Span) (n : ℕ) (s : Subject) (t : Span) (e : t ≡ trim text (span (r.start + n) r.end)) (a : Answer Matcher) (q : a ≡ matcher text t) where
+  pub matcher-given : (m : Matcher) → a ≡ Ok m → (x : Expect) → x ≡ expect_about s m → Ok x ≡ about_behind text r n s
+  unfolding about about_behind
   matcher-given m g x k = rw (← e, ← q, g, k)
 
-  pub matcher-refused : (k : ℕ) → a ≡ Refused k → refused k ≡ about_behind text r n s
-  unfolding matcher_of about about_behind
-  matcher-refused k g = rw (← e, ← q, g)
+  pub matcher-refused : (why : Reason) → a ≡ Err why → (b : Answer Expect) → b ≡ Err why → b ≡ about_behind text r n s
+  unfolding about about_behind
+  matcher-refused why g b h = rw (← e, ← q, g, h)
 
 -- and of the word: b is the answer of `pieces::begins`
 module _ (text : List ℕ) (r : Span) (word : List ℕ) (s : Subject) (b : Bool) (e : b ≡ starts_with word (bytes text r)) where
-  pub word_none : b ≡ false → refused 4 ≡ about_word text r word s
+  pub word_none : b ≡ false → Err UnknownExpectation ≡ about_word text r word s
   unfolding about_word
   word_none f = rw (sym e ∙ f)
 
@@ -54,22 +51,22 @@ module _ (text : List ℕ) (r : Span) (word : List ℕ) (s : Subject) (b : Bool)
   word_some t a h = rw (sym e ∙ t) h
 
 -- two attempts, the second only where the first fails, and nothing behind them
-either_sign : (o p : Option (Answer Expect)) → first_of (elim o [ none ↦ p | some e ↦ some e ] ∷ none ∷ none ∷ none ∷ []) (refused 4) ≡ first_of (o ∷ p ∷ []) (refused 4)
+either_sign : (o p : Option (Answer Expect)) → first_of (elim o [ None ↦ p | Some e ↦ Some e ] ∷ None ∷ None ∷ None ∷ []) (Err UnknownExpectation) ≡ first_of (o ∷ p ∷ []) (Err UnknownExpectation)
 unfolding first_of
-either_sign none none = refl
-either_sign none (some a) = refl
-either_sign (some a) p = refl
+either_sign None None = refl
+either_sign None (Some a) = refl
+either_sign (Some a) p = refl
 
-by_sign_lem : (text : List ℕ) (rest q : Span) → q ≡ trim text rest → first_of (result text (some rest) ∷ none ∷ none ∷ none ∷ []) (refused 4) ≡ by_sign text q
+by_sign_lem : (text : List ℕ) (rest q : Span) → q ≡ trim text rest → first_of (result text (Some rest) ∷ None ∷ None ∷ None ∷ []) (Err UnknownExpectation) ≡ by_sign text q
 unfolding result by_sign
 by_sign_lem text rest q k = rw k (either_sign (matching text expect.Result (behind text ":" (trim text rest))) (field text (behind text "." (trim text rest))))
 
 module _ (text : List ℕ) (r : Span) where
   module _ (x : ℕ) (e : x ≡ get_or (bytes text r) 0 0) where
-    no : (w : String) → fronts x (codes w) ≡ false → behind text w r ≡ none
+    no : (w : String) → fronts x (codes w) ≡ false → behind text w r ≡ None
     no = front_behind text r x e
 
-    pub no_form : (x ≡ 58 → ⊥) → (x ≡ 114 → ⊥) → (x ≡ 101 → ⊥) → (x ≡ 115 → ⊥) → (x ≡ 100 → ⊥) → (x ≡ 116 → ⊥) → refused 4 ≡ expectation text r
+    pub no_form : (x ≡ 58 → ⊥) → (x ≡ 114 → ⊥) → (x ≡ 101 → ⊥) → (x ≡ 115 → ⊥) → (x ≡ 100 → ⊥) → (x ≡ 116 → ⊥) → Err UnknownExpectation ≡ expectation text r
     unfolding expectation terminal matching result first_of
     no_form c r e s d t =
         rw (
@@ -82,7 +79,7 @@ module _ (text : List ℕ) (r : Span) where
           no "server_features:" (ne_eqb x 115 s),
         )
 
-  pub a_terminal : get_or (bytes text r) 0 0 ≡ 58 → (t : Span) → t ≡ trim text (span (r.start + 1) r.end) → (l : Place) → l ≡ place t → given (expect.Terminal l) ≡ expectation text r
+  pub a_terminal : get_or (bytes text r) 0 0 ≡ 58 → (t : Span) → t ≡ trim text (span (r.start + 1) r.end) → (l : Place) → l ≡ place t → Ok (expect.Terminal l) ≡ expectation text r
   unfolding expectation terminal first_of
   a_terminal x t e l k = rw (k, e, front_is text r 58 (sym x) ":" 58 refl refl refl)
 
@@ -92,26 +89,26 @@ module _ (text : List ℕ) (r : Span) where
   abbrev worded : (w : String) (s : Subject) → Option (Answer Expect)
   worded w s = matching text (expect_about s) (behind text w r)
 
-  word_is : (w : String) (s : Subject) (os : List (Option (Answer Expect))) → first_of os (refused 4) ≡ refused 4 → about_word text r (codes w) s ≡ first_of (worded w s ∷ os) (refused 4)
+  word_is : (w : String) (s : Subject) (os : List (Option (Answer Expect))) → first_of os (Err UnknownExpectation) ≡ Err UnknownExpectation → about_word text r (codes w) s ≡ first_of (worded w s ∷ os) (Err UnknownExpectation)
   unfolding about_word about_behind matching first_of
   word_is w s os l = go (starts_with (codes w) (bytes text r)) refl
     where
-      go : (b : Bool) → b ≡ starts_with (codes w) (bytes text r) → about_word text r (codes w) s ≡ first_of (worded w s ∷ os) (refused 4)
+      go : (b : Bool) → b ≡ starts_with (codes w) (bytes text r) → about_word text r (codes w) s ≡ first_of (worded w s ∷ os) (Err UnknownExpectation)
       go true e = rw (behind-some text r w true e refl, ← e)
       go false e = rw (behind-none text r w false e refl, ← e, l)
 
   module _ (a : Answer Expect) where
     pub a_daemon : get_or (bytes text r) 0 0 ≡ 100 → a ≡ about_word text r (codes "daemon:") Daemon → a ≡ expectation text r
     unfolding expectation terminal matching result first_of expect_about
-    a_daemon x h = h ∙ word_is "daemon:" Daemon (none ∷ none ∷ []) refl ∙ sym (simp (no 100 (sym x)))
+    a_daemon x h = h ∙ word_is "daemon:" Daemon (None ∷ None ∷ []) refl ∙ sym (simp (no 100 (sym x)))
 
     pub an_error : get_or (bytes text r) 0 0 ≡ 101 → a ≡ about_word text r (codes "error:") Error → a ≡ expectation text r
     unfolding expectation terminal matching result first_of expect_about
-    an_error x h = h ∙ word_is "error:" Error (none ∷ none ∷ none ∷ none ∷ []) refl ∙ sym (simp (no 101 (sym x)))
+    an_error x h = h ∙ word_is "error:" Error (None ∷ None ∷ None ∷ None ∷ []) refl ∙ sym (simp (no 101 (sym x)))
 
     pub a_trust : get_or (bytes text r) 0 0 ≡ 116 → a ≡ about_word text r (codes "trust:") Trust → a ≡ expectation text r
     unfolding expectation terminal matching result first_of expect_about
-    a_trust x h = h ∙ word_is "trust:" Trust (none ∷ []) refl ∙ sym (simp (no 116 (sym x)))
+    a_trust x h = h ∙ word_is "trust:" Trust (None ∷ []) refl ∙ sym (simp (no 116 (sym x)))
 
     module _ (x : get_or (bytes text r) 0 0 ≡ 115) (b : Bool) (e : b ≡ starts_with (codes "stderr.count:") (bytes text r)) where
       pub a_count : b ≡ true → a ≡ about_behind text r 13 StderrCount → a ≡ expectation text r
@@ -125,7 +122,7 @@ module _ (text : List ℕ) (r : Span) where
   -- ---- behind the word `result`
 
   module _ (x : get_or (bytes text r) 0 0 ≡ 114) (b : Bool) (e : b ≡ starts_with (codes "result") (bytes text r)) where
-    pub no_result : b ≡ false → refused 4 ≡ expectation text r
+    pub no_result : b ≡ false → Err UnknownExpectation ≡ expectation text r
     unfolding expectation terminal matching result first_of
     no_result f = simp (no 114 (sym x), behind-none text r "result" b e f)
 
@@ -135,11 +132,11 @@ module _ (text : List ℕ) (r : Span) where
         h ∙ sym (simp (no 114 (sym x), behind-some text r "result" b e t) (by_sign_lem text (span (r.start + 6) r.end) q k))
 
 module _ (text : List ℕ) (q : Span) (y : ℕ) (g : y ≡ get_or (bytes text q) 0 0) where
-  pub a_field : y ≡ 46 → (a : Answer Expect) → a ≡ first_of (field text (behind text "." q) ∷ []) (refused 4) → a ≡ by_sign text q
+  pub a_field : y ≡ 46 → (a : Answer Expect) → a ≡ first_of (field text (behind text "." q) ∷ []) (Err UnknownExpectation) → a ≡ by_sign text q
   unfolding by_sign matching first_of
   a_field d a h = rw (front_behind text q 46 (sym d ∙ g) ":" refl) h
 
-  pub no_sign : (y ≡ 46 → ⊥) → (y ≡ 58 → ⊥) → refused 4 ≡ by_sign text q
+  pub no_sign : (y ≡ 46 → ⊥) → (y ≡ 58 → ⊥) → Err UnknownExpectation ≡ by_sign text q
   unfolding by_sign matching field first_of
   no_sign d c = rw (front_behind text q y g ":" (ne_eqb y 58 c), front_behind text q y g "." (ne_eqb y 46 d))
 
@@ -151,12 +148,12 @@ module _ (text : List ℕ) (q : Span) (y : ℕ) (g : y ≡ get_or (bytes text q)
 pub dot_in : (text : List ℕ) (q : Span) → get_or (bytes text q) 0 0 ≡ 46 → In text q → In text (span (q.start + 1) q.end)
 dot_in text q x i = record { forward = front_fits text q 46 i x refl; inside = i.inside }
 
-module _ (text : List ℕ) (q : Span) (x : get_or (bytes text q) 0 0 ≡ 46) (f : Found) (e : found_of f ≡ position COLON (bytes text (span (q.start + 1) q.end))) where
-  pub no_name : f ≡ Nothing → refused 4 ≡ first_of (field text (behind text "." q) ∷ []) (refused 4)
+module _ (text : List ℕ) (q : Span) (x : get_or (bytes text q) 0 0 ≡ 46) (f : Option ℕ) (e : f ≡ position COLON (bytes text (span (q.start + 1) q.end))) where
+  pub no_name : f ≡ None → Err UnknownExpectation ≡ first_of (field text (behind text "." q) ∷ []) (Err UnknownExpectation)
   unfolding field first_of
   no_name h = rw (front_is text q 46 (sym x) "." 46 refl refl refl, cut-none text (q.start + 1) q.end COLON f e h)
 
-  pub a_name : (n : ℕ) → f ≡ At n → (a : Answer Expect) → a ≡ field_at text (span (q.start + 1) q.end) n → a ≡ first_of (field text (behind text "." q) ∷ []) (refused 4)
+  pub a_name : (n : ℕ) → f ≡ Some n → (a : Answer Expect) → a ≡ field_at text (span (q.start + 1) q.end) n → a ≡ first_of (field text (behind text "." q) ∷ []) (Err UnknownExpectation)
   unfolding field matching first_of field_at
   a_name n h a k = rw (front_is text q 46 (sym x) "." 46 refl refl refl, cut-some text (q.start + 1) q.end COLON f e n h) k
 
@@ -168,7 +165,7 @@ a_cut text p n name k a h = let e : p.start + n + 1 ≡ p.start + (n + 1) = omeg
 
 -- a line that begins with `expect`
 module _ (text : List ℕ) (t : Span) (b : Bool) (e : b ≡ starts_with (codes "expect") (bytes text t)) where
-  pub no_expect : b ≡ false → Bad 4 ≡ expect_role text t
+  pub no_expect : b ≡ false → Bad UnknownExpectation ≡ expect_role text t
   unfolding expect_role
   no_expect f = rw (behind-none text t "expect" b e f, expect_role)
 
@@ -176,12 +173,10 @@ module _ (text : List ℕ) (t : Span) (b : Bool) (e : b ≡ starts_with (codes "
   unfolding expect_role
   expects y q k a h r l = rw (behind-some text t "expect" b e y, ← k, ← h, l, expect_role)
 
-pub ruleset matcher_steps = (matcher-given, matcher-refused)
-
 pub ruleset expect_words = (no_form, a_terminal, a_daemon, an_error, a_trust, a_count, some-features)
 
 pub ruleset result_words = (no_result, a_result)
 
 pub ruleset result-signs = (a_field, no_sign, a_colon)
 
-pub ruleset field-words = (no_name, a_name, dot_in, a_cut)
+pub ruleset field-words = (a_name, dot_in, a_cut)

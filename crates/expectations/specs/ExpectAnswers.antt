@@ -1,21 +1,16 @@
--- What the code's answers about expectations say, and the definitions of its steps. Assumes nothing.
-use Rattle.std.specs.Prelude.{ℕ, ◌+◌, List, [], ◌∷◌, length, if◌then◌else◌}
+-- The definitions of the steps that the code takes to an expectation. Assumes nothing.
+use Rattle.std.specs.Prelude.{ℕ, ◌+◌, List, [], ◌∷◌, length, if◌then◌else◌, Err}
 use Rattle.text.specs.Parts.{span, starts_with}
 use Rattle.text.specs.declared.parts.Span.{Span}
-use Rattle.script.specs.Answers.{Answer, given, refused, first_of}
+use Rattle.script.specs.Answers.{first_of, Answer}
 use Rattle.script.specs.Pieces.{place, bytes, behind, trim, cut_at}
 use Rattle.script.specs.Expectations.{about, matcher, matching, field}
 use Rattle.script.specs.declared.records.Matcher.{Matcher}
 use Rattle.script.specs.declared.records.Expect.{Expect}
 use Rattle.script.specs.declared.records.Expect.TheVariants as expect
-use Rattle.expectations.specs.declared.ExpectAnswer.{ExpectAnswer}
-use Rattle.expectations.specs.declared.ExpectAnswer.TheVariants.{Given, Refused}
 use Rattle.expectations.specs.declared.Subject.{Subject}
 use Rattle.expectations.specs.declared.Subject.TheVariants.{Result, Field, Error, StderrCount, Daemon, Trust, ServerFeatures}
-
-unfoldable pub expect_of : ExpectAnswer → Answer Expect
-expect_of (Given e) = given e
-expect_of (Refused n) = refused n
+use Rattle.script.specs.declared.refusals.Reason.TheVariants.{UnknownExpectation}
 
 -- the expectation about that, of its matcher
 unfoldable pub expect_about : Subject → Matcher → Expect
@@ -32,9 +27,9 @@ module _ (text : List ℕ) where
   unfoldable pub about_behind : Span → (n : ℕ) → Subject → Answer Expect
   about_behind r n s = about (expect_about s) (matcher text (trim text (span (r.start + n) r.end)))
 
-  -- the same behind a word, given as bytes. 4: it does not stand there
+  -- the same behind a word, given as bytes; refused where it does not stand there
   unfoldable pub about_word : Span → (word : List ℕ) → Subject → Answer Expect
-  about_word r word s = if starts_with word (bytes text r) then about_behind r (length word) s else refused 4
+  about_word r word s = if starts_with word (bytes text r) then about_behind r (length word) s else Err UnknownExpectation
 
   -- a field's name and its matcher: the two parts of a piece, with the colon at its n-th byte
   unfoldable pub field_at : Span → (n : ℕ) → Answer Expect
@@ -42,4 +37,4 @@ module _ (text : List ℕ) where
 
   -- by the sign behind the word `result`: `: matcher`, or `.field: matcher`
   unfoldable pub by_sign : Span → Answer Expect
-  by_sign q = first_of (matching text expect.Result (behind text ":" q) ∷ field text (behind text "." q) ∷ []) (refused 4)
+  by_sign q = first_of (matching text expect.Result (behind text ":" q) ∷ field text (behind text "." q) ∷ []) (Err UnknownExpectation)

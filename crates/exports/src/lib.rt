@@ -1,7 +1,8 @@
 // What a host in Rust or C calls, with numbers and byte slices. No logic of its own, and no `requires`: any bytes may come.
 #![tactic(auto)]
 
-ghost use Rattle.std.specs.Prelude.{◌^◌, ◌≡◌, length};
+ghost use Rattle.std.specs.Prelude.{◌^◌, ◌≡◌, length, unwrap_or};
+ghost use Rattle.std.specs.Option.{is_some};
 ghost use Rattle.text.specs.Base.{overlaid};
 ghost use Rattle.text.specs.Utf8.{well_formed};
 ghost use Rattle.text.specs.Trim.{trim_place};
@@ -15,13 +16,10 @@ ghost use Rattle.verdicts.specs.Expected.{exact, regex};
 ghost use Rattle.verdicts.specs.Verdicts.{code};
 ghost use Rattle.orders.specs.Orders.{matching, order_of};
 ghost use Rattle.exports.specs.Answered.{refused_as, line_of, counts_or};
-ghost use Rattle.given.specs.Given.{is_given, given_or};
 ghost use Rattle.dump.specs.Dump.{read_dump};
 ghost use Rattle.dump.specs.Times.{last_number};
 
 pub mod message_exports;
-
-use parse::measure::Measured;
 
 // Whether the bytes are well-formed UTF-8.
 #[unsafe(no_mangle)]
@@ -93,38 +91,39 @@ pub extern "C" fn nwscript_unquote(s: &[u8], out: &mut [u8]) -> usize
 // A u64, a u16, a u8 as Rust's `parse` reads them: whether it could be read; value is left alone if not.
 #[unsafe(no_mangle)]
 pub extern "C" fn nwscript_u64(s: &[u8], value: &mut u64) -> bool
-    ensures value { result ≡ is_given (number (2 ^ 64) s.now) }
-    ensures value_after { value.new ≡ given_or (number (2 ^ 64) s.now) value.old }
+    ensures value { result ≡ is_some (number (2 ^ 64) s.now) }
+    ensures value_after { value.new ≡ unwrap_or (number (2 ^ 64) s.now) value.old }
 {
-    given::give(values::number::parse_u64(s), value)
+    given::give(values::number::parse_up_to(s, u64::MAX), value)
 }
 
 #[unsafe(no_mangle)]
 pub extern "C" fn nwscript_u16(s: &[u8], value: &mut u64) -> bool
-    ensures value { result ≡ is_given (number (2 ^ 16) s.now) }
-    ensures value_after { value.new ≡ given_or (number (2 ^ 16) s.now) value.old }
+    ensures value { result ≡ is_some (number (2 ^ 16) s.now) }
+    ensures value_after { value.new ≡ unwrap_or (number (2 ^ 16) s.now) value.old }
 {
-    given::give(values::number::parse_u16(s), value)
+    given::give(values::number::parse_up_to(s, u16::MAX as u64), value)
 }
 
 #[unsafe(no_mangle)]
 pub extern "C" fn nwscript_u8(s: &[u8], value: &mut u64) -> bool
-    ensures value { result ≡ is_given (number (2 ^ 8) s.now) }
-    ensures value_after { value.new ≡ given_or (number (2 ^ 8) s.now) value.old }
+    ensures value { result ≡ is_some (number (2 ^ 8) s.now) }
+    ensures value_after { value.new ≡ unwrap_or (number (2 ^ 8) s.now) value.old }
 {
-    given::give(values::number::parse_u8(s), value)
+    given::give(values::number::parse_up_to(s, u8::MAX as u64), value)
 }
 
 // An i64, in the same manner.
 #[unsafe(no_mangle)]
 pub extern "C" fn nwscript_i64(s: &[u8], value: &mut i64) -> bool
-    ensures value { result ≡ is_given (signed s.now) }
-    ensures value_after { value.new ≡ given_or (signed s.now) value.old }
+    ensures value { result ≡ is_some (signed s.now) }
+    ensures value_after { value.new ≡ unwrap_or (signed s.now) value.old }
 {
-    given::give_signed(values::number::parse_i64(s), value)
+    given::give(values::number::parse_i64(s), value)
 }
 
 // Measure: the number of the refusal, or 0. What is lent takes the refusal's line, or 0, and the counts, which are 0 where the text is refused.
+#[tactic(auto, unfolding(crate::specs::Answered::refused_as, crate::specs::Answered::line_of, crate::specs::Answered::counts_or, measuring::specs::Measure::zeros))]
 #[unsafe(no_mangle)]
 pub extern "C" fn nwscript_measure(
     text: &[u8],
@@ -142,15 +141,15 @@ pub extern "C" fn nwscript_measure(
     ensures store_after { store.new ≡ (counts_or (measured text.now)).store }
 {
     match parse::measure::measure(text) {
-        Measured::Refused(r) => {
+        Err(r) => {
             *line = r.line;
             *entries = 0;
             *items = 0;
             *expectations = 0;
             *store = 0;
-            r.number
+            r.reason.number()
         }
-        Measured::Read(c) => {
+        Ok(c) => {
             *line = 0;
             *entries = c.entries;
             *items = c.items;

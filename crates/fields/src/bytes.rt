@@ -2,37 +2,26 @@
 ghost use Rattle.std.specs.Prelude.{◌≡◌, ◌≤◌, length};
 ghost use Rattle.fields.specs.Fields.{hex_for, bytes_at, bytes_in, byte_count, bytes_field, field_count};
 
-// How many bytes were spelled: they stand at the front of the room lent.
-#[derive(Clone, Copy)]
-pub enum Bytes {
-    Are(usize),
-    Bad,
-}
+use crate::numbers::Field;
 
-// The same, and where the word ends.
-#[derive(Clone, Copy)]
-pub enum BytesAt {
-    Are(usize, usize),
-    Bad,
-}
-
-// Bytes in hex and nothing else. Decoding passes over what is no pair of digits, so the lengths are compared.
-pub fn decode(hex: &[u8], room: &mut [u8]) -> Bytes
+// Bytes in hex and nothing else, written at the front of the room lent: how many they are. Decoding passes over what is no
+// pair of digits, so the lengths are compared.
+pub fn decode(hex: &[u8], room: &mut [u8]) -> Option<usize>
     ensures result_after { bytes_in room.new result ≡ hex_for (length room.old) hex.now }
     ensures result_in_bounds { byte_count result ≤ length room.new }
 {
     let n = hexadecimal::hex_decode(hex, room);
     if room.len() < n {
-        return Bytes::Bad;
+        return None;
     }
     if hex.len() - n != n {
-        return Bytes::Bad;
+        return None;
     }
-    Bytes::Are(n)
+    Some(n)
 }
 
 // The bytes that the first word from a place on spells, behind an `x`, so that no bytes are a word too.
-pub fn bytes_at(line: &[u8], from: usize, room: &mut [u8]) -> BytesAt
+pub fn bytes_at(line: &[u8], from: usize, room: &mut [u8]) -> Option<Field<usize>>
     requires { from ≤ length line.now }
     ensures result_after { bytes_field room.new result ≡ bytes_at (length room.old) line.now from }
     ensures result_in_bounds { field_count result ≤ length room.new }
@@ -41,14 +30,12 @@ pub fn bytes_at(line: &[u8], from: usize, room: &mut [u8]) -> BytesAt
     let start = w.start;
     let end = w.end;
     if start == end {
-        return BytesAt::Bad;
+        return None;
     }
     if line[start] != 0x78 {
-        return BytesAt::Bad;
+        return None;
     }
     let behind = start + 1;
-    let Bytes::Are(n) = decode(&line[behind..end], room) else {
-        return BytesAt::Bad;
-    };
-    BytesAt::Are(n, end)
+    let value = decode(&line[behind..end], room)?;
+    Some(Field { value, end })
 }

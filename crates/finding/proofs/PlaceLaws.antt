@@ -14,8 +14,12 @@ use Rattle.text.specs.Parts.{starts_with}
 use Rattle.text.proofs.Scan.{both, never}
 use Rattle.verdicts.specs.Decisions.{contains}
 use Rattle.finding.specs.Places.{Apart, one_if_both}
-use Rattle.same_values.proofs.EqualLaws.{or_none}
 use Rattle.finding.proofs.SearchLaws.{none_left, tried, stands}
+use lib.Bits.{bit_or, or_add_and, and_le_l, and_le_r}
+
+-- an OR is none where both sides are
+or_none : (a b : ℕ) → bit_or a b ≡ 0 → (a ≡ 0) × (b ≡ 0)
+or_none a b z = omega (arith, or_add_and a b, and_le_r a b, and_le_l a b)
 
 -- ---- stretches of places
 

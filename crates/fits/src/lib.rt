@@ -3,16 +3,11 @@
 
 ghost use Rattle.std.specs.Prelude.{◌≡◌};
 ghost use Rattle.script.specs.Reading as Reading;
-ghost use Rattle.fits.specs.Fits.{shortage, fit_of};
+ghost use Rattle.script.specs.Refusals.{ok_unless};
+ghost use Rattle.fits.specs.Fits.{shortage};
 
 use script::records::{Counts, Refusal};
-
-// What there is room for.
-#[derive(Clone, Copy)]
-pub enum Fit {
-    Enough,
-    Short(Refusal),
-}
+use script::refusals::Reason;
 
 // Only the first 32,768 records of a table count.
 pub fn room(n: usize) -> usize
@@ -25,34 +20,22 @@ pub fn room(n: usize) -> usize
 }
 
 // 21: too few entries; 22: too few items; 23: too few expectations; 24: too few bytes of the store.
-pub fn room_for(needed: Counts, lent: Counts) -> Fit
-    ensures { fit_of result ≡ shortage lent needed }
+pub fn room_for(needed: Counts, lent: Counts) -> Result<(), Refusal>
+    ensures { result ≡ ok_unless (shortage lent needed) }
 {
     if room(lent.entries) < needed.entries {
-        return Fit::Short(Refusal {
-            number: 21,
-            line: 0,
-        });
+        return Err(Refusal::from(Reason::FewEntries));
     }
     if room(lent.items) < needed.items {
-        return Fit::Short(Refusal {
-            number: 22,
-            line: 0,
-        });
+        return Err(Refusal::from(Reason::FewItems));
     }
     if room(lent.expectations) < needed.expectations {
-        return Fit::Short(Refusal {
-            number: 23,
-            line: 0,
-        });
+        return Err(Refusal::from(Reason::FewExpectations));
     }
     if lent.store < needed.store {
-        return Fit::Short(Refusal {
-            number: 24,
-            line: 0,
-        });
+        return Err(Refusal::from(Reason::FewStoreBytes));
     }
-    Fit::Enough
+    Ok(())
 }
 
 // What the caller lends.

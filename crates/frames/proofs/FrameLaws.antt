@@ -1,9 +1,9 @@
 -- What a frame comes to is the message of document 01. Assumes nothing.
+use Rattle.std.specs.Prelude.{None, Option, Some}
 use Prim.Native.Nat.{ℕ}
 use mathlib.Core.Path.{◌≡◌, refl, sym, ap, ◌∙◌}
 use mathlib.Core.Bool.{Bool, true, false}
 use mathlib.Core.List.{List, [], ◌++◌, append_assoc, append-nil}
-use mathlib.Core.Option.{Option, none, some}
 use native.Mathlib.Omega.{arith}
 use lib.IntN.{ℤ}
 use Rattle.text.specs.Unicode.{encoded}
@@ -81,8 +81,8 @@ module _ (text bytes value : List ℕ) where
 
   ordered_decided : (o : Option ℤ) (f : ℤ → Bool) → ordered f o ≡ Undecided → ⊥
   unfolding ordered
-  ordered_decided none f e = let z : ◌≡◌ {A = ℕ} 0 1 = cc in omega arith
-  ordered_decided (some v) f e = never_undecided (f v) e
+  ordered_decided None f e = let z : ◌≡◌ {A = ℕ} 0 1 = cc in omega arith
+  ordered_decided (Some v) f e = never_undecided (f v) e
 
   undecided_says : (h : Heading) (m : Matcher) → decides (matching_of text m) value ≡ Undecided → frame_bytes text bytes value (valued_frame h m Undecided) ≡ says_of (heading_of h) (matching_of text m) value Undecided
   unfolding frame_bytes valued_frame undecided_frame word_frame head_bytes middle_bytes piece_bytes ending_bytes says_of matching_of shown utf8 encoded decides
@@ -113,12 +113,12 @@ module _ (text bytes : List ℕ) where
       → frame_bytes text bytes [] absent ≡ gone → missing ≡ is_missing o → v ≡ valued (matching_of text m) o
       → frame_bytes text bytes (present_bytes o) (missing_or missing absent h m v) ≡ value_says (heading_of text bytes (present_bytes o) h) gone (matching_of text m) o
   unfolding is_missing present_bytes missing_or valued value_says
-  missing-says none absent gone h m missing v g p e = rw p g
-  missing-says (some value) absent gone h m missing v g p e = rw p (valued-says text bytes value h m v e ∙ ap (says_of (heading_of text bytes value h) (matching_of text m) value) e)
+  missing-says None absent gone h m missing v g p e = rw p g
+  missing-says (Some value) absent gone h m missing v g p e = rw p (valued-says text bytes value h m v e ∙ ap (says_of (heading_of text bytes value h) (matching_of text m) value) e)
 
   -- a value that is there
-  present_says : (value : List ℕ) (h : Heading) (m : Matcher) (v : Verdict) → v ≡ valued (matching_of text m) (some value)
-      → frame_bytes text bytes value (valued_frame h m v) ≡ value_says (heading_of text bytes value h) [] (matching_of text m) (some value)
+  present_says : (value : List ℕ) (h : Heading) (m : Matcher) (v : Verdict) → v ≡ valued (matching_of text m) (Some value)
+      → frame_bytes text bytes value (valued_frame h m v) ≡ value_says (heading_of text bytes value h) [] (matching_of text m) (Some value)
   unfolding valued value_says
   present_says value h m v e = valued-says text bytes value h m v e ∙ ap (says_of (heading_of text bytes value h) (matching_of text m) value) e
 

@@ -1,7 +1,6 @@
 -- A message as the code makes it: fixed words and pieces, one behind the other. What they come to is `Messages.message` (proofs/FrameLaws).
 -- Assumes nothing.
-use Rattle.std.specs.Prelude.{ℕ, Bool, true, false, List, [], ◌++◌, if◌then◌else◌}
-use Rattle.std.proofs.Math.Option.{Option, none, some}
+use Rattle.std.specs.Prelude.{ℕ, Bool, true, false, List, [], ◌++◌, if◌then◌else◌, None, Option, Some}
 use Rattle.script.specs.declared.records.Place.{Place}
 use Rattle.script.specs.declared.records.Matcher.{Matcher}
 use Rattle.script.specs.declared.records.Matcher.TheVariants.{Exact, Regex, GreaterThan, LessThan, GreaterOrEqual, LessOrEqual}
@@ -28,8 +27,8 @@ use Rattle.frames.specs.declared.frames.Heading.{Heading}
 -- ---- a value that may be missing
 
 unfoldable pub is_missing : Option (List ℕ) → Bool
-is_missing none = true
-is_missing (some value) = false
+is_missing None = true
+is_missing (Some value) = false
 
 -- ---- what a frame comes to
 

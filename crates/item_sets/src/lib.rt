@@ -11,7 +11,7 @@ ghost use Rattle.tables.specs.Items.{items_for, items_of, features_of};
 ghost use Rattle.tables.specs.SetRead.{braced_items};
 
 use tables::sets::{put_parts, put_place, put_words};
-use text::parts::{Found, Span};
+use text::parts::Span;
 
 // Writes the items between the braces of a path set; where nothing stands there it has none. The piece is trimmed.
 fn put_path(text: &[u8], p: Span, items: &mut [[usize; 2]], at: usize) -> usize
@@ -33,7 +33,7 @@ fn put_braced(text: &[u8], p: Span, items: &mut [[usize; 2]], at: usize) -> usiz
     ensures value { result ≡ length (items_for (braced_items text.now p)) }
     ensures after { items.new ≡ written_at at (items_for (braced_items text.now p)) items.old }
 {
-    let Found::At(n) = pieces::pieces::find_in(text, p, 0x7D) else {
+    let Some(n) = pieces::pieces::find_in(text, p, 0x7D) else {
         return 0;
     };
     let start = p.start;

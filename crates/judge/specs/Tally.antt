@@ -1,9 +1,10 @@
 -- The tally beside the state that the definitions of Judge and Close speak of: its next number and counts. Assumes nothing.
-use Rattle.std.specs.Prelude.{ℕ, List}
+use Rattle.std.specs.Prelude.{ℕ, List, Result}
 use Rattle.tallies.specs.declared.calls.Answer.{Answer}
 use Rattle.tallies.specs.Tally.{no_counts}
 use Rattle.judging.specs.Judge.{JudgeState}
 use Rattle.ranges.specs.declared.steps.Step.{Step}
+use Rattle.script.specs.declared.records.Refusal.{Refusal}
 use Rattle.judge.specs.declared.tally.Tally.{Tally}
 use Rattle.judge.specs.declared.calls.Turn.{Turn}
 
@@ -20,7 +21,7 @@ abbrev pub tally_of : JudgeState → Tally
 tally_of s = record { next = s.next; counts = s.counts }
 
 -- what a call answered, and what it left
-abbrev pub turned : Turn → (verdicts : List ℕ) → Answer × JudgeState
+abbrev pub turned : Turn → (verdicts : List ℕ) → Result Answer Refusal × JudgeState
 turned t verdicts = (t.answer, state_of t.tally verdicts)
 
 -- what a judging answered, with the tally that it left

@@ -4,25 +4,24 @@ ghost use Rattle.judge.specs.Tally.{turn_of};
 
 use crate::tally::Tally;
 use ranges::steps::Step;
+use script::records::Refusal;
 use tallies::calls::Answer;
 
 // What a call answered, and the next tally.
 #[derive(Clone, Copy)]
 pub struct Turn {
     pub tally: Tally,
-    pub answer: Answer,
+    pub answer: Result<Answer, Refusal>,
 }
 
 pub(crate) fn turn_of(s: Step) -> Turn
     ensures { result ≡ turn_of s }
 {
-    let counts = s.counts;
-    let answer = s.answer;
     Turn {
         tally: Tally {
             next: s.next,
-            counts,
+            counts: s.counts,
         },
-        answer,
+        answer: s.answer,
     }
 }

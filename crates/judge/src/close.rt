@@ -9,14 +9,12 @@ use script::records::Script;
 
 impl Tally {
     // Gives the same tally back.
-    pub fn close(mut self, script: Script) -> Turn
+    pub fn close(self, script: Script) -> Turn
         ensures { result ≡ record { tally = self; answer = close_answer self.next self.counts script.counts.entries } }
     {
-        let counts = script.counts;
-        let answer = close_answer(self.next, self.counts, counts.entries);
         Turn {
             tally: self,
-            answer,
+            answer: close_answer(self.next, self.counts, script.counts.entries),
         }
     }
 }

@@ -10,7 +10,7 @@ ghost use Rattle.judge.specs.Tally.{fresh_tally, state_of, turned};
 
 use crate::calls::{Turn, turn_of};
 use ranges::checks::counting;
-use ranges::steps::{entry_range, handshake_range, judge_on};
+use ranges::steps::{entry_range, judge_on};
 use script::records::{Entry, Expectation, Script};
 use script::response::{DaemonResponse, HandshakeInfo};
 use tallies::tally::Counts;
@@ -40,8 +40,9 @@ impl Tally {
     }
 
     // Judges the expectations of the preamble against what the handshake told. No entry is looked at.
+    #[tactic(auto, unfolding(judging::specs::Judge::judge_step, judging::specs::Judge::judged, judging::specs::Judge::judged_on, judging::specs::Judge::refusal_on, judging::specs::Judge::range_for, judging::specs::Calls::wrong_number, judging::specs::Scratch::scratch_after, judging::specs::Scratch::scratch_on))]
     pub fn handshake(
-        mut self,
+        self,
         text: &[u8],
         script: Script,
         expectations: &[Expectation],
@@ -55,7 +56,7 @@ impl Tally {
         ensures verdicts_after { turned result verdicts.new ≡ judge_step (lent_of text.now script [] expectations.now) (state_of self verdicts.old) (judge (asked_of number (Info i) bytes.now (counted lists.now) (length scratch.old))) }
         ensures scratch_after { scratch.new ≡ scratch_after (lent_of text.now script [] expectations.now) (state_of self verdicts.old) (asked_of number (Info i) bytes.now (counted lists.now) (length scratch.old)) scratch.old }
     {
-        let r = handshake_range(script);
+        let r = script.preamble.expects;
         let h = Handed::Info(i);
         let table = counted_of(lists);
         let step = judge_on(
@@ -77,8 +78,9 @@ impl Tally {
     }
 
     // Judges the expectations of an entry against a response.
+    #[tactic(auto, using(crate::proofs::TallyLaws::past_min), unfolding(judging::specs::Judge::judge_step, judging::specs::Judge::judged, judging::specs::Judge::judged_on, judging::specs::Judge::refusal_on, judging::specs::Judge::range_for, judging::specs::Scratch::scratch_after, judging::specs::Scratch::scratch_on, judging::specs::Judge::past_entries, judging::specs::Judge::range_refusals, judging::specs::Judge::out_of_reach, judging::specs::Judge::range_outside, judging::specs::Judge::few_slots, judging::specs::Judge::records_in, judging::specs::Judge::said_by, judging::specs::Judge::judged_by))]
     pub fn entry(
-        mut self,
+        self,
         text: &[u8],
         script: Script,
         entries: &[Entry],

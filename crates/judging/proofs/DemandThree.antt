@@ -1,9 +1,9 @@
 -- Demand 3 of document 01, the claim about the whole list of calls. `demand_three`: from a fresh tally and any verdict list, with tables as Read left them, our
 -- answers, tally and verdict list are the plain judge's. `in_words`: the same in the user's words. Assumes nothing.
+use Rattle.std.specs.Prelude.{None, Option, Result}
 use mathlib.Core.Path.{◌≡◌, refl, sym, ap, ap₂, ◌∙◌}
 use mathlib.Core.Logic.{◌≢◌}
 use mathlib.Core.Bool.{not}
-use mathlib.Core.Option.{Option, none}
 use mathlib.Core.List.{List, [], ◌∷◌, ◌++◌, map}
 use Prim.Native.Nat.{ℕ, zero, suc, ◌+◌, ◌≤◌, ◌<◌}
 use native.Mathlib.Omega.{arith}
@@ -19,6 +19,8 @@ use Rattle.script.proofs.ExpectLines.{expect_lines}
 use Rattle.script.specs.declared.records.Counts as Script
 use Rattle.script.specs.declared.records.Entry.{Entry}
 use Rattle.script.specs.declared.records.Expectation.{Expectation}
+use Rattle.script.specs.declared.records.Refusal.{Refusal}
+use Rattle.script.specs.declared.refusals.Reason.TheVariants.{NotAllJudged}
 use Rattle.verdicts.specs.Told.{Subject}
 use Rattle.verdicts.specs.declared.Verdict.{Verdict}
 use Rattle.verdicts.proofs.CodeLaws.{decode-code}
@@ -35,7 +37,7 @@ use Rattle.judging.proofs.History.{run-shown, run_keeps, only, only_one, only-pa
 use Rattle.judging.proofs.Ours.{Agrees, shows, our_shown}
 use Rattle.judging.proofs.LentRead.{read_agrees}
 
-none_over : (n : ℕ) (vs : List ℕ) → slots_over (replicate n none) vs ≡ vs
+none_over : (n : ℕ) (vs : List ℕ) → slots_over (replicate n None) vs ≡ vs
 unfolding slots_over Rattle.judging.specs.Claim.slot_over
 none_over zero vs = refl
 none_over (suc n) [] = refl
@@ -65,7 +67,7 @@ module _ (k : Lent) (a : Agrees k) (before : List ℕ) where
     abbrev last : List Subject
     last = (run (history_call text places) [] calls).1
 
-    abbrev answers : List Answer
+    abbrev answers : List (Result Answer Refusal)
     answers = (run (history_call text places) [] calls).0
 
     ours : our_run k before calls ≡ (answers, shows k a before last)
@@ -102,9 +104,9 @@ module _ (k : Lent) (a : Agrees k) (before : List ℕ) where
     unfolding line_verdicts
     same_slots = slots_by (owned_lines text)
 
-    closing_now : (judge_step k (shows k a before last) close).0 ≡ closed_or (refused_if 37 (not (eqb (length last) (entry_count text + 1)))) (outcome_of (counted (slots_in last (owned_lines text))))
+    closing_now : (judge_step k (shows k a before last) close).0 ≡ closed_or (refused_if NotAllJudged (not (eqb (length last) (entry_count text + 1)))) (outcome_of (counted (slots_in last (owned_lines text))))
     unfolding history_call plain_closing plain_of
-    closing_now = ap (λ (r : Answer × JudgeState). r.0) (our_shown k a before last close)
+    closing_now = ap (λ (r : Result Answer Refusal × JudgeState). r.0) (our_shown k a before last close)
 
     pub said_in_words : InWords k before calls (our_run k before calls).0 (our_run k before calls).1
     unfolding shows state_over plain_of owned_lines refused_if closed_or

@@ -2,17 +2,17 @@
 -- The plain judge's state is a function of the history, and each call adds one to it or none. Assumes nothing.
 use mathlib.Core.Path.{◌≡◌, refl, sym, ap, ap₂, ◌∙◌}
 use mathlib.Core.Bool.{true, false, not}
-use mathlib.Core.Option.{Option, none, some}
 use mathlib.Core.List.{List, [], ◌∷◌, ◌++◌, map, append_assoc, append-nil}
 use Prim.Native.Nat.{ℕ, zero, suc, ◌+◌, ◌≤◌, ◌<◌}
 use native.Mathlib.Omega.{arith}
 use lib.ListN.{length, replicate}
 use lib.Dec.{ltb, eqb, eqb-suc-suc, eqb-zero-suc, eqb-suc-zero}
 use borrow.Author.Tests.{eq-eqb, ne_eqb, ltb-false, eqb-true, not-false}
-use Rattle.std.specs.Prelude.{if◌then◌else◌}
+use Rattle.std.specs.Prelude.{if◌then◌else◌, None, Option, Result, Some}
 use Rattle.text.specs.Base.{◌or◌}
 use Rattle.text.proofs.Scan.{never}
 use Rattle.script.specs.declared.records.Refusal.{Refusal}
+use Rattle.script.specs.declared.refusals.Reason.TheVariants.{WrongNumber, PartOutside, FewSlots}
 use Rattle.verdicts.specs.Expected.{Expected}
 use Rattle.verdicts.specs.Told.{Subject}
 use Rattle.verdicts.specs.Verdicts.{verdict}
@@ -32,7 +32,7 @@ use Rattle.judging.proofs.Orders.{neither, Order, less, same, more, order}
 -- ---- one judge shown by another
 
 -- Where every step of B from what shows a is the step of A from a, so is every run.
-pub run-shown : {A B : Type 0} (step-a : A → Call → Answer × A) (step-b : B → Call → Answer × B) (shows : A → B)
+pub run-shown : {A B : Type 0} (step-a : A → Call → Result Answer Refusal × A) (step-b : B → Call → Result Answer Refusal × B) (shows : A → B)
     → ((a : A) (c : Call) → step-b (shows a) c ≡ ((step-a a c).0, shows (step-a a c).1))
     → (cs : List Call) (a : A) → run step-b (shows a) cs ≡ ((run step-a a cs).0, shows (run step-a a cs).1)
 unfolding run
@@ -40,7 +40,7 @@ run-shown step-a step-b shows sim [] a = refl
 run-shown step-a step-b shows sim (c ∷ cs) a = rw (sim a c, run-shown step-a step-b shows sim cs (step-a a c).1) refl
 
 -- What every step keeps, every run keeps.
-pub run_keeps : {A : Type 0} (step : A → Call → Answer × A) (Good : A → Type 0) → ((a : A) (c : Call) → Good a → Good (step a c).1)
+pub run_keeps : {A : Type 0} (step : A → Call → Result Answer Refusal × A) (Good : A → Type 0) → ((a : A) (c : Call) → Good a → Good (step a c).1)
     → (cs : List Call) (a : A) → Good a → Good (run step a cs).1
 unfolding run
 run_keeps step Good keep [] a g = g
@@ -96,11 +96,11 @@ abbrev pub counts_in : List Subject → List Owned → Counts
 counts_in h ls = counted (slots_in h ls)
 
 module _ (h : List Subject) (s : Subject) where
-  pub slot_snoc : (k : ℕ) (e : Expected) → verdict_by (only (h ++ (s ∷ [])) k) e ≡ (if eqb k (length h) then some (verdict s e) else verdict_by (only h k) e)
+  pub slot_snoc : (k : ℕ) (e : Expected) → verdict_by (only (h ++ (s ∷ [])) k) e ≡ (if eqb k (length h) then Some (verdict s e) else verdict_by (only h k) e)
   unfolding verdict_by
   slot_snoc k e = rw (only_snoc h s k) (go (order k (length h)))
     where
-      go : Order k (length h) → verdict_by (only h k ++ (if eqb (length h) k then (s ∷ []) else [])) e ≡ (if eqb k (length h) then some (verdict s e) else verdict_by (only h k) e)
+      go : Order k (length h) → verdict_by (only h k ++ (if eqb (length h) k then (s ∷ []) else [])) e ≡ (if eqb k (length h) then Some (verdict s e) else verdict_by (only h k) e)
       go (less g x y) = rw (y, ne_eqb (length h) k (λ z. omega arith), append-nil (only h k)) refl
       go (same g x y) = rw (y, eq-eqb (length h) k (sym g), only-past h k (omega arith)) refl
       go (more g x y) = rw (y, ne_eqb (length h) k (λ z. omega arith), append-nil (only h k)) refl
@@ -116,11 +116,11 @@ module _ (h : List Subject) (s : Subject) where
   count_slots (own k e ∷ ls) = rw (slot_snoc k e) (go (order k (length h)) (count_slots ls))
     where
       go : Order k (length h) → counts_in (h ++ (s ∷ [])) ls ≡ added_all (map (verdict s) (belonging (length h) ls)) (counts_in h ls)
-          → counted ((if eqb k (length h) then some (verdict s e) else verdict_by (only h k) e) ∷ slots_in (h ++ (s ∷ [])) ls)
+          → counted ((if eqb k (length h) then Some (verdict s e) else verdict_by (only h k) e) ∷ slots_in (h ++ (s ∷ [])) ls)
           ≡ added_all (map (verdict s) (belonging (length h) (own k e ∷ ls))) (counted (verdict_by (only h k) e ∷ slots_in h ls))
       go (less g x y) ih = rw y (slot_stays (verdict_by (only h k) e) (map (verdict s) (belonging (length h) ls)) (slots_in (h ++ (s ∷ [])) ls) (slots_in h ls) ih)
       go (same g x y) ih =
-          let z : verdict_by (only h k) e ≡ none = rw (only-past h k (omega arith)) refl in
+          let z : verdict_by (only h k) e ≡ None = rw (only-past h k (omega arith)) refl in
           rw (y, z) (ap (added (verdict s e)) ih)
       go (more g x y) ih = rw y (slot_stays (verdict_by (only h k) e) (map (verdict s) (belonging (length h) ls)) (slots_in (h ++ (s ∷ [])) ls) (slots_in h ls) ih)
 
@@ -157,7 +157,7 @@ fits_le (entry g) = g
 
 -- a refused judging leaves what was there; said apart, so that one that does not is refused here
 pub refused-shown : {A B : Type 0} (shown : A → B) (r : Refusal) (before after : A) (later : B)
-    → judged_or (some r) (shown before) later ≡ ((judged_or (some r) before after).0, shown (judged_or (some r) before after).1)
+    → judged_or (Some r) (shown before) later ≡ ((judged_or (Some r) before after).0, shown (judged_or (Some r) before after).1)
 unfolding judged_or
 refused-shown shown r before after later = refl
 
@@ -166,7 +166,7 @@ module _ (text : List ℕ) (places : ℕ) where
   plain_of h = record { next = length h; slots = slots_in h (owned_lines text); counts = counts_in h (owned_lines text) }
 
   -- the judge on histories
-  unfoldable pub history_call : List Subject → Call → Answer × List Subject
+  unfoldable pub history_call : List Subject → Call → Result Answer Refusal × List Subject
   unfolding plain_of
   history_call h (judge j) = judged_or (plain_refusal text places (length h) j) h (h ++ (subject_of j ∷ []))
   history_call h close = (plain_closing text places (plain_of h), h)
@@ -177,12 +177,12 @@ module _ (text : List ℕ) (places : ℕ) where
     pub fits : Fits (entry_count text) j.number j.handed
     pub reach : length (owned_lines text) ≤ places
 
-  pub unrefused : (next : ℕ) (j : Judging) → plain_refusal text places next j ≡ none → Unrefused next j
+  pub unrefused : (next : ℕ) (j : Judging) → plain_refusal text places next j ≡ None → Unrefused next j
   unfolding plain_refusal
   unrefused next j e =
-      let a = passed_by 33 (wrong_number next j.number (ltb (entry_count text) j.number) j.handed) _ e in
-      let b = passed_by 32 (part_outside j) _ a.1 in
-      let c = passed_by 35 (ltb places (length (owned_lines text))) _ b.1 in
+      let a = passed_by WrongNumber (wrong_number next j.number (ltb (entry_count text) j.number) j.handed) _ e in
+      let b = passed_by PartOutside (part_outside j) _ a.1 in
+      let c = passed_by FewSlots (ltb places (length (owned_lines text))) _ b.1 in
       let d = right_number next j.number (entry_count text) j.handed a.0 in
       record { number = d.0; fits = d.1; reach = ltb-false places (length (owned_lines text)) c.0 }
 
@@ -193,8 +193,8 @@ module _ (text : List ℕ) (places : ℕ) where
     where
       go : (o : Option Refusal) → plain_refusal text places (length h) j ≡ o
           → judged_or o (plain_of h) (plain_judged text places (plain_of h) j) ≡ ((judged_or o h (h ++ (subject_of j ∷ []))).0, plain_of (judged_or o h (h ++ (subject_of j ∷ []))).1)
-      go (some r) e = refused-shown plain_of r h h (plain_of h)
-      go none e = rw ((unrefused (length h) j e).number, length_snoc h (subject_of j), fill_slots h (subject_of j) (owned_lines text), count_slots h (subject_of j) (owned_lines text)) refl
+      go (Some r) e = refused-shown plain_of r h h (plain_of h)
+      go None e = rw ((unrefused (length h) j e).number, length_snoc h (subject_of j), fill_slots h (subject_of j) (owned_lines text), count_slots h (subject_of j) (owned_lines text)) refl
   plain-shown h close = refl
 
   -- a history has no more numbers than the script, and is empty where the verdict list is too short
@@ -206,8 +206,8 @@ module _ (text : List ℕ) (places : ℕ) where
   good_call h (judge j) g = go (plain_refusal text places (length h) j) refl
     where
       go : (o : Option Refusal) → plain_refusal text places (length h) j ≡ o → Good (judged_or o h (h ++ (subject_of j ∷ []))).1
-      go (some r) e = g
-      go none e =
+      go (Some r) e = g
+      go None e =
           let f = unrefused (length h) j e in
           let n : j.number ≡ length h = f.number in
           let m : j.number ≤ entry_count text = fits_le f.fits in
@@ -222,8 +222,8 @@ module _ (text : List ℕ) (places : ℕ) where
     where
       go : (o : Option Refusal) → plain_refusal text places (length h) j ≡ o
           → only (judged_or o h (h ++ (subject_of j ∷ []))).1 n ≡ only h n ++ accepted_by n (judge j) (judged_or o h (h ++ (subject_of j ∷ []))).0
-      go (some r) e = sym (append-nil (only h n))
-      go none e = rw (unrefused (length h) j e).number (only_snoc h (subject_of j) n)
+      go (Some r) e = sym (append-nil (only h n))
+      go None e = rw (unrefused (length h) j e).number (only_snoc h (subject_of j) n)
   accepted-call n h close = sym (append-nil (only h n))
 
   -- the history is what the calls and their answers say
@@ -237,12 +237,12 @@ module _ (text : List ℕ) (places : ℕ) where
 
 -- ---- the empty history
 
-pub no_slots : (ls : List Owned) → slots_in [] ls ≡ replicate (length ls) none
+pub no_slots : (ls : List Owned) → slots_in [] ls ≡ replicate (length ls) None
 unfolding verdict_by only
 no_slots [] = refl
-no_slots (own k e ∷ ls) = ap (λ (os : List (Option Verdict)). none ∷ os) (no_slots ls)
+no_slots (own k e ∷ ls) = ap (λ (os : List (Option Verdict)). None ∷ os) (no_slots ls)
 
-pub none-counted : (n : ℕ) → counted (replicate n none) ≡ no_counts
+pub none-counted : (n : ℕ) → counted (replicate n None) ≡ no_counts
 unfolding counted
 none-counted zero = refl
 none-counted (suc n) = none-counted n

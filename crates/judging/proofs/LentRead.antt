@@ -9,14 +9,14 @@ use lib.ListN.{length, take, drop, get_or, length-append, length-map, get_or-app
 use lib.Dec.{ltb}
 use lib.Seq.{take_at}
 use borrow.Author.Tests.{lt-ltb, le-leb, eq-eqb, ne_eqb, ltb-false}
-use Rattle.std.specs.Prelude.{if◌then◌else◌}
+use Rattle.std.specs.Prelude.{if◌then◌else◌, Err, Ok}
 use Rattle.text.specs.declared.lines.Line.{Line}
 use Rattle.script.specs.Answers.{first_of}
 use Rattle.script.specs.Values.{plain_rules}
 use Rattle.script.specs.Roles.{expect_role}
 use Rattle.script.specs.Contents.{ScriptContents, expectation_of}
 use Rattle.script.specs.Layout.{Reading, range, laid_script}
-use Rattle.script.specs.Reading.{Parsed, refused_at, read, refusal, read_by, parsed_by, parsed, room, too_few, fitted, read_into}
+use Rattle.script.specs.Reading.{read_by, parsed_by, parsed, room, too_few, fitted, read_into, Parsed}
 use Rattle.script.specs.Plain.{PlainLine, expects, opens, other, plain_lines, opened, expectation_lines, owners, stated, stated_on, trimmed_line, leading, ranges_from}
 use Rattle.script.specs.Inside.{PlaceIn, MatcherIn, ExpectIn, AllIn}
 use Rattle.script.specs.Bridge.{AsPlain}
@@ -32,6 +32,8 @@ use Rattle.script.specs.declared.records.Expect.{Expect}
 use Rattle.script.specs.declared.records.Expect.TheVariants.{Terminal, Result, ResultField, Error, StderrCount, Daemon, Trust, ServerFeatures}
 use Rattle.script.specs.declared.records.Entry.{Entry}
 use Rattle.script.specs.declared.records.Expectation.{Expectation}
+use Rattle.script.specs.Refusals.{refusal}
+use Rattle.script.specs.declared.refusals.Reason.TheVariants.{FewEntries, FewExpectations, FewItems, FewStoreBytes}
 use Rattle.verdicts.specs.Expected.{Expected, terminal}
 use Rattle.verdicts.specs.Held.{expected_of, inside, place_in, matcher_in, expect_in}
 use Rattle.written.specs.Written.{written_at}
@@ -51,7 +53,7 @@ use Rattle.judging.proofs.Ours.{Agrees}
 
 -- the reading itself, and room for it
 pub record Fitted (sizes : Script.Counts) (text : List ℕ) (r : Reading) : Type 0 where
-  pub is-parsed : parsed_by plain_rules text ≡ read r
+  pub is-parsed : parsed_by plain_rules text ≡ Ok r
   pub entries : r.script.counts.entries ≤ room sizes.entries
   pub expectations : r.script.counts.expectations ≤ room sizes.expectations
 
@@ -61,7 +63,7 @@ module _ (sizes : Script.Counts) (q : Reading) where
 
   fitted_by : (a b c d : Bool) → ltb (room sizes.entries) needed.entries ≡ a → ltb (room sizes.items) needed.items ≡ b → ltb (room sizes.expectations) needed.expectations ≡ c
       → ltb sizes.store needed.store ≡ d
-      → fitted sizes q ≡ (if a then refused_at (refusal 21 0) else if b then refused_at (refusal 22 0) else if c then refused_at (refusal 23 0) else if d then refused_at (refusal 24 0) else read q)
+      → fitted sizes q ≡ (if a then Err (refusal FewEntries 0) else if b then Err (refusal FewItems 0) else if c then Err (refusal FewExpectations 0) else if d then Err (refusal FewStoreBytes 0) else Ok q)
   unfolding fitted too_few first_of
   fitted_by true b c d p q s t = rw p
   fitted_by false true c d p q s t = rw (p, q)
@@ -69,7 +71,7 @@ module _ (sizes : Script.Counts) (q : Reading) where
   fitted_by false false false true p q s t = rw (p, q, s, t)
   fitted_by false false false false p q s t = rw (p, q, s, t)
 
-  fitted-read : (r : Reading) → fitted sizes q ≡ read r → (q ≡ r) × (needed.entries ≤ room sizes.entries) × (needed.expectations ≤ room sizes.expectations)
+  fitted-read : (r : Reading) → fitted sizes q ≡ Ok r → (q ≡ r) × (needed.entries ≤ room sizes.entries) × (needed.expectations ≤ room sizes.expectations)
   fitted-read r e =
       go
       (ltb (room sizes.entries) needed.entries)
@@ -93,27 +95,27 @@ module _ (sizes : Script.Counts) (q : Reading) where
           (g, ltb-false (room sizes.entries) needed.entries p, ltb-false (room sizes.expectations) needed.expectations s)
 
 module _ (text : List ℕ) (r : Reading) where
-  pub into_read : (sizes : Script.Counts) → read_into sizes text ≡ read r → Fitted sizes text r
+  pub into_read : (sizes : Script.Counts) → read_into sizes text ≡ Ok r → Fitted sizes text r
   unfolding read_into parsed
   into_read sizes e = go (parsed_by plain_rules text) refl e
     where
-      go : (p : Parsed Reading) → parsed_by plain_rules text ≡ p → elim p as (λ _. Parsed Reading) [ refused_at q ↦ refused_at q | read q ↦ fitted sizes q ] ≡ read r → Fitted sizes text r
-      go (refused_at q) h f = let z : ◌≡◌ {A = ℕ} 0 1 = cc in absurd (omega arith)
-      go (read q) h f = let w = fitted-read sizes q r f in let g : q ≡ r = w.0 in record { is-parsed = h ∙ ap (λ (x : Reading). read x) g; entries = rw g at w.1; expectations = rw g at w.2 }
+      go : (p : Parsed Reading) → parsed_by plain_rules text ≡ p → elim p as (λ _. Parsed Reading) [ Err q ↦ Err q | Ok q ↦ fitted sizes q ] ≡ Ok r → Fitted sizes text r
+      go (Err q) h f = let z : ◌≡◌ {A = ℕ} 0 1 = cc in absurd (omega arith)
+      go (Ok q) h f = let w = fitted-read sizes q r f in let g : q ≡ r = w.0 in record { is-parsed = h ∙ ap (λ (x : Reading). Ok x) g; entries = rw g at w.1; expectations = rw g at w.2 }
 
   laid : (s : ScriptContents) → ((laid_script s).script.counts.entries ≡ length (laid_script s).tables.entries) × ((laid_script s).script.counts.expectations ≡ length (laid_script s).tables.expectations)
   unfolding laid_script
   laid s = (refl, refl)
 
   -- the script counts its tables
-  pub counted-tables : parsed_by plain_rules text ≡ read r → (r.script.counts.entries ≡ length r.tables.entries) × (r.script.counts.expectations ≡ length r.tables.expectations)
+  pub counted-tables : parsed_by plain_rules text ≡ Ok r → (r.script.counts.entries ≡ length r.tables.entries) × (r.script.counts.expectations ≡ length r.tables.expectations)
   unfolding parsed_by
   counted-tables e = go (read_by plain_rules text) e
     where
-      go : (p : Parsed ScriptContents) → elim p as (λ _. Parsed Reading) [ refused_at q ↦ refused_at q | read s ↦ read (laid_script s) ] ≡ read r
+      go : (p : Parsed ScriptContents) → elim p as (λ _. Parsed Reading) [ Err q ↦ Err q | Ok s ↦ Ok (laid_script s) ] ≡ Ok r
           → (r.script.counts.entries ≡ length r.tables.entries) × (r.script.counts.expectations ≡ length r.tables.expectations)
-      go (refused_at q) f = let z : ◌≡◌ {A = ℕ} 0 1 = cc in absurd (omega arith)
-      go (read s) f = let g : laid_script s ≡ r = cc in rw g at (laid s)
+      go (Err q) f = let z : ◌≡◌ {A = ℕ} 0 1 = cc in absurd (omega arith)
+      go (Ok s) f = let g : laid_script s ≡ r = cc in rw g at (laid s)
 
 -- ---- what the lines say
 

@@ -1,7 +1,6 @@
 -- Our judge over tables that hold what the lines of the text ask for: its refusals and its verdict list are those that the history says. Assumes nothing.
 use mathlib.Core.Path.{◌≡◌, refl, sym, ap, ◌∙◌}
 use mathlib.Core.Bool.{true, false, not}
-use mathlib.Core.Option.{Option, none, some}
 use mathlib.Core.List.{List, [], ◌∷◌, ◌++◌, map, append_assoc}
 use Prim.Native.Nat.{ℕ, zero, suc, ◌+◌, ◌-◌, ◌≤◌, ◌<◌, min}
 use native.Mathlib.Omega.{arith}
@@ -10,13 +9,14 @@ use lib.ListN.{length, take, drop, length-map, take-append-drop}
 use lib.Dec.{ltb, leb, eqb}
 use lib.Seq.{drop-drop}
 use borrow.Author.Tests.{lt-ltb, le-ltb, le-leb, eq-eqb, ne_eqb}
-use Rattle.std.specs.Prelude.{if◌then◌else◌}
+use Rattle.std.specs.Prelude.{if◌then◌else◌, None, Option, Some}
 use Rattle.text.specs.Base.{◌&◌, ◌or◌}
 use Rattle.text.proofs.Scan.{both}
 use Rattle.script.specs.Reading.{room}
 use Rattle.script.specs.declared.records.Items.{Items}
 use Rattle.script.specs.declared.records.Expectation.{Expectation}
 use Rattle.script.specs.declared.records.Refusal.{Refusal}
+use Rattle.script.specs.declared.refusals.Reason.TheVariants.{CountTooHigh, WrongNumber, ExpectationOutside}
 use Rattle.verdicts.specs.Expected.{Expected}
 use Rattle.verdicts.specs.Told.{Subject}
 use Rattle.verdicts.specs.Verdicts.{verdict, code}
@@ -126,7 +126,7 @@ module _ (h : List Subject) (s : Subject) where
       go : Order k (length h)
           → put (earlier (length h) ls) (map code (map (verdict s) (belonging (length h) ls))) (slots_over (slots_in h ls) vs) ≡ slots_over (slots_in (h ++ (s ∷ [])) ls) vs
           → put (earlier (length h) (own k e ∷ ls)) (map code (map (verdict s) (belonging (length h) (own k e ∷ ls)))) (slot_over (verdict_by (only h k) e) x ∷ slots_over (slots_in h ls) vs)
-          ≡ slot_over (if eqb k (length h) then some (verdict s e) else verdict_by (only h k) e) x ∷ slots_over (slots_in (h ++ (s ∷ [])) ls) vs
+          ≡ slot_over (if eqb k (length h) then Some (verdict s e) else verdict_by (only h k) e) x ∷ slots_over (slots_in (h ++ (s ∷ [])) ls) vs
       go (less p y z) ih = rw (y, z) (ap (λ (t : List ℕ). slot_over (verdict_by (only h k) e) x ∷ t) ih)
       go (same p y z) ih =
           let f : earlier (length h) ls ≡ 0 = earlier_none (length h) k ls (omega arith) r.1 in
@@ -196,7 +196,7 @@ module _ (k : Lent) (a : Agrees k) where
         ∙ ap (λ (es : List Expected). take m (drop b es)) a.as_lines
         ∙ belonging-cut n 0 ls a.rising
 
-    -- 31: every expectation of a number of the script is in reach
+    -- every expectation of a number of the script is in reach
     reached : out_of_reach k r ≡ false
     unfolding out_of_reach range_outside room
     reached =
@@ -209,7 +209,7 @@ module _ (k : Lent) (a : Agrees k) where
         )
         refl
 
-  -- 33: the script and its table count the entries of the text
+  -- the script and its table count the entries of the text
   past : (n : ℕ) → past_entries k n ≡ ltb (entry_count k.text) n
   unfolding past_entries
   past n = ap (λ (e : ℕ). ltb e n or ltb (room (length k.entries)) n) a.entries-counted ∙ roomy (entry_count k.text) (room (length k.entries)) n a.entries_fit
@@ -218,12 +218,12 @@ module _ (k : Lent) (a : Agrees k) where
   unfolding room
   few_lines = omega (arith, a.expectations_fit)
 
-  -- 35: the script counts the expectation lines of the text
+  -- the script counts the expectation lines of the text
   short : (places : ℕ) → few_slots k places ≡ ltb places (length ls)
   unfolding few_slots
   short places = ap (λ (e : ℕ). ltb (room places) e) a.expectations-counted ∙ capped places (length ls) few_lines
 
-  -- 36: no count passes the number of expectation lines
+  -- no count passes the number of expectation lines
   few : (h : List Subject) → over_limit (counts_in h ls) ≡ false
   few h = few_counted (slots_in h ls) (omega (arith, few_lines, length-map ls (slot_in h)))
 
@@ -233,9 +233,9 @@ module _ (k : Lent) (a : Agrees k) where
   unfolding refusal_on range_refusals plain_refusal
   same_refusal h places j =
       rw (few h, past j.number)
-      (pass 36 _ ∙ agree 33 (wrong_number (length h) j.number (ltb (entry_count k.text) j.number) j.handed) _ _ (λ e.
+      (pass CountTooHigh _ ∙ agree WrongNumber (wrong_number (length h) j.number (ltb (entry_count k.text) j.number) j.handed) _ _ (λ e.
       let g : Fits (entry_count k.text) j.number j.handed = (right_number (length h) j.number (entry_count k.text) j.handed e).1 in
-      rw (reached j.number j.handed g, short places, said-lines j.number j.handed g) (pass 31 _)))
+      rw (reached j.number j.handed g, short places, said-lines j.number j.handed g) (pass ExpectationOutside _)))
 
   module _ (vs : List ℕ) where
     unfoldable pub shows : List Subject → JudgeState
@@ -265,7 +265,7 @@ module _ (k : Lent) (a : Agrees k) where
 
     same_closing : (h : List Subject) → close_answer (shows h).next (shows h).counts k.script.counts.entries ≡ plain_closing k.text (length vs) (plain_of k.text (length vs) h)
     unfolding close_answer close_refusal plain_closing shows state_over plain_of
-    same_closing h = rw (few h, a.entries-counted) (ap (λ (o : Option Refusal). closed_or o (outcome_of (counts_in h ls))) (pass 36 _ ∙ alone _))
+    same_closing h = rw (few h, a.entries-counted) (ap (λ (o : Option Refusal). closed_or o (outcome_of (counts_in h ls))) (pass CountTooHigh _ ∙ alone _))
 
     -- a judging by its refusal; said apart, so that another is refused here
     judged_as : (s : JudgeState) (j : Judging) → judge_step k s (judge j) ≡ judged_or (judge_refusal k s j) s (judged_by k (verdict (subject_of j)) (range_for k j.number j.handed) s)
@@ -283,6 +283,6 @@ module _ (k : Lent) (a : Agrees k) where
         go : (o : Option Refusal) → plain_refusal k.text (length vs) (length h) j ≡ o
             → judged_or o (shows h) (judged_by k (verdict (subject_of j)) (range_for k j.number j.handed) (shows h))
             ≡ ((judged_or o h (h ++ (subject_of j ∷ []))).0, shows (judged_or o h (h ++ (subject_of j ∷ []))).1)
-        go (some q) e = refused-shown shows q h h (shows h)
-        go none e = rw (same_judged h j (unrefused k.text (length vs) (length h) j e)) refl
+        go (Some q) e = refused-shown shows q h h (shows h)
+        go None e = rw (same_judged h j (unrefused k.text (length vs) (length h) j e)) refl
     our_shown h close = rw (same_closing h) refl

@@ -1,7 +1,7 @@
 -- A list of calls, one after the other; on tables as Read left them the scratch after all of them is the plain judge's. Assumes nothing.
+use Rattle.std.specs.Prelude.{None, Option, Result, Some}
 use Prim.Native.Nat.{ℕ, suc}
 use mathlib.Core.Path.{◌≡◌, refl, sym, ap, ◌∙◌}
-use mathlib.Core.Option.{Option, none, some}
 use mathlib.Core.List.{List, [], ◌∷◌, ◌++◌, map}
 use lib.ListN.{length, take, drop}
 use Rattle.script.specs.declared.records.Refusal.{Refusal}
@@ -18,19 +18,19 @@ use Rattle.judging.proofs.Ours.{Agrees, shows, our_shown, said-lines, same_refus
 use Rattle.judging.proofs.DemandThree.{our_begin}
 use Rattle.judging.specs.Runs.{on_front, scratch_call, scratch_run, plain_writes, plain_scratch}
 
-module _ {State : Type 0} (step : State → Call → Answer × State) where
+module _ {State : Type 0} (step : State → Call → Result Answer Refusal × State) where
   pub run_length : (cs : List Call) (s : State) → length (run step s cs).0 ≡ length cs
   unfolding run
   run_length [] s = refl
   run_length (c ∷ cs) s = ap suc (run_length cs (step s c).1)
 
   -- where the first call is known, so is the run
-  pub run-first : (s next : State) (a : Answer) (c : Call) (cs : List Call) → (a, next) ≡ step s c → run step s (c ∷ cs) ≡ (a ∷ (run step next cs).0, (run step next cs).1)
+  pub run-first : (s next : State) (a : Result Answer Refusal) (c : Call) (cs : List Call) → (a, next) ≡ step s c → run step s (c ∷ cs) ≡ (a ∷ (run step next cs).0, (run step next cs).1)
   unfolding run
   run-first s next a c cs e = rw (← e) refl
 
   module _ (writes : State → Call → List ℕ → List ℕ) where
-    pub scratch-first : (s next : State) (a : Answer) (c : Call) (cs : List Call) (old new : List ℕ) → (a, next) ≡ step s c → new ≡ writes s c old
+    pub scratch-first : (s next : State) (a : Result Answer Refusal) (c : Call) (cs : List Call) (old new : List ℕ) → (a, next) ≡ step s c → new ≡ writes s c old
         → scratch_run step writes s (c ∷ cs) old ≡ scratch_run step writes next cs new
     unfolding scratch_run
     scratch-first s next a c cs old new e f = rw (← e, f) refl
@@ -44,7 +44,7 @@ front_left k s j part old e = ap (λ (p : List ℕ). p ++ drop j.scratch old) e
 -- ---- beside the plain judge
 
 -- Where every step of B from what shows a is the step of A from a, and writes the same, so does every run.
-pub scratch-shown : {A B : Type 0} (step-a : A → Call → Answer × A) (step-b : B → Call → Answer × B) (writes-a : A → Call → List ℕ → List ℕ) (writes-b : B → Call → List ℕ → List ℕ) (shown : A → B)
+pub scratch-shown : {A B : Type 0} (step-a : A → Call → Result Answer Refusal × A) (step-b : B → Call → Result Answer Refusal × B) (writes-a : A → Call → List ℕ → List ℕ) (writes-b : B → Call → List ℕ → List ℕ) (shown : A → B)
     → ((a : A) (c : Call) → step-b (shown a) c ≡ ((step-a a c).0, shown (step-a a c).1))
     → ((a : A) (c : Call) (old : List ℕ) → writes-b (shown a) c old ≡ writes-a a c old)
     → (cs : List Call) (a : A) (old : List ℕ) → scratch_run step-b writes-b (shown a) cs old ≡ scratch_run step-a writes-a a cs old
@@ -80,8 +80,8 @@ module _ (k : Lent) (a : Agrees k) (before : List ℕ) where
       go : (o : Option Refusal) → plain_refusal text places (length h) j ≡ o
           → overwritten_or o (map (looked (subject_of j)) (said_by k (range_for k j.number j.handed))) (take j.scratch old) ++ drop j.scratch old
           ≡ overwritten_or o (map (looked (subject_of j)) (belonging j.number (owned_lines text))) (take j.scratch old) ++ drop j.scratch old
-      go (some q) e = refl
-      go none e = rw (said-lines k a j.number j.handed (unrefused text places (length h) j e).fits) refl
+      go (Some q) e = refl
+      go None e = rw (said-lines k a j.number j.handed (unrefused text places (length h) j e).fits) refl
   our_writes h close old = refl
 
   pub same_scratch : (calls : List Call) (old : List ℕ) → scratch_run (judge_step k) (scratch_call k) (judge_start before) calls old ≡ plain_scratch text places calls old

@@ -1,8 +1,8 @@
 -- The laws of the counts of slots. Assumes nothing.
+use Rattle.std.specs.Prelude.{None, Option, Some}
 use mathlib.Core.Path.{◌≡◌, refl, sym, ap, ◌∙◌}
 use mathlib.Core.Logic.{◌↔◌}
 use mathlib.Core.Bool.{false}
-use mathlib.Core.Option.{Option, none, some}
 use mathlib.Core.List.{List, [], ◌∷◌}
 use Prim.Native.Nat.{ℕ, zero, suc, ◌+◌, ◌-◌, ◌≤◌}
 use native.Mathlib.Omega.{arith}
@@ -20,10 +20,10 @@ use Rattle.judging.specs.Claim.{verdicts_in, counted}
 all_passed : (os : List (Option Verdict)) → (counted os).failed ≡ 0 → (counted os).undecided ≡ 0 → verdicts_in os ≡ replicate (counted os).passed Passed
 unfolding counted verdicts_in
 all_passed [] f u = refl
-all_passed (none ∷ os) f u = all_passed os f u
-all_passed (some Passed ∷ os) f u = rw add-one (ap (λ (r : List Verdict). Passed ∷ r) (all_passed os f u))
-all_passed (some Failed ∷ os) f u = let z : ⊥ = omega arith in absurd z
-all_passed (some Undecided ∷ os) f u = let z : ⊥ = omega arith in absurd z
+all_passed (None ∷ os) f u = all_passed os f u
+all_passed (Some Passed ∷ os) f u = rw add-one (ap (λ (r : List Verdict). Passed ∷ r) (all_passed os f u))
+all_passed (Some Failed ∷ os) f u = let z : ⊥ = omega arith in absurd z
+all_passed (Some Undecided ∷ os) f u = let z : ⊥ = omega arith in absurd z
 
 only-passed : (k : ℕ) → added_all (replicate k Passed) no_counts ≡ record { passed = k; failed = 0; undecided = 0 }
 unfolding added_all
@@ -34,13 +34,13 @@ only-passed (suc k) = ap (added Passed) (only-passed k) ∙ rw (add-one k) refl
 
 -- a slot's part in a count
 pub worth : Verdict → Option Verdict → ℕ
-worth v none = 0
-worth v (some w) = unit v w
+worth v None = 0
+worth v (Some w) = unit v w
 
 pub count_slot : (v : Verdict) (o : Option Verdict) (os : List (Option Verdict)) → (count v (counted (o ∷ os)) ≡ worth v o + count v (counted os)) × (worth v o ≤ 1)
 unfolding worth counted
-count_slot v none os = omega arith
-count_slot v (some w) os = count_added v w (counted os)
+count_slot v None os = omega arith
+count_slot v (Some w) os = count_added v w (counted os)
 
 count_le : (v : Verdict) (os : List (Option Verdict)) → count v (counted os) ≤ length os
 unfolding counted
@@ -55,14 +55,14 @@ few_counted os h = within_limit (counted os) (λ v. omega (arith, count_le v os)
 -- a slot that stays as it was
 pub slot_stays : (o : Option Verdict) (vs : List Verdict) (os ps : List (Option Verdict)) → counted os ≡ added_all vs (counted ps) → counted (o ∷ os) ≡ added_all vs (counted (o ∷ ps))
 unfolding counted
-slot_stays none vs os ps e = e
-slot_stays (some w) vs os ps e = ap (added w) e ∙ sym (all_added vs w (counted ps))
+slot_stays None vs os ps e = e
+slot_stays (Some w) vs os ps e = ap (added w) e ∙ sym (all_added vs w (counted ps))
 
 counted-given : (os : List (Option Verdict)) → counted os ≡ added_all (verdicts_in os) no_counts
 unfolding counted verdicts_in added_all
 counted-given [] = refl
-counted-given (none ∷ os) = counted-given os
-counted-given (some v ∷ os) = ap (added v) (counted-given os)
+counted-given (None ∷ os) = counted-given os
+counted-given (Some v ∷ os) = ap (added v) (counted-given os)
 
 pub passed_exactly : (os : List (Option Verdict)) → (outcome_of (counted os) ≡ Outcome.Passed) ↔ ((n : ℕ) × (verdicts_in os ≡ replicate (suc n) Passed))
 passed_exactly os = (

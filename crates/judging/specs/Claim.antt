@@ -1,14 +1,16 @@
 -- Demand 3 of document 01: what is claimed of the whole list of calls. Assumes nothing.
-use Rattle.std.specs.Prelude.{ℕ, suc, ◌≤◌, ◌<◌, ◌≡◌, ◌↔◌, ◌≢◌, List, [], ◌∷◌, ◌++◌, map, length, replicate, eqb, if◌then◌else◌}
-use Rattle.std.proofs.Math.Option.{Option, none, some}
+use Rattle.std.specs.Prelude.{ℕ, suc, ◌≤◌, ◌<◌, ◌≡◌, ◌↔◌, ◌≢◌, List, [], ◌∷◌, ◌++◌, map, length, replicate, eqb, if◌then◌else◌, Err, None, Ok, Option, Result, Some}
 use Rattle.text.specs.Lines.{lines}
 use Rattle.text.specs.declared.lines.Line.{Line}
 use Rattle.script.specs.Layout.{Reading}
-use Rattle.script.specs.Reading.{read, refusal, read_into}
+use Rattle.script.specs.Reading.{read_into}
 use Rattle.script.specs.Plain.{PlainLine, expects, plain_lines, opened, expectation_lines, owners, beginning_lines}
 use Rattle.script.specs.declared.records.Counts as Script
 use Rattle.script.specs.declared.records.Entry.{Entry}
 use Rattle.script.specs.declared.records.Expectation.{Expectation}
+use Rattle.script.specs.Refusals.{refusal}
+use Rattle.script.specs.declared.records.Refusal.{Refusal}
+use Rattle.script.specs.declared.refusals.Reason.TheVariants.{NotAllJudged}
 use Rattle.verdicts.specs.Expected.{Expected}
 use Rattle.verdicts.specs.Told.{Subject}
 use Rattle.verdicts.specs.Verdicts.{verdict, code, decode}
@@ -17,7 +19,7 @@ use Rattle.written.specs.Written.{written_at}
 use Rattle.tallies.specs.declared.tally.Counts.{Counts}
 use Rattle.tallies.specs.declared.tally.Outcome.TheVariants as Outcome
 use Rattle.tallies.specs.declared.calls.Answer.{Answer}
-use Rattle.tallies.specs.declared.calls.Answer.TheVariants.{Refused, Judged, Closed}
+use Rattle.tallies.specs.declared.calls.Answer.TheVariants.{Judged, Closed}
 use Rattle.tallies.specs.Tally.{no_counts, added, outcome_of}
 use Rattle.judging.specs.Calls.{Call, judge, close, subject_of, run}
 use Rattle.judging.specs.PlainJudge.{Owned, own, said_on, entry_count, owned_lines, PlainState}
@@ -30,7 +32,7 @@ use Rattle.judging.specs.Judge.{Lent, JudgeState, judge_start, judge_step}
 pub record AsRead (sizes : Script.Counts) (entries : List Entry) (expectations : List Expectation) (r : Reading) (k : Lent) : Type 0 where
   pub entries-lent : sizes.entries ≡ length entries
   pub expectations-lent : sizes.expectations ≡ length expectations
-  pub is_read : read_into sizes k.text ≡ read r
+  pub is_read : read_into sizes k.text ≡ Ok r
   pub script : k.script ≡ r.script
   pub entries-left : k.entries ≡ written_at 0 r.tables.entries entries
   pub expectations-left : k.expectations ≡ written_at 0 r.tables.expectations expectations
@@ -39,8 +41,8 @@ pub record AsRead (sizes : Script.Counts) (entries : List Entry) (expectations :
 
 -- The verdict list shows the slots: a verdict where there is one; where the slot is empty or missing, what the list held before the first call.
 unfoldable pub slot_over : Option Verdict → ℕ → ℕ
-slot_over none byte = byte
-slot_over (some v) byte = code v
+slot_over None byte = byte
+slot_over (Some v) byte = code v
 
 unfoldable pub slots_over : List (Option Verdict) → (before : List ℕ) → List ℕ
 slots_over (slot ∷ slots) (byte ∷ before) = slot_over slot byte ∷ slots_over slots before
@@ -52,46 +54,46 @@ unfoldable pub state_over : (before : List ℕ) → PlainState → JudgeState
 state_over before p = record { next = p.next; counts = p.counts; verdicts = slots_over p.slots before }
 
 -- every answer of ours, and the state after the last call, from a fresh tally
-abbrev pub our_run : Lent → (verdicts : List ℕ) → List Call → List Answer × JudgeState
+abbrev pub our_run : Lent → (verdicts : List ℕ) → List Call → List (Result Answer Refusal) × JudgeState
 our_run k verdicts calls = run (judge_step k) (judge_start verdicts) calls
 
 -- ---- the same in the user's words
 
 -- what the unrefused calls of number n were handed
-unfoldable pub accepted_by : (n : ℕ) → Call → Answer → List Subject
-accepted_by n (judge j) Judged = if eqb j.number n then (subject_of j ∷ []) else []
-accepted_by n (judge j) (Refused r) = []
-accepted_by n (judge j) (Closed o) = []
+unfoldable pub accepted_by : (n : ℕ) → Call → Result Answer Refusal → List Subject
+accepted_by n (judge j) (Ok Judged) = if eqb j.number n then (subject_of j ∷ []) else []
+accepted_by n (judge j) (Err r) = []
+accepted_by n (judge j) (Ok (Closed o)) = []
 accepted_by n close answer = []
 
-unfoldable pub accepted : (n : ℕ) → List Call → List Answer → List Subject
+unfoldable pub accepted : (n : ℕ) → List Call → List (Result Answer Refusal) → List Subject
 accepted n (c ∷ cs) (a ∷ as') = accepted_by n c a ++ accepted n cs as'
 accepted n (c ∷ cs) [] = []
 accepted n [] answers = []
 
 -- the verdict of what a line says, where there is something to judge it against
 unfoldable pub verdict_by : List Subject → Expected → Option Verdict
-verdict_by [] e = none
-verdict_by (s ∷ more) e = some (verdict s e)
+verdict_by [] e = None
+verdict_by (s ∷ more) e = Some (verdict s e)
 
 -- An expectation line has a verdict if the number that it belongs to was judged unrefused: that of what this call was handed. Else it has none.
-unfoldable pub line_verdict : List Call → List Answer → Owned → Option Verdict
+unfoldable pub line_verdict : List Call → List (Result Answer Refusal) → Owned → Option Verdict
 line_verdict calls answers (own n e) = verdict_by (accepted n calls answers) e
 
-unfoldable pub line_verdicts : (text : List ℕ) → List Call → List Answer → List (Option Verdict)
+unfoldable pub line_verdicts : (text : List ℕ) → List Call → List (Result Answer Refusal) → List (Option Verdict)
 line_verdicts text calls answers = map (line_verdict calls answers) (owned_lines text)
 
 -- the verdicts, in line order
 unfoldable pub verdicts_in : List (Option Verdict) → List Verdict
 verdicts_in [] = []
-verdicts_in (none ∷ slots) = verdicts_in slots
-verdicts_in (some v ∷ slots) = v ∷ verdicts_in slots
+verdicts_in (None ∷ slots) = verdicts_in slots
+verdicts_in (Some v ∷ slots) = v ∷ verdicts_in slots
 
 -- how many there are of each kind
 unfoldable pub counted : List (Option Verdict) → Counts
 counted [] = no_counts
-counted (none ∷ slots) = counted slots
-counted (some v ∷ slots) = added v (counted slots)
+counted (None ∷ slots) = counted slots
+counted (Some v ∷ slots) = added v (counted slots)
 
 unfoldable pub number_of : Owned → ℕ
 number_of (own n e) = n
@@ -100,7 +102,7 @@ unfoldable pub said_of : Owned → Expected
 said_of (own n e) = e
 
 -- `answers` and `last` are what the calls answered and left, from a fresh tally and the verdict list `before`.
-pub record InWords (k : Lent) (before : List ℕ) (calls : List Call) (answers : List Answer) (last : JudgeState) : Type 0 where
+pub record InWords (k : Lent) (before : List ℕ) (calls : List Call) (answers : List (Result Answer Refusal)) (last : JudgeState) : Type 0 where
   -- the expectation lines are the lines that, trimmed, begin with `expect`, in line order
   pub expect_lines : expectation_lines (plain_lines k.text) ≡ beginning_lines k.text (lines k.text)
   pub one_for_each : map said_of (owned_lines k.text) ≡ map (said_on k.text) (expectation_lines (plain_lines k.text))
@@ -119,10 +121,10 @@ pub record InWords (k : Lent) (before : List ℕ) (calls : List Call) (answers :
   -- the counts are the numbers of verdicts of each kind
   pub counts : last.counts ≡ counted (line_verdicts k.text calls answers)
   -- a close is refused while the handshake or an entry is unjudged
-  pub close_early : (n : ℕ) → n ≤ entry_count k.text → accepted n calls answers ≡ [] → (judge_step k last close).0 ≡ Refused (refusal 37 0)
+  pub close_early : (n : ℕ) → n ≤ entry_count k.text → accepted n calls answers ≡ [] → (judge_step k last close).0 ≡ Err (refusal NotAllJudged 0)
   -- and else says what the verdicts say
   pub close_late : ((n : ℕ) → n ≤ entry_count k.text → accepted n calls answers ≢ [])
-      → (judge_step k last close).0 ≡ Closed (outcome_of (counted (line_verdicts k.text calls answers)))
+      → (judge_step k last close).0 ≡ Ok (Closed (outcome_of (counted (line_verdicts k.text calls answers))))
   -- passed exactly when there is a verdict and every one passed
   pub says-passed : (outcome_of (counted (line_verdicts k.text calls answers)) ≡ Outcome.Passed)
       ↔ ((n : ℕ) × (verdicts_in (line_verdicts k.text calls answers) ≡ replicate (suc n) Verdict.Passed))

@@ -1,6 +1,5 @@
 -- Document 01, Judge: what it answers and what it leaves, over the records of a script. The contracts cite these. Assumes nothing.
-use Rattle.std.specs.Prelude.{ℕ, ◌+◌, ◌-◌, min, Bool, true, not, List, [], ◌∷◌, map, length, get_or, ltb, eqb}
-use Rattle.std.proofs.Math.Option.{Option}
+use Rattle.std.specs.Prelude.{ℕ, ◌+◌, ◌-◌, min, Bool, true, not, List, [], ◌∷◌, map, length, get_or, ltb, eqb, Option, Result}
 use Rattle.text.specs.Base.{◌&◌, ◌or◌}
 use Rattle.script.specs.Reading.{room}
 use Rattle.script.specs.declared.records.Items.{Items}
@@ -8,6 +7,7 @@ use Rattle.script.specs.declared.records.Entry.{Entry}
 use Rattle.script.specs.declared.records.Expectation.{Expectation}
 use Rattle.script.specs.declared.records.Refusal.{Refusal}
 use Rattle.script.specs.declared.records.Script.{Script}
+use Rattle.script.specs.declared.refusals.Reason.TheVariants.{CountTooHigh, ExpectationOutside, FewSlots, PartOutside, ValueTooLong, WrongNumber}
 use Rattle.verdicts.specs.Expected.{Expected}
 use Rattle.verdicts.specs.Lookup.{looked}
 use Rattle.verdicts.specs.Verdicts.{verdict, code}
@@ -62,11 +62,11 @@ module _ (k : Lent) where
 
   -- ---- the refusals
 
-  -- 33: past the script's count of entries or the table's
+  -- past the script's count of entries or the table's
   unfoldable pub past_entries : (number : ℕ) → Bool
   past_entries number = ltb k.script.counts.entries number or ltb (room (length k.entries)) number
 
-  -- 31: an expectation to be judged outside the table or the script's count of expectations; where the range is empty there is none
+  -- an expectation to be judged outside the table or the script's count of expectations; where the range is empty there is none
   unfoldable pub range_outside : Items → Bool
   range_outside r = not (eqb r.count 0) & not (inside (min k.script.counts.expectations (room (length k.expectations))) r.first r.count)
 
@@ -74,25 +74,25 @@ module _ (k : Lent) where
   unfoldable pub out_of_reach : Items → Bool
   out_of_reach r = range_outside r or not (all_in k.text (records_in r))
 
-  -- 35: fewer verdict slots than the script's expectations
+  -- fewer verdict slots than the script's expectations
   unfoldable pub few_slots : (places : ℕ) → Bool
   few_slots places = ltb (room places) k.script.counts.expectations
 
-  -- of a range against a subject, in the order of document 01: 31, 32, 35, 34
+  -- of a range against a subject, in the order of document 01
   unfoldable pub range_refusals : Items → (places : ℕ) → Judging → List (Option Refusal)
   range_refusals r places j =
-      refused_if 31 (out_of_reach r)
-      ∷ refused_if 32 (part_outside j)
-      ∷ refused_if 35 (few_slots places)
-      ∷ refused_if 34 (too_long j.scratch (map (looked (subject_of j)) (said_by r)))
+      refused_if ExpectationOutside (out_of_reach r)
+      ∷ refused_if PartOutside (part_outside j)
+      ∷ refused_if FewSlots (few_slots places)
+      ∷ refused_if ValueTooLong (too_long j.scratch (map (looked (subject_of j)) (said_by r)))
       ∷ []
 
-  -- the first refusal of the judging of a range: 36 and 33 come before those; `past` says that the number is past the entries
+  -- the first refusal of the judging of a range: the tally's and the number's come before those; `past` says that the number is past the entries
   unfoldable pub refusal_on : (past : Bool) → Items → (next : ℕ) → Counts → (places : ℕ) → Judging → Option Refusal
   refusal_on past r next counts places j =
       first_refusal
-      (refused_if 36 (over_limit counts)
-      ∷ refused_if 33 (wrong_number next j.number past j.handed)
+      (refused_if CountTooHigh (over_limit counts)
+      ∷ refused_if WrongNumber (wrong_number next j.number past j.handed)
       ∷ range_refusals r places j)
 
   -- of a judging
@@ -112,15 +112,15 @@ module _ (k : Lent) where
       }
 
   -- the judging of a range: its answer, and what it leaves
-  unfoldable pub judged_on : (past : Bool) → Items → JudgeState → Judging → Answer × JudgeState
+  unfoldable pub judged_on : (past : Bool) → Items → JudgeState → Judging → Result Answer Refusal × JudgeState
   judged_on past r s j = judged_or (refusal_on past r s.next s.counts (length s.verdicts) j) s (judged_by (verdict (subject_of j)) r s)
 
   -- Judge
-  unfoldable pub judged : JudgeState → Judging → Answer × JudgeState
+  unfoldable pub judged : JudgeState → Judging → Result Answer Refusal × JudgeState
   judged s j = judged_on (past_entries j.number) (range_for j.number j.handed) s j
 
 -- ---- a call
 
-unfoldable pub judge_step : Lent → JudgeState → Call → Answer × JudgeState
+unfoldable pub judge_step : Lent → JudgeState → Call → Result Answer Refusal × JudgeState
 judge_step k s (judge j) = judged k s j
 judge_step k s close = (close_answer s.next s.counts k.script.counts.entries, s)

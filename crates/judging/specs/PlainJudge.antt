@@ -1,10 +1,10 @@
 -- Document 01, "Verdicts": the plain judge of demand 3. It is fed the text, the verdict list's length and, of each call, its kind, number, handshake
 -- information or response, and scratch length; none of our records. Assumes nothing.
-use Rattle.std.specs.Prelude.{ℕ, ◌+◌, not, List, [], ◌∷◌, map, length, replicate, get_or, ltb, eqb, if◌then◌else◌}
-use Rattle.std.proofs.Math.Option.{Option, none, some}
+use Rattle.std.specs.Prelude.{ℕ, ◌+◌, not, List, [], ◌∷◌, map, length, replicate, get_or, ltb, eqb, if◌then◌else◌, None, Option, Result, Some}
 use Rattle.text.specs.declared.lines.Line.{Line}
 use Rattle.script.specs.Plain.{plain_lines, opened, expectation_lines, owners, stated}
 use Rattle.script.specs.declared.records.Refusal.{Refusal}
+use Rattle.script.specs.declared.refusals.Reason.TheVariants.{FewSlots, NotAllJudged, PartOutside, ValueTooLong, WrongNumber}
 use Rattle.verdicts.specs.Expected.{Expected, terminal}
 use Rattle.verdicts.specs.Told.{Subject}
 use Rattle.verdicts.specs.Lookup.{looked}
@@ -55,22 +55,22 @@ pub record PlainState : Type 0 where
 
 -- each line that belongs to n puts its verdict into its slot
 unfoldable pub filled : (n : ℕ) → Subject → List Owned → List (Option Verdict) → List (Option Verdict)
-filled n s (own k e ∷ ls) (slot ∷ slots) = (if eqb k n then some (verdict s e) else slot) ∷ filled n s ls slots
+filled n s (own k e ∷ ls) (slot ∷ slots) = (if eqb k n then Some (verdict s e) else slot) ∷ filled n s ls slots
 filled n s (own k e ∷ ls) [] = []
 filled n s [] slots = slots
 
 module _ (text : List ℕ) (places : ℕ) where
   unfoldable pub plain_start : PlainState
-  plain_start = record { next = 0; slots = replicate (length (owned_lines text)) none; counts = no_counts }
+  plain_start = record { next = 0; slots = replicate (length (owned_lines text)) None; counts = no_counts }
 
-  -- 33, 32, 35 or 34, tried in this order
+  -- the first that applies, in this order
   unfoldable pub plain_refusal : (next : ℕ) → Judging → Option Refusal
   plain_refusal next j =
       first_refusal
-      (refused_if 33 (wrong_number next j.number (ltb (entry_count text) j.number) j.handed)
-      ∷ refused_if 32 (part_outside j)
-      ∷ refused_if 35 (ltb places (length (owned_lines text)))
-      ∷ refused_if 34 (too_long j.scratch (map (looked (subject_of j)) (belonging j.number (owned_lines text))))
+      (refused_if WrongNumber (wrong_number next j.number (ltb (entry_count text) j.number) j.handed)
+      ∷ refused_if PartOutside (part_outside j)
+      ∷ refused_if FewSlots (ltb places (length (owned_lines text)))
+      ∷ refused_if ValueTooLong (too_long j.scratch (map (looked (subject_of j)) (belonging j.number (owned_lines text))))
       ∷ [])
 
   unfoldable pub plain_judged : PlainState → Judging → PlainState
@@ -81,13 +81,13 @@ module _ (text : List ℕ) (places : ℕ) where
   }
 
   -- Close is refused while the next number is not the count of entries plus 1.
-  unfoldable pub plain_closing : PlainState → Answer
-  plain_closing p = closed_or (refused_if 37 (not (eqb p.next (entry_count text + 1)))) (outcome_of p.counts)
+  unfoldable pub plain_closing : PlainState → Result Answer Refusal
+  plain_closing p = closed_or (refused_if NotAllJudged (not (eqb p.next (entry_count text + 1)))) (outcome_of p.counts)
 
-  unfoldable pub plain_call : PlainState → Call → Answer × PlainState
+  unfoldable pub plain_call : PlainState → Call → Result Answer Refusal × PlainState
   plain_call p (judge j) = judged_or (plain_refusal p.next j) p (plain_judged p j)
   plain_call p close = (plain_closing p, p)
 
   -- the whole list of calls
-  unfoldable pub plain_run : List Call → List Answer × PlainState
+  unfoldable pub plain_run : List Call → List (Result Answer Refusal) × PlainState
   plain_run calls = run plain_call plain_start calls

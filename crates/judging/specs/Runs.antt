@@ -1,7 +1,8 @@
 -- A list of calls: the scratch after each call, and after all of them, on lent tables and by the plain judge, which sees the text alone. Assumes nothing.
-use Rattle.std.specs.Prelude.{ℕ, List, [], ◌∷◌, ◌++◌, map, take, drop}
+use Rattle.std.specs.Prelude.{ℕ, List, [], ◌∷◌, ◌++◌, map, take, drop, Result}
 use Rattle.verdicts.specs.Lookup.{looked}
 use Rattle.tallies.specs.declared.calls.Answer.{Answer}
+use Rattle.script.specs.declared.records.Refusal.{Refusal}
 use Rattle.judging.specs.Calls.{Call, judge, close, subject_of}
 use Rattle.judging.specs.Judge.{Lent, JudgeState}
 use Rattle.judging.specs.Scratch.{overwritten_or, scratch_after}
@@ -17,7 +18,7 @@ scratch_call k s (judge j) scratch = on_front j.scratch (scratch_after k s j) sc
 scratch_call k s close scratch = scratch
 
 -- Each call finds the state and the scratch that the one before it left: the last scratch.
-unfoldable pub scratch_run : {State : Type 0} → (step : State → Call → Answer × State) → (writes : State → Call → List ℕ → List ℕ) → State → List Call → (scratch : List ℕ) → List ℕ
+unfoldable pub scratch_run : {State : Type 0} → (step : State → Call → Result Answer Refusal × State) → (writes : State → Call → List ℕ → List ℕ) → State → List Call → (scratch : List ℕ) → List ℕ
 scratch_run step writes s [] scratch = scratch
 scratch_run step writes s (c ∷ cs) scratch = scratch_run step writes (step s c).1 cs (writes s c scratch)
 

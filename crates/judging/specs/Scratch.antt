@@ -1,6 +1,5 @@
 -- Document 01: present values are written at the start of the lent scratch, each over the last. The contracts cite these. Assumes nothing.
-use Rattle.std.specs.Prelude.{ℕ, Bool, List, [], ◌∷◌, map, length}
-use Rattle.std.proofs.Math.Option.{Option, none, some}
+use Rattle.std.specs.Prelude.{ℕ, Bool, List, [], ◌∷◌, map, length, None, Option, Some}
 use Rattle.text.specs.Base.{overlaid}
 use Rattle.script.specs.declared.records.Items.{Items}
 use Rattle.script.specs.declared.records.Refusal.{Refusal}
@@ -10,8 +9,8 @@ use Rattle.judging.specs.Judge.{Lent, JudgeState, range_for, said_by, past_entri
 
 -- A present value is written at the start of the scratch.
 unfoldable pub overwritten_by : (value : Option (List ℕ)) → (scratch : List ℕ) → List ℕ
-overwritten_by none scratch = scratch
-overwritten_by (some value) scratch = overlaid value scratch
+overwritten_by None scratch = scratch
+overwritten_by (Some value) scratch = overlaid value scratch
 
 -- each over the last
 unfoldable pub overwritten : (values : List (Option (List ℕ))) → (scratch : List ℕ) → List ℕ
@@ -20,8 +19,8 @@ overwritten (value ∷ values) scratch = overwritten values (overwritten_by valu
 
 -- a scratch stays as it was where the judging is refused
 unfoldable pub overwritten_or : Option Refusal → (values : List (Option (List ℕ))) → (scratch : List ℕ) → List ℕ
-overwritten_or none values scratch = overwritten values scratch
-overwritten_or (some r) values scratch = scratch
+overwritten_or None values scratch = overwritten values scratch
+overwritten_or (Some r) values scratch = scratch
 
 -- the scratch after the judging of a range
 unfoldable pub scratch_on : Lent → (past : Bool) → Items → JudgeState → Judging → (scratch : List ℕ) → List ℕ

@@ -8,58 +8,53 @@ ghost use Rattle.text.specs.Skip.{Without};
 use text::lines::Line;
 
 // The line from `at` on whose LF stands at lf.
+#[tactic(auto, unfolding(text::specs::LinesWalk::end_at))]
 fn ended(text: &[u8], at: usize, number: usize, lf: usize) -> Line
     requires { lf < length text.now }
     ensures { result ≡ line number at (end_at text.now at lf) (lf + 1) }
 {
-    let next = lf + 1;
-    if at < lf {
-        let before = lf - 1;
-        if text[before] == 13 {
-            return Line {
-                number: number,
-                start: at,
-                end: before,
-                next: next,
-            };
-        }
-    }
+    let end = if at < lf && text[lf - 1] == b'\r' {
+        lf - 1
+    } else {
+        lf
+    };
     Line {
-        number: number,
+        number,
         start: at,
-        end: lf,
-        next: next,
+        end,
+        next: lf + 1,
     }
 }
 
 // A place up to which no LF stands from `at` on.
+#[tactic(auto, unfolding(text::specs::Skip::Without))]
 fn skip_plain(text: &[u8], at: usize) -> usize
     ensures lower_bound { at ≤ result }
     ensures upper_bound { at < result → result ≤ length text.now }
     ensures without { Without LF text.now at result }
 {
-    if text.len() <= at {
-        return at;
+    if at < text.len() {
+        text::skip::skip_others(text, b'\n', at)
+    } else {
+        at
     }
-    text::skip::skip_others(text, 10, at)
 }
 
 // The line that begins at `at`, called by the number given. At the end of the text, or past it, it has no bytes.
 pub fn line_at(text: &[u8], at: usize, number: usize) -> Line
     ensures { result ≡ line_at text.now at number }
 {
-    let mut i = skip_plain(text, at);
-    while i < text.len() {
-        if text[i] == 10 {
+    for i in skip_plain(text, at)..text.len() {
+        if text[i] == b'\n' {
             return ended(text, at, number, i);
         }
-        i += 1;
     }
+    let end = at.max(text.len());
     Line {
-        number: number,
+        number,
         start: at,
-        end: i,
-        next: i,
+        end,
+        next: end,
     }
 }
 
@@ -70,10 +65,8 @@ pub fn count_lines(text: &[u8]) -> usize
     let mut n: usize = 0;
     let mut at: usize = 0;
     while at < text.len() {
-        let number = n + 1;
-        let l = line_at(text, at, number);
-        at = l.next;
-        n = number;
+        n += 1;
+        at = line_at(text, at, n).next;
     }
     n
 }
@@ -87,22 +80,17 @@ pub fn trimmed_bytes(text: &[u8]) -> usize
     let mut at: usize = 0;
     while at < text.len() {
         let l = line_at(text, at, number);
-        let start = l.start;
-        let end = l.end;
-        let bytes = trimming::trim(&text[start..end]);
-        at = l.next;
+        sum += trimming::trim(&text[l.start..l.end]).len();
         number += 1;
-        sum += bytes.len();
+        at = l.next;
     }
     sum
 }
 
 // Whether a line, as it stands in the text, begins with two spaces or a tab.
+#[tactic(auto, unfolding(text::specs::Lines::indented, text::specs::Literal::utf8))]
 pub fn indented(line: &[u8]) -> bool
     ensures { result ≡ indented line.now }
 {
-    if text::parts::starts_with(line, b"  ") {
-        return true;
-    }
-    text::parts::starts_with(line, b"\t")
+    text::parts::starts_with(line, b"  ") || text::parts::starts_with(line, b"\t")
 }

@@ -15,24 +15,6 @@ use Rattle.text.proofs.LiteralLaws.{other_length}
 use Rattle.text.proofs.Scan.{rest_more, rest-none}
 use Rattle.list_pieces.specs.Pieces.{row, row_from, opens}
 
--- ---- a value and its front
-
-pub front_short : (p s : List ℕ) → length s < length p → false ≡ starts_with p s
-unfolding starts_with
-front_short [] s h = absurd (omega arith)
-front_short (b ∷ p) [] h = refl
-front_short (b ∷ p) (x ∷ s) h = front_false (eqb x b) (starts_with p s) (front_short p s (omega arith))
-  where
-    front_false : (c d : Bool) → false ≡ d → false ≡ c & d
-    front_false true d e = e
-    front_false false d e = refl
-
-pub front_same : (p s : List ℕ) → length p ≤ length s → same_bytes (take (length p) s) p ≡ starts_with p s
-unfolding starts_with same_bytes
-front_same [] s h = refl
-front_same (b ∷ p) [] h = absurd (omega arith)
-front_same (b ∷ p) (x ∷ s) h = ap (λ (c : Bool). eqb x b & c) (front_same p s (omega arith))
-
 -- ---- a row
 
 pub row_more : (ps : List (List ℕ)) (k : ℕ) → k < length ps → row (drop k ps) ≡ get_or ps k [] ++ row (drop (k + 1) ps)

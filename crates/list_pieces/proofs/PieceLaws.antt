@@ -1,9 +1,9 @@
 -- The laws of pieces: how many there are, which one stands where, and what they are in a row. Assumes nothing.
+use Rattle.std.specs.Prelude.{None}
 use Prim.Native.Nat.{ℕ, zero, suc, ◌+◌, ◌-◌, ◌*◌, ◌≤◌, ◌<◌}
 use mathlib.Core.Path.{◌≡◌, refl, sym, ap, ◌∙◌}
 use mathlib.Core.Bool.{Bool, true, false}
 use mathlib.Core.List.{List, [], ◌∷◌, ◌++◌, append_assoc, append-nil}
-use mathlib.Core.Option.{none}
 use native.Mathlib.Omega.{arith}
 use lib.ListN.{length, get_or, take, drop, length-drop, length-map, get_or-map}
 use lib.Seq.{get_or-take, get_or-drop, length-take-le}
@@ -130,7 +130,7 @@ unfolding list_text braced utf8 encoded
 in_braces b xs e = rw e (row-pieces (words braces 2) refl xs)
 
 -- and no number
-pub no_number : (b : Bool) (xs : List (List ℕ)) → signed (list_text b xs) ≡ none
+pub no_number : (b : Bool) (xs : List (List ℕ)) → signed (list_text b xs) ≡ None
 unfolding list_text bracketed braced utf8 encoded signed number digits all_digits within
 no_number true xs = refl
 no_number false xs = refl

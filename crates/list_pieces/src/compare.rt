@@ -7,20 +7,6 @@ ghost use Rattle.list_pieces.specs.Pieces.{pieces_of, piece_count, row_from, ope
 
 use script::records::Items;
 
-// Whether a value begins with these bytes, which may be many: sixteen at a time.
-fn begins(value: &[u8], front: &[u8]) -> bool
-    ensures { result ≡ starts_with front.now value.now }
-{
-    let n = front.len();
-    if n < 16 {
-        return text::parts::starts_with(value, front);
-    }
-    if value.len() < n {
-        return false;
-    }
-    same_values::same_value(&value[..n], front)
-}
-
 // Whether the list, from the byte at o of its piece at j on, is the pattern, or only begins with it.
 pub fn opens_at<'a>(
     bytes: &'a [u8],
@@ -54,7 +40,7 @@ pub fn opens_at<'a>(
             }
             return text::parts::starts_with(here, left);
         }
-        if begins(left, here) {
+        if text::parts::starts_with(left, here) {
             p += here.len();
             k += 1;
             from = 0;

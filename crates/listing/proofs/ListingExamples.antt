@@ -12,6 +12,7 @@ use Rattle.script.specs.Layout as script-Layout
 use Rattle.script.specs.Operations as script-Operations
 use Rattle.script.specs.Pieces as script-Pieces
 use Rattle.script.specs.Reading as script-Reading
+use Rattle.script.specs.Refusals as script-Refusals
 use Rattle.script.specs.Roles as script-Roles
 use Rattle.script.specs.Sets as script-Sets
 use Rattle.script.specs.Timestamps as script-Timestamps
@@ -61,7 +62,7 @@ cases =
     ∷ []
 
 abbrev printed : List ℕ → List ℕ
-unfolding text-Base.within text-Base.overlaid text-Hex.without text-Hex.without_blanks text-Hex.character_starts text-Hex.hex_value text-Hex.hex_byte text-Hex.hex_pairs text-Hex.hex_decoded text-Lines.lines_from text-Lines.lines text-Lines.indented text-Literal.utf8 text-Literal.spells text-Literal.begins_with text-Literal.word_length text-Numbers.all_digits text-Numbers.decimal_from text-Numbers.digits text-Numbers.number text-Numbers.minus text-Numbers.signed text-Parts.starts_with text-Parts.ends_with text-Parts.same_bytes text-Parts.position_from text-Parts.position text-Parts.pair_position_from text-Parts.pair_position text-Parts.split_from text-Parts.split text-Trim.white_bytes text-Trim.backwards text-Trim.begins text-Trim.size_of text-Trim.strip_from text-Trim.trimmed_front text-Trim.trimmed_back text-Trim.trimmed text-Trim.trim_place text-Unicode.encoded text-Unquote.quoted text-Unquote.between text-Unquote.replaced text-Unquote.replaced_in_order text-Unquote.unescaped text-Unquote.unquoted text-Utf8.table text-Utf8.after text-Utf8.well_formed_from text-Utf8.well_formed text-Words.words_from text-Words.words wire-Operations.operation wire-Operations.first wire-Operations.named wire-Version.of_numbers wire-Version.of_parts wire-Version.version script-Answers.first_of script-Contents.saying_of script-Contents.sayings script-Contents.expectation_of script-Contents.expectations script-Contents.value_or script-Contents.last_of script-Contents.value_of script-Contents.pair_of script-Contents.pairs script-Contents.given_bytes script-Contents.given_data script-Contents.number_of script-Contents.flag_of script-Contents.items_in script-Contents.rest_of script-Contents.set_of script-Contents.version_in script-Contents.features_in script-Contents.unquoted_of script-Contents.hex_of script-Contents.data_of script-Contents.call_of script-Contents.entry_of script-Contents.is_opening script-Contents.lead script-Contents.or_none script-Contents.entry_on script-Contents.entries script-Contents.preamble_of script-Contents.contents script-Expectations.numbered script-Expectations.about script-Expectations.pattern script-Expectations.comparison script-Expectations.matcher script-Expectations.matching script-Expectations.terminal script-Expectations.field script-Expectations.result script-Expectations.expectation script-Layout.range script-Layout.listed script-Layout.stored_of script-Layout.framed_at script-Layout.laid script-Layout.tables_from script-Layout.maybe script-Layout.maybe_items script-Layout.laid_preamble script-Layout.laid_script script-Operations.key_row script-Operations.same_key script-Operations.keys_of script-Operations.key_in script-Operations.form_of script-Pieces.place_of script-Pieces.place script-Pieces.is_empty script-Pieces.inner script-Pieces.cut_at script-Pieces.bytes script-Pieces.is script-Pieces.begins script-Pieces.ends script-Pieces.behind script-Pieces.trim script-Pieces.cut script-Pieces.cut_or script-Pieces.split script-Pieces.words script-Reading.refused_by script-Reading.first_refused script-Reading.read_marked script-Reading.read_by script-Reading.parsed_by script-Reading.parsed script-Reading.measured script-Reading.room script-Reading.too_few script-Reading.fitted script-Reading.read_into script-Roles.refusal_in script-Roles.behind_signs script-Roles.version_role script-Roles.expect_role script-Roles.saying script-Roles.comment_role script-Roles.protocol_role script-Roles.word_role script-Roles.preamble_expect script-Roles.preamble_role script-Roles.preamble_step script-Roles.set_on script-Roles.not_closed script-Roles.open_on script-Roles.with_name script-Roles.with_stamp script-Roles.opening_role script-Roles.skipped script-Roles.outside_step script-Roles.entry_step script-Roles.argument_line script-Roles.pair_in script-Roles.keyed script-Roles.key_saying script-Roles.raw_saying script-Roles.option_saying script-Roles.saying_in script-Roles.refusal_of_kind script-Roles.refusal_of script-Roles.argument_step script-Roles.block_step script-Roles.step_at script-Roles.step_of script-Roles.roles_from script-Roles.roles script-Sets.non_empty script-Sets.trimmed_items script-Sets.path_items script-Sets.braced_set script-Sets.plain_set script-Sets.path_set script-Sets.features script-Timestamps.digit_run script-Timestamps.fraction script-Timestamps.unsigned script-Timestamps.negative script-Timestamps.small script-Timestamps.no_finite script-Timestamps.some_digits script-Timestamps.exponent script-Timestamps.carried script-Timestamps.time script-Timestamps.with_time script-Timestamps.stamped_at script-Timestamps.stamped script-Values.without_quotes script-Values.inline_of script-Values.framed values-Decimal.decimal_by values-Decimal.decimal call-CallOps.op_of listing-Listing.after listing-Listing.version_words listing-Listing.header_line listing-Listing.entry_line listing-Listing.entry_lines listing-Listing.refusal_line listing-Listing.listing listing-Listing.listing_of
+unfolding text-Base.within text-Base.overlaid text-Hex.without text-Hex.without_blanks text-Hex.character_starts text-Hex.hex_value text-Hex.hex_byte text-Hex.hex_pairs text-Hex.hex_decoded text-Lines.lines_from text-Lines.lines text-Lines.indented text-Literal.utf8 text-Literal.spells text-Literal.begins_with text-Literal.word_length text-Numbers.all_digits text-Numbers.decimal_from text-Numbers.digits text-Numbers.number text-Numbers.minus text-Numbers.signed text-Parts.starts_with text-Parts.ends_with text-Parts.same_bytes text-Parts.position_from text-Parts.position text-Parts.pair_position_from text-Parts.pair_position text-Parts.split_from text-Parts.split text-Trim.white_bytes text-Trim.backwards text-Trim.begins text-Trim.size_of text-Trim.strip_from text-Trim.trimmed_front text-Trim.trimmed_back text-Trim.trimmed text-Trim.trim_place text-Unicode.encoded text-Unquote.quoted text-Unquote.between text-Unquote.replaced text-Unquote.replaced_in_order text-Unquote.unescaped text-Unquote.unquoted text-Utf8.table text-Utf8.after text-Utf8.well_formed_from text-Utf8.well_formed text-Words.words_from text-Words.words wire-Operations.operation wire-Operations.first wire-Operations.named wire-Version.of_numbers wire-Version.of_parts wire-Version.version script-Answers.first_of script-Contents.saying_of script-Contents.sayings script-Contents.expectation_of script-Contents.expectations script-Contents.value_or script-Contents.last_of script-Contents.value_of script-Contents.pair_of script-Contents.pairs script-Contents.given_bytes script-Contents.given_data script-Contents.number_of script-Contents.flag_of script-Contents.items_in script-Contents.rest_of script-Contents.set_of script-Contents.version_in script-Contents.features_in script-Contents.unquoted_of script-Contents.hex_of script-Contents.data_of script-Contents.call_of script-Contents.entry_of script-Contents.is_opening script-Contents.lead script-Contents.or_none script-Contents.entry_on script-Contents.entries script-Contents.preamble_of script-Contents.contents script-Expectations.numbered script-Expectations.about script-Expectations.pattern script-Expectations.comparison script-Expectations.matcher script-Expectations.matching script-Expectations.terminal script-Expectations.field script-Expectations.result script-Expectations.expectation script-Layout.range script-Layout.listed script-Layout.stored_of script-Layout.framed_at script-Layout.laid script-Layout.tables_from script-Layout.maybe script-Layout.maybe_items script-Layout.laid_preamble script-Layout.laid_script script-Operations.key_row script-Operations.same_key script-Operations.keys_of script-Operations.key_in script-Operations.form_of script-Pieces.place_of script-Pieces.place script-Pieces.is_empty script-Pieces.inner script-Pieces.cut_at script-Pieces.bytes script-Pieces.is script-Pieces.begins script-Pieces.ends script-Pieces.behind script-Pieces.trim script-Pieces.cut script-Pieces.cut_or script-Pieces.split script-Pieces.words script-Reading.refused_by script-Reading.first_refused script-Reading.read_marked script-Reading.read_by script-Reading.parsed_by script-Reading.parsed script-Reading.measured script-Reading.room script-Reading.too_few script-Reading.fitted script-Reading.read_into script-Refusals.reason_number script-Roles.refusal_in script-Roles.behind_signs script-Roles.version_role script-Roles.expect_role script-Roles.saying script-Roles.comment_role script-Roles.protocol_role script-Roles.word_role script-Roles.preamble_expect script-Roles.preamble_role script-Roles.preamble_step script-Roles.set_on script-Roles.not_closed script-Roles.open_on script-Roles.with_name script-Roles.with_stamp script-Roles.opening_role script-Roles.skipped script-Roles.outside_step script-Roles.entry_step script-Roles.argument_line script-Roles.pair_in script-Roles.keyed script-Roles.key_saying script-Roles.raw_saying script-Roles.option_saying script-Roles.saying_in script-Roles.refusal_of_kind script-Roles.refusal_of script-Roles.argument_step script-Roles.block_step script-Roles.step_at script-Roles.step_of script-Roles.roles_from script-Roles.roles script-Sets.non_empty script-Sets.trimmed_items script-Sets.path_items script-Sets.braced_set script-Sets.plain_set script-Sets.path_set script-Sets.features script-Timestamps.digit_run script-Timestamps.fraction script-Timestamps.unsigned script-Timestamps.negative script-Timestamps.small script-Timestamps.no_finite script-Timestamps.some_digits script-Timestamps.exponent script-Timestamps.carried script-Timestamps.time script-Timestamps.with_time script-Timestamps.stamped_at script-Timestamps.stamped script-Values.without_quotes script-Values.inline_of script-Values.framed values-Decimal.decimal_by values-Decimal.decimal call-CallOps.op_of listing-Listing.after listing-Listing.version_words listing-Listing.header_line listing-Listing.entry_line listing-Listing.entry_lines listing-Listing.refusal_line listing-Listing.listing listing-Listing.listing_of
 printed bytes = listing_of bytes
 
 cases_hold : map (λ c. printed (utf8 c.given)) cases ≡ map (λ c. utf8 c.wanted) cases

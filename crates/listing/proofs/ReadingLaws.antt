@@ -1,5 +1,6 @@
 -- What holds of a text that is read into lent tables: its entries are as many as its script says, they find room, and the preamble's expectations are among
 -- all. Assumes nothing.
+use Rattle.std.specs.Prelude.{Err, Ok}
 use Prim.Native.Nat.{ℕ, zero, suc, ◌≤◌, min}
 use mathlib.Core.Path.{◌≡◌, refl}
 use mathlib.Core.Bool.{Bool, true, false}
@@ -11,7 +12,7 @@ use borrow.Author.Tests.{ltb-false}
 use Rattle.script.specs.Answers.{first_of}
 use Rattle.script.specs.Contents.{ScriptContents}
 use Rattle.script.specs.Layout.{Reading, range, listed, laid_preamble, laid_script}
-use Rattle.script.specs.Reading.{Parsed, refused_at, read, read_by, parsed_by, parsed, room, too_few, fitted, read_into}
+use Rattle.script.specs.Reading.{read_by, parsed_by, parsed, room, too_few, fitted, read_into, Parsed}
 use Rattle.script.specs.Values.{plain_rules}
 use Rattle.script.specs.declared.records.Counts.{Counts}
 
@@ -25,8 +26,8 @@ pub record Fitting (lent : Counts) (r : Reading) : Type 0 where
 
 -- of a text that is not refused
 abbrev pub IfRead : (Reading → Type 0) → Parsed Reading → Type 0
-IfRead P (refused_at q) = Unit {0}
-IfRead P (read r) = P r
+IfRead P (Err q) = Unit {0}
+IfRead P (Ok r) = P r
 
 range_count : (before n : ℕ) → (range before n).count ≡ n
 unfolding range
@@ -44,9 +45,9 @@ parsed_whole : (text : List ℕ) → IfRead Whole (parsed text)
 unfolding parsed parsed_by
 parsed_whole text = go (read_by plain_rules text)
   where
-    go : (p : Parsed ScriptContents) → IfRead Whole (elim p as (λ _. Parsed Reading) [ refused_at r ↦ refused_at r | read s ↦ read (laid_script s) ])
-    go (refused_at r) = tt
-    go (read s) = laid_whole s
+    go : (p : Parsed ScriptContents) → IfRead Whole (elim p as (λ _. Parsed Reading) [ Err r ↦ Err r | Ok s ↦ Ok (laid_script s) ])
+    go (Err r) = tt
+    go (Ok s) = laid_whole s
 
 module _ (lent : Counts) (r : Reading) (w : Whole r) where
   fitted-fits : IfRead (Fitting lent) (fitted lent r)
@@ -76,10 +77,10 @@ read_fits : (lent : Counts) (text : List ℕ) → IfRead (Fitting lent) (read_in
 unfolding read_into
 read_fits lent text = go (parsed text) (parsed_whole text)
   where
-    go : (p : Parsed Reading) → IfRead Whole p → IfRead (Fitting lent) (elim p as (λ _. Parsed Reading) [ refused_at r ↦ refused_at r | read r ↦ fitted lent r ])
-    go (refused_at q) w = tt
-    go (read r) w = fitted-fits lent r w
+    go : (p : Parsed Reading) → IfRead Whole p → IfRead (Fitting lent) (elim p as (λ _. Parsed Reading) [ Err r ↦ Err r | Ok r ↦ fitted lent r ])
+    go (Err q) w = tt
+    go (Ok r) w = fitted-fits lent r w
 
 -- a text that is read
-pub fits : (lent : Counts) (text : List ℕ) (r : Reading) → read_into lent text ≡ read r → Fitting lent r
+pub fits : (lent : Counts) (text : List ℕ) (r : Reading) → read_into lent text ≡ Ok r → Fitting lent r
 fits lent text r e = rw e at (read_fits lent text)

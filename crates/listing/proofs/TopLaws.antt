@@ -1,4 +1,5 @@
 -- What is printed for a text is what reading it leaves, listed. Assumes nothing.
+use Rattle.std.specs.Prelude.{Err, Ok}
 use Prim.Native.Nat.{ℕ, ◌+◌, ◌*◌, ◌≤◌}
 use mathlib.Core.Path.{◌≡◌, sym, ap, ◌∙◌}
 use mathlib.Core.List.{List, ◌++◌}
@@ -9,7 +10,7 @@ use lib.Seq.{take-append_seam, length-take-le}
 use borrow.Author.Tests.{le-leb}
 use Rattle.text.specs.Base.{overlaid}
 use Rattle.script.specs.Layout.{Reading}
-use Rattle.script.specs.Reading.{Parsed, refused_at, read, read_into}
+use Rattle.script.specs.Reading.{read_into, Parsed}
 use Rattle.script.specs.declared.records.Entry.{Entry}
 use Rattle.script.specs.declared.records.Refusal.{Refusal}
 use Rattle.script.specs.declared.records.Script.{Script}
@@ -47,7 +48,7 @@ lists text xs t u n e k c w =
     (c ∙ ap length e, (w ∙ written_overlaid xs t room ∙ ap (λ (ys : List ℕ). overlaid ys t) e, in_front n u (omega arith)))
 
 -- a text that is refused
-pub refused-lists : (text : List ℕ) (q : Refusal) → read_into lent text ≡ refused_at q
+pub refused-lists : (text : List ℕ) (q : Refusal) → read_into lent text ≡ Err q
     → (t u : List ℕ) (n : ℕ) → length u ≡ length t → Put 0 (refusal_line q) 55 t u n → Lists text t u n
 unfolding listing_of listing
 refused-lists text q i t u n k p = lists text (refusal_line q) t u n (sym (ap listing i)) k (omega (arith, p.0)) p.1.0
@@ -55,7 +56,7 @@ refused-lists text q i t u n k p = lists text (refusal_line q) t u n (sym (ap li
 -- a text that is read: its script, and the reading that it belongs to
 pub record WasRead (p : Parsed Reading) (s : Script) : Type 0 where
   pub reading : Reading
-  pub was : p ≡ read reading
+  pub was : p ≡ Ok reading
   pub script-is : reading.script ≡ s
 
 module _ (text : List ℕ) (s : Script) (w : WasRead (read_into lent text) s) where

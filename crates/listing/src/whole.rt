@@ -7,7 +7,6 @@ ghost use Rattle.printed.specs.Room.{header_room, line_room, Front};
 
 use blanks::{blank_entry, blank_expectation};
 use printed::lines::{put_entry_line, put_header, put_refusal};
-use read::reading::Answer;
 use script::records::{Entry, Script};
 
 // Writes the lines of the first n entries.
@@ -57,7 +56,7 @@ pub fn list(text: &[u8], out: &mut [u8; 16384]) -> usize
         &mut store,
     );
     match answer {
-        Answer::Refused(q) => put_refusal(q, out, 0),
-        Answer::Read(s) => list_script(s, &entries, out),
+        Err(q) => put_refusal(q, out, 0),
+        Ok(s) => list_script(s, &entries, out),
     }
 }

@@ -1,4 +1,5 @@
 -- Lists of texts, one text after the other: how long they are, and how they are written. Assumes nothing.
+use Rattle.std.specs.Prelude.{Option, Some}
 use Prim.Native.Nat.{ℕ, ◌+◌, ◌≤◌, ◌<◌}
 use mathlib.Core.Path.{◌≡◌, sym, ap, ◌∙◌}
 use mathlib.Core.List.{List, [], ◌∷◌, ◌++◌, append-nil, append_assoc}
@@ -11,8 +12,6 @@ use Rattle.text.specs.Unicode.{encoded}
 use Rattle.verdicts.specs.Held.{item_text}
 use Rattle.verdicts.specs.Lookup.{joined, bracketed, braced}
 use Rattle.writing.specs.Room.{left, less_by}
-use Rattle.writing.specs.declared.room.Room.{Room}
-use Rattle.writing.specs.declared.room.Room.TheVariants.{Left}
 use Rattle.writing.proofs.RoomLaws.{less_none, less_more}
 use Rattle.writing.proofs.PutLaws.{Wrote, wrote_then, wrote_same, wrote_length, wrote_one, wrote_two, wrapped, Owing, owing_room, owing_on}
 use Rattle.lists.specs.Lists.{item_texts, behind}
@@ -68,23 +67,23 @@ module _ (bytes : List ℕ) (items : List (List ℕ)) where
 
   -- ---- the room that they leave
 
-  pub room-none : (r whole : Room) (i : ℕ) → length items ≤ i → less_by r (length (rest i)) ≡ whole → r ≡ whole
+  pub room-none : (r whole : Option ℕ) (i : ℕ) → length items ≤ i → less_by r (length (rest i)) ≡ whole → r ≡ whole
   room-none r whole i h e = sym (less_none r) ∙ ap (λ (xs : List ℕ). less_by r (length xs)) (sym (rest-none i h)) ∙ e
 
-  pub room_more : (r b whole : Room) (x : List ℕ) (i : ℕ) → i < length items → x ≡ text_of i → b ≡ less_by r (2 + length x) → less_by r (length (rest i)) ≡ whole
+  pub room_more : (r b whole : Option ℕ) (x : List ℕ) (i : ℕ) → i < length items → x ≡ text_of i → b ≡ less_by r (2 + length x) → less_by r (length (rest i)) ≡ whole
       → less_by b (length (rest (i + 1))) ≡ whole
   room_more r b whole x i h k q e =
       let m = length (rest (i + 1)) in
       let l : length (rest i) ≡ 2 + length x + m = ap length (rest_more i h) ∙ comma_length (text_of i) (rest (i + 1)) ∙ ap (λ (y : List ℕ). 2 + length y + m) (sym k) in
-      ap (λ (z : Room). less_by z m) q ∙ less_more r (2 + length x) m ∙ ap (less_by r) (sym l) ∙ e
+      ap (λ (z : Option ℕ). less_by z m) q ∙ less_more r (2 + length x) m ∙ ap (less_by r) (sym l) ∙ e
 
-  pub joined_room_none : (r : Room) → length items ≤ 0 → r ≡ less_by r (length (joined (item_texts bytes items)))
+  pub joined_room_none : (r : Option ℕ) → length items ≤ 0 → r ≡ less_by r (length (joined (item_texts bytes items)))
   joined_room_none r h = sym (less_none r) ∙ ap (λ (xs : List ℕ). less_by r (length xs)) (sym (joined-none h))
 
-  pub joined_room_more : (r a b : Room) (x : List ℕ) → 0 < length items → x ≡ text_of 0 → a ≡ less_by r (length x) → b ≡ less_by a (length (rest 1)) → b ≡ less_by r (length (joined (item_texts bytes items)))
+  pub joined_room_more : (r a b : Option ℕ) (x : List ℕ) → 0 < length items → x ≡ text_of 0 → a ≡ less_by r (length x) → b ≡ less_by a (length (rest 1)) → b ≡ less_by r (length (joined (item_texts bytes items)))
   joined_room_more r a b x h k p q =
       q
-      ∙ ap (λ (y : Room). less_by y (length (rest 1))) p
+      ∙ ap (λ (y : Option ℕ). less_by y (length (rest 1))) p
       ∙ less_more r (length x) (length (rest 1))
       ∙ ap (λ (y : List ℕ). less_by r (length y + length (rest 1))) k
       ∙ ap (less_by r) (sym (length-append (text_of 0) (rest 1)))
@@ -118,16 +117,16 @@ module _ (bytes : List ℕ) (items : List (List ℕ)) where
 
 -- ---- the room that a list in brackets leaves, and one in braces
 
-module _ (room : ℕ) (a r : Room) (texts : List (List ℕ)) (q : r ≡ less_by a (length (joined texts))) where
-  pub bracketed-room : a ≡ less_by (Left room) 2 → r ≡ left room (length (bracketed texts))
+module _ (room : ℕ) (a r : Option ℕ) (texts : List (List ℕ)) (q : r ≡ less_by a (length (joined texts))) where
+  pub bracketed-room : a ≡ less_by (Some room) 2 → r ≡ left room (length (bracketed texts))
   unfolding less_by
   bracketed-room p =
-      q ∙ ap (λ (y : Room). less_by y (length (joined texts))) p ∙ less_more (Left room) 2 (length (joined texts)) ∙ ap (left room) (sym (bracketed-length texts))
+      q ∙ ap (λ (y : Option ℕ). less_by y (length (joined texts))) p ∙ less_more (Some room) 2 (length (joined texts)) ∙ ap (left room) (sym (bracketed-length texts))
 
-  pub braced-room : a ≡ less_by (Left room) 4 → r ≡ left room (length (braced texts))
+  pub braced-room : a ≡ less_by (Some room) 4 → r ≡ left room (length (braced texts))
   unfolding less_by
   braced-room p =
-      q ∙ ap (λ (y : Room). less_by y (length (joined texts))) p ∙ less_more (Left room) 4 (length (joined texts)) ∙ ap (left room) (sym (braced-length texts))
+      q ∙ ap (λ (y : Option ℕ). less_by y (length (joined texts))) p ∙ less_more (Some room) 4 (length (joined texts)) ∙ ap (left room) (sym (braced-length texts))
 
 -- ---- a list in brackets is written, and one in braces
 

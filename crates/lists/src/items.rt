@@ -7,15 +7,5 @@ use script::records::Items;
 pub fn items_at(lists: &[[usize; 2]], r: Items) -> &[[usize; 2]]
     ensures { result.now ≡ ranged lists.now r }
 {
-    let n = lists.len();
-    let first = r.first;
-    if n <= first {
-        return &lists[n..n];
-    }
-    let left = n - first;
-    if left <= r.count {
-        return &lists[first..n];
-    }
-    let end = first + r.count;
-    &lists[first..end]
+    texts::part_of(lists, r.first, r.count)
 }

@@ -5,10 +5,10 @@ ghost use Rattle.writing.specs.Room.{less_by};
 ghost use Rattle.lists.specs.Lists.{item_texts, behind};
 
 use texts::part_of;
-use writing::room::{Room, less};
+use writing::room::less;
 
 // The texts from the second on, `, ` in front of each.
-fn rest_room(bytes: &[u8], items: &[[usize; 2]], room: Room) -> Room
+fn rest_room(bytes: &[u8], items: &[[usize; 2]], room: Option<usize>) -> Option<usize>
     ensures { result ≡ less_by room (length (behind (item_texts bytes.now (drop 1 items.now)))) }
 {
     let mut left = room;
@@ -23,7 +23,7 @@ fn rest_room(bytes: &[u8], items: &[[usize; 2]], room: Room) -> Room
 }
 
 // The texts, `, ` between them.
-pub fn joined_room(bytes: &[u8], items: &[[usize; 2]], room: Room) -> Room
+pub fn joined_room(bytes: &[u8], items: &[[usize; 2]], room: Option<usize>) -> Option<usize>
     ensures { result ≡ less_by room (length (joined (item_texts bytes.now items.now))) }
 {
     if items.len() == 0 {

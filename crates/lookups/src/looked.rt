@@ -1,13 +1,12 @@
 // Which value an expectation looks up.
 ghost use Rattle.sought.specs.Values.{Means};
 ghost use Rattle.text.specs.Literal.{utf8};
-ghost use Rattle.verdicts.specs.Held.{expected_of, response_of, info_of, text_given, number_given};
+ghost use Rattle.verdicts.specs.Held.{expected_of, response_of, info_of, text_given};
 ghost use Rattle.verdicts.specs.Lookup.{looked_in, told_in, trust_of};
-ghost use Rattle.std.specs.Prelude.{ℕ, List};
-ghost use Rattle.std.proofs.Math.Option.{some, map, get_or};
+ghost use Rattle.std.specs.Prelude.{ℕ, List, option_map, unwrap_or};
 
-use script::records::{Expect, Maybe};
-use script::response::{DaemonResponse, HandshakeInfo, MaybeNumber};
+use script::records::{Expect, Place};
+use script::response::{DaemonResponse, HandshakeInfo};
 use sought::fields::field_value;
 use sought::value::{Value, text_value, whole_value};
 use texts::text_at;
@@ -37,29 +36,21 @@ pub fn looked_entry(e: Expect, text: &[u8], r: DaemonResponse) -> Value
     }
 }
 
-fn daemon_value(m: Maybe) -> Value
-    ensures { Means result (λ bytes lists. some (get_or (text_given bytes m) (utf8 "unknown"))) }
+#[tactic(auto, unfolding(sought::specs::Values::value_bytes, verdicts::specs::Held::text_given))]
+fn daemon_value(m: Option<Place>) -> Value
+    ensures { Means result (λ bytes lists. Some (unwrap_or (text_given bytes m) (utf8 "unknown"))) }
 {
-    match m {
-        Maybe::Absent => Value::Unknown,
-        Maybe::At(p) => Value::Text(p),
-    }
+    m.map_or(Value::Unknown, Value::Text)
 }
 
-fn trust_value(m: MaybeNumber) -> Value
-    ensures { Means result (λ bytes lists. some (get_or (map trust_of (number_given m)) (utf8 "unknown"))) }
+#[tactic(auto, unfolding(sought::specs::Values::value_bytes, verdicts::specs::Lookup::trust_of))]
+fn trust_value(m: Option<u64>) -> Value
+    ensures { Means result (λ bytes lists. Some (unwrap_or (option_map trust_of m) (utf8 "unknown"))) }
 {
     match m {
-        MaybeNumber::Absent => Value::Unknown,
-        MaybeNumber::Is(n) => {
-            if n == 1 {
-                return Value::Trusted;
-            }
-            if n == 2 {
-                return Value::NotTrusted;
-            }
-            Value::Unknown
-        }
+        Some(1) => Value::Trusted,
+        Some(2) => Value::NotTrusted,
+        _ => Value::Unknown,
     }
 }
 

@@ -4,10 +4,9 @@ use native.Mathlib.Omega.{arith}
 use mathlib.Core.Path.{◌≡◌, refl, sym, ap, ap₂, ◌∙◌}
 use mathlib.Core.Bool.{Bool, true, false, not}
 use mathlib.Core.List.{List, [], ◌∷◌, ◌++◌, map}
-use mathlib.Core.Option.{Option, none, some}
 use lib.ListN.{length, length-append, length-map}
 use lib.Dec.{ltb}
-use Rattle.std.specs.Prelude.{if◌then◌else◌}
+use Rattle.std.specs.Prelude.{if◌then◌else◌, Err, None, Ok, Option, Some}
 use Rattle.text.specs.Utf8.{well_formed}
 use Rattle.text.specs.Lines.{lines}
 use Rattle.text.specs.declared.parts.Span.{Span}
@@ -19,7 +18,8 @@ use Rattle.script.specs.Values.{plain_rules}
 use Rattle.script.specs.Roles.{Marked, marked, step_of, roles_from, roles}
 use Rattle.script.specs.Contents.{saying_of, sayings, expectation_of, expectations, value_or, last_of, value_of, pair_of, pairs, set_of, features_in, unquoted_of, hex_of, data_of, call_of, entry_of, is_opening, lead, or_none, entry_on, entries, preamble_of, contents, ScriptContents}
 use Rattle.script.specs.Layout.{stored_of, laid, Tables, Reading, tables_from, laid_script}
-use Rattle.script.specs.Reading.{Parsed, refused_at, read, refusal, refused_by, first_refused, read_marked, read_by, parsed_by, parsed, measured}
+use Rattle.script.specs.Reading.{refused_by, first_refused, read_marked, read_by, parsed_by, parsed, measured, Parsed}
+use Rattle.script.specs.Refusals.{refusal}
 use Rattle.script.specs.declared.records.Counts.{Counts}
 use Rattle.script.specs.declared.records.Refusal.{Refusal}
 use Rattle.script.specs.declared.roles.Key.{Key}
@@ -34,13 +34,14 @@ use Rattle.measuring.specs.declared.What.TheVariants.{ThePreamble, AnEntry}
 use Rattle.measuring.specs.declared.Open.{Open}
 use Rattle.counts.specs.Counts.{inline_items, set_count, quoted_count, data_count, raw_count, feature_count}
 use Rattle.measuring.specs.Measure.{begun, preamble_open, told, pairs_on, entry_items, entry_store, items_of, store_of, closed_items, closed_store, counts, zeros, close_on, entered, count_on, onward, opened, say_on, open_on, count_from, walk_from, measured_by}
+use Rattle.script.specs.declared.refusals.Reason.TheVariants.{NotUtf8, TextTooLong}
 
 -- a number of the value that is said last
-told_is : (k : Key) (f : Option Span → ℕ) (s : Saying) (so_far : Option Span) → told k (λ v. f (some v)) s (f so_far) ≡ f (value_or k s so_far)
+told_is : (k : Key) (f : Option Span → ℕ) (s : Saying) (so_far : Option Span) → told k (λ v. f (Some v)) s (f so_far) ≡ f (value_or k s so_far)
 unfolding told value_or
 told_is k f (Known k' v) so_far = go (same_key k k')
   where
-    go : (b : Bool) → (if b then f (some v) else f so_far) ≡ f (if b then some v else so_far)
+    go : (b : Bool) → (if b then f (Some v) else f so_far) ≡ f (if b then Some v else so_far)
     go true = refl
     go false = refl
 told_is k f (Pair a b) so_far = refl
@@ -82,11 +83,11 @@ module _ (text : List ℕ) where
   said-pairs o (s ∷ ss) = said-pairs (say_on text o s) ss ∙ simp length-append (omega (arith, pairs-on s o.pairs))
 
   -- a number g of what is open that is f of the last value of the key k
-  module _ (k : Key) (f : Option Span → ℕ) (g : Open → ℕ) (step : (o : Open) (s : Saying) → g (say_on text o s) ≡ told k (λ v. f (some v)) s (g o)) where
+  module _ (k : Key) (f : Option Span → ℕ) (g : Open → ℕ) (step : (o : Open) (s : Saying) → g (say_on text o s) ≡ told k (λ v. f (Some v)) s (g o)) where
     said_last : (o : Open) (so_far : Option Span) (ss : List Saying) → g o ≡ f so_far → g (said_on o ss) ≡ f (last_of k so_far ss)
     unfolding said_on last_of
     said_last o so_far [] e = e
-    said_last o so_far (s ∷ ss) e = said_last (say_on text o s) (value_or k s so_far) ss (step o s ∙ ap (told k (λ v. f (some v)) s) e ∙ told_is k f s so_far)
+    said_last o so_far (s ∷ ss) e = said_last (say_on text o s) (value_or k s so_far) ss (step o s ∙ ap (told k (λ v. f (Some v)) s) e ∙ told_is k f s so_far)
 
   module _ (what : What) (inline : ℕ) (ss : List Saying) where
     abbrev after : Open
@@ -94,44 +95,44 @@ module _ (text : List ℕ) where
 
     said-paths : after.paths ≡ length (set_of text (value_of Key.Paths ss))
     unfolding value_of begun say_on set_count set_of
-    said-paths = said_last Key.Paths (λ v. length (set_of text v)) (λ o. o.paths) (λ o s. refl) (begun what inline) none ss refl
+    said-paths = said_last Key.Paths (λ v. length (set_of text v)) (λ o. o.paths) (λ o s. refl) (begun what inline) None ss refl
 
     said-refs : after.refs ≡ length (set_of text (value_of Key.Refs ss))
     unfolding value_of begun say_on set_count set_of
-    said-refs = said_last Key.Refs (λ v. length (set_of text v)) (λ o. o.refs) (λ o s. refl) (begun what inline) none ss refl
+    said-refs = said_last Key.Refs (λ v. length (set_of text v)) (λ o. o.refs) (λ o s. refl) (begun what inline) None ss refl
 
     said-suffix : after.suffix ≡ length (unquoted_of plain_rules text (value_of Key.Suffix ss))
     unfolding value_of begun say_on quoted_count unquoted_of
-    said-suffix = said_last Key.Suffix (λ v. length (unquoted_of plain_rules text v)) (λ o. o.suffix) (λ o s. refl) (begun what inline) none ss refl
+    said-suffix = said_last Key.Suffix (λ v. length (unquoted_of plain_rules text v)) (λ o. o.suffix) (λ o s. refl) (begun what inline) None ss refl
 
     said-text : after.text ≡ length (unquoted_of plain_rules text (value_of Key.Text ss))
     unfolding value_of begun say_on quoted_count unquoted_of
-    said-text = said_last Key.Text (λ v. length (unquoted_of plain_rules text v)) (λ o. o.text) (λ o s. refl) (begun what inline) none ss refl
+    said-text = said_last Key.Text (λ v. length (unquoted_of plain_rules text v)) (λ o. o.text) (λ o s. refl) (begun what inline) None ss refl
 
     said-name : after.name ≡ length (unquoted_of plain_rules text (value_of Key.Name ss))
     unfolding value_of begun say_on quoted_count unquoted_of
-    said-name = said_last Key.Name (λ v. length (unquoted_of plain_rules text v)) (λ o. o.name) (λ o s. refl) (begun what inline) none ss refl
+    said-name = said_last Key.Name (λ v. length (unquoted_of plain_rules text v)) (λ o. o.name) (λ o s. refl) (begun what inline) None ss refl
 
     said-cam_str : after.cam_str ≡ length (unquoted_of plain_rules text (value_of Key.CamStr ss))
     unfolding value_of begun say_on quoted_count unquoted_of
-    said-cam_str = said_last Key.CamStr (λ v. length (unquoted_of plain_rules text v)) (λ o. o.cam_str) (λ o s. refl) (begun what inline) none ss refl
+    said-cam_str = said_last Key.CamStr (λ v. length (unquoted_of plain_rules text v)) (λ o. o.cam_str) (λ o s. refl) (begun what inline) None ss refl
 
     said_data : after.«data» ≡ length (stored_of (data_of plain_rules text (value_of Key.Data ss)))
     unfolding value_of begun say_on data_count data_of stored_of
-    said_data = said_last Key.Data (λ v. length (stored_of (data_of plain_rules text v))) (λ o. o.«data») (λ o s. refl) (begun what inline) none ss refl
+    said_data = said_last Key.Data (λ v. length (stored_of (data_of plain_rules text v))) (λ o. o.«data») (λ o s. refl) (begun what inline) None ss refl
 
     said-raw : after.raw ≡ length (hex_of plain_rules text (value_of Key.Raw ss))
     unfolding value_of begun say_on raw_count hex_of
-    said-raw = said_last Key.Raw (λ v. length (hex_of plain_rules text v)) (λ o. o.raw) (λ o s. refl) (begun what inline) none ss refl
+    said-raw = said_last Key.Raw (λ v. length (hex_of plain_rules text v)) (λ o. o.raw) (λ o s. refl) (begun what inline) None ss refl
 
     said-features : after.features ≡ length (or_none (features_in text (value_of Key.Features ss)))
     unfolding value_of begun say_on feature_count features_in or_none
-    said-features = said_last Key.Features (λ v. length (or_none (features_in text v))) (λ o. o.features) (λ o s. refl) (begun what inline) none ss refl
+    said-features = said_last Key.Features (λ v. length (or_none (features_in text v))) (λ o. o.features) (λ o s. refl) (begun what inline) None ss refl
 
     said-server_features : after.server_features ≡ length (or_none (features_in text (value_of Key.ServerFeatures ss)))
     unfolding value_of begun say_on feature_count features_in or_none
     said-server_features =
-        said_last Key.ServerFeatures (λ v. length (or_none (features_in text v))) (λ o. o.server_features) (λ o s. refl) (begun what inline) none ss refl
+        said_last Key.ServerFeatures (λ v. length (or_none (features_in text v))) (λ o. o.server_features) (λ o s. refl) (begun what inline) None ss refl
 
   -- ---- an entry, and the preamble
 
@@ -269,8 +270,8 @@ module _ (text : List ℕ) where
 
   -- the answer for marked lines: the first refused line, or the totals
   answered : Option Refusal → Counts → Parsed Counts
-  answered none t = read t
-  answered (some r) t = refused_at r
+  answered None t = Ok t
+  answered (Some r) t = Err r
 
   onward-is : (n : ℕ) (r : Role) (later : Option Refusal) (t : Counts) → onward n r (answered later t) ≡ answered (refused_by n r later) t
   unfolding onward refused_by answered
@@ -292,25 +293,25 @@ module _ (text : List ℕ) where
 
   -- what Measure gives for what a text holds
   counts_of : Parsed ScriptContents → Parsed Counts
-  counts_of (refused_at r) = refused_at r
-  counts_of (read s) = read (laid_script s).script.counts
+  counts_of (Err r) = Err r
+  counts_of (Ok s) = Ok (laid_script s).script.counts
 
   measured_of : measured text ≡ counts_of (read_by plain_rules text)
   unfolding measured parsed parsed_by counts_of
   measured_of = go (read_by plain_rules text)
     where
       go : (p : Parsed ScriptContents)
-          → elim (elim p as (λ _. Parsed Reading) [ refused_at r ↦ refused_at r | read s ↦ read (laid_script s) ]) [ refused_at r ↦ refused_at r | read r ↦ read r.script.counts ] ≡ counts_of p
-      go (refused_at r) = refl
-      go (read s) = refl
+          → elim (elim p as (λ _. Parsed Reading) [ Err r ↦ Err r | Ok s ↦ Ok (laid_script s) ]) [ Err r ↦ Err r | Ok r ↦ Ok r.script.counts ] ≡ counts_of p
+      go (Err r) = refl
+      go (Ok s) = refl
 
   marked-is : (ms : List Marked) → answered (first_refused ms) (count_from text zeros preamble_open ms) ≡ counts_of (read_marked plain_rules text ms)
   unfolding answered read_marked counts_of
   marked-is ms = go (first_refused ms)
     where
-      go : (q : Option Refusal) → answered q (count_from text zeros preamble_open ms) ≡ counts_of (elim q [ none ↦ read (contents plain_rules text ms) | some r ↦ refused_at r ])
-      go none = ap (λ (t : Counts). read t) (counts_are ms)
-      go (some r) = refl
+      go : (q : Option Refusal) → answered q (count_from text zeros preamble_open ms) ≡ counts_of (elim q [ None ↦ Ok (contents plain_rules text ms) | Some r ↦ Err r ])
+      go None = ap (λ (t : Counts). Ok t) (counts_are ms)
+      go (Some r) = refl
 
   -- The walk over a text gives what Measure gives.
   pub measured-is : measured_by text ≡ measured text
@@ -321,8 +322,8 @@ module _ (text : List ℕ) where
       walked = walk_is zeros preamble_open InPreamble (lines text) ∙ marked-is (roles_from plain_rules text InPreamble (lines text))
 
       go : (long ill : Bool)
-          → (if long then refused_at (refusal 1 0) else if ill then refused_at (refusal 2 0) else walk_from text zeros preamble_open InPreamble (lines text))
-          ≡ counts_of (if long then refused_at (refusal 1 0) else if ill then refused_at (refusal 2 0) else read_marked plain_rules text (roles plain_rules text (lines text)))
+          → (if long then Err (refusal TextTooLong 0) else if ill then Err (refusal NotUtf8 0) else walk_from text zeros preamble_open InPreamble (lines text))
+          ≡ counts_of (if long then Err (refusal TextTooLong 0) else if ill then Err (refusal NotUtf8 0) else read_marked plain_rules text (roles plain_rules text (lines text)))
       go true ill = refl
       go false true = refl
       go false false = walked

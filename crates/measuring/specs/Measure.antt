@@ -1,5 +1,5 @@
 -- Measure as a walk: one line after another, and all that is carried are numbers. `MeasureLaws` shows that it gives the counts of the reading. Assumes nothing.
-use Rattle.std.specs.Prelude.{ℕ, ◌+◌, not, List, [], ◌∷◌, length, ltb, if◌then◌else◌}
+use Rattle.std.specs.Prelude.{ℕ, ◌+◌, not, List, [], ◌∷◌, length, ltb, if◌then◌else◌, Err, Ok}
 use Rattle.text.specs.Utf8.{well_formed}
 use Rattle.text.specs.Lines.{lines}
 use Rattle.text.specs.declared.parts.Span.{Span}
@@ -8,7 +8,7 @@ use Rattle.wire.specs.declared.ops.Op.{Op}
 use Rattle.script.specs.Operations.{same_key, Shape, single_path, single_string, path_set, path_set_flag, path_set_mode, no_args, set_options, collect_garbage, verify_store, add_perm_root, add_signatures, add_text_to_store, add_to_store, add_multiple_to_store, add_build_log, register_drv_output, query_realisation, query_substitutable_path_info, query_substitutable_path_infos, raw_bytes, form_of}
 use Rattle.script.specs.Values.{plain_rules}
 use Rattle.script.specs.Roles.{Marked, step_of}
-use Rattle.script.specs.Reading.{Parsed, refused_at, read, refusal}
+use Rattle.script.specs.Refusals.{refusal}
 use Rattle.script.specs.declared.records.Counts.{Counts}
 use Rattle.counts.specs.Counts.{inline_items, set_count, quoted_count, data_count, raw_count, feature_count}
 use Rattle.measuring.specs.declared.What.{What}
@@ -21,6 +21,8 @@ use Rattle.script.specs.declared.roles.Saying.{Saying}
 use Rattle.script.specs.declared.roles.Saying.TheVariants.{Known, Pair, NoColon, Unknown, NoPair, NoRaw}
 use Rattle.script.specs.declared.roles.Role.{Role}
 use Rattle.script.specs.declared.roles.Role.TheVariants.{Nothing, Says, Expects, Opens, Bad}
+use Rattle.script.specs.declared.refusals.Reason.TheVariants.{NotUtf8, TextTooLong}
+use Rattle.script.specs.Reading.{Parsed}
 
 -- ---- what is open
 
@@ -156,7 +158,7 @@ onward line Nothing later = later
 onward line (Says s) later = later
 onward line (Expects e) later = later
 onward line (Opens p) later = later
-onward line (Bad n) later = refused_at (refusal n line)
+onward line (Bad n) later = Err (refusal n line)
 
 module _ (text : List ℕ) where
   -- an entry at its opening line
@@ -198,7 +200,7 @@ module _ (text : List ℕ) where
 
   -- over the lines of the text; the first refused line is the answer
   unfoldable pub walk_from : (totals : Counts) → Open → Where → List Line → Parsed Counts
-  walk_from t o w [] = read (close_on t o)
+  walk_from t o w [] = Ok (close_on t o)
   walk_from t o w (l ∷ ls) =
       let s = step_of plain_rules text w l in
       let later = walk_from (count_on t o s.role) (open_on o s.role) s.next ls in
@@ -208,6 +210,6 @@ module _ (text : List ℕ) where
   unfoldable pub measured_by : Parsed Counts
   measured_by =
       let walked = walk_from zeros preamble_open InPreamble (lines text) in
-      if ltb 0x8000 (length text) then refused_at (refusal 1 0)
-      else if not (well_formed text) then refused_at (refusal 2 0)
+      if ltb 0x8000 (length text) then Err (refusal TextTooLong 0)
+      else if not (well_formed text) then Err (refusal NotUtf8 0)
       else walked

@@ -1,4 +1,5 @@
 -- Rooms and bytes of words and pieces, one behind the other. Assumes nothing.
+use Rattle.std.specs.Prelude.{Option, Some}
 use Prim.Native.Nat.{ℕ, ◌+◌, ◌≤◌}
 use mathlib.Core.Path.{◌≡◌, refl, sym, ap, ◌∙◌}
 use mathlib.Core.List.{List, ◌++◌}
@@ -9,8 +10,6 @@ use Rattle.verdicts.specs.Held.{text_at}
 use Rattle.text.specs.Unicode.{encoded}
 use Rattle.text.specs.Literal.{utf8}
 use Rattle.writing.specs.Room.{left, less_by}
-use Rattle.writing.specs.declared.room.Room.{Room}
-use Rattle.writing.specs.declared.room.Room.TheVariants.{Left}
 use Rattle.writing.proofs.RoomLaws.{left_more}
 use Rattle.writing.proofs.PutLaws.{Wrote, wrote_then, wrote_front}
 use Rattle.frames.specs.Words.{head_bytes, middle_bytes}
@@ -24,21 +23,21 @@ use Rattle.messages.specs.Lengths.{piece_length, ending_word, ending_value, fram
 
 -- ---- rooms
 
-pub less_same : (r room : Room) (n m : ℕ) → r ≡ less_by room n → n ≡ m → r ≡ less_by room m
+pub less_same : (r room : Option ℕ) (n m : ℕ) → r ≡ less_by room n → n ≡ m → r ≡ less_by room m
 less_same r room n m e h = e ∙ ap (less_by room) h
 
 -- six lengths taken off
-pub six_off : (room a b c d e f : ℕ) (r₁ r₂ r₃ r₄ r₅ r₆ : Room) → r₁ ≡ less_by (Left room) a → r₂ ≡ less_by r₁ b → r₃ ≡ less_by r₂ c → r₄ ≡ less_by r₃ d → r₅ ≡ less_by r₄ e → r₆ ≡ less_by r₅ f → r₆ ≡ left room (a + b + c + d + e + f)
+pub six_off : (room a b c d e f : ℕ) (r₁ r₂ r₃ r₄ r₅ r₆ : Option ℕ) → r₁ ≡ less_by (Some room) a → r₂ ≡ less_by r₁ b → r₃ ≡ less_by r₂ c → r₄ ≡ less_by r₃ d → r₅ ≡ less_by r₄ e → r₆ ≡ less_by r₅ f → r₆ ≡ left room (a + b + c + d + e + f)
 unfolding less_by
 six_off room a b c d e f r₁ r₂ r₃ r₄ r₅ r₆ p₁ p₂ p₃ p₄ p₅ p₆ =
     let q₁ : r₁ ≡ left room a = p₁ ∙ first in
-    let q₂ : r₂ ≡ left room (a + b) = p₂ ∙ ap (λ (r : Room). less_by r b) q₁ ∙ left_more room a b in
-    let q₃ : r₃ ≡ left room (a + b + c) = p₃ ∙ ap (λ (r : Room). less_by r c) q₂ ∙ left_more room (a + b) c in
-    let q₄ : r₄ ≡ left room (a + b + c + d) = p₄ ∙ ap (λ (r : Room). less_by r d) q₃ ∙ left_more room (a + b + c) d in
-    let q₅ : r₅ ≡ left room (a + b + c + d + e) = p₅ ∙ ap (λ (r : Room). less_by r e) q₄ ∙ left_more room (a + b + c + d) e in
-    p₆ ∙ ap (λ (r : Room). less_by r f) q₅ ∙ left_more room (a + b + c + d + e) f
+    let q₂ : r₂ ≡ left room (a + b) = p₂ ∙ ap (λ (r : Option ℕ). less_by r b) q₁ ∙ left_more room a b in
+    let q₃ : r₃ ≡ left room (a + b + c) = p₃ ∙ ap (λ (r : Option ℕ). less_by r c) q₂ ∙ left_more room (a + b) c in
+    let q₄ : r₄ ≡ left room (a + b + c + d) = p₄ ∙ ap (λ (r : Option ℕ). less_by r d) q₃ ∙ left_more room (a + b + c) d in
+    let q₅ : r₅ ≡ left room (a + b + c + d + e) = p₅ ∙ ap (λ (r : Option ℕ). less_by r e) q₄ ∙ left_more room (a + b + c + d) e in
+    p₆ ∙ ap (λ (r : Option ℕ). less_by r f) q₅ ∙ left_more room (a + b + c + d + e) f
   where
-    first : less_by (Left room) a ≡ left room a
+    first : less_by (Some room) a ≡ left room a
     first = refl
 
 -- what is added up is the message's length
@@ -51,8 +50,8 @@ piece_length_lem text bytes value pieces.Value = refl
 piece_length_lem text bytes value (pieces.Number n) = refl
 
 -- an ending's two lengths taken off
-pub ending_off : (r s room : Room) (len : ℕ) (e f : Ending) → e ≡ f → s ≡ less_by room (ending_word f) → r ≡ less_by s (ending_value len f) → r ≡ less_by (less_by room (ending_word e)) (ending_value len e)
-ending_off r s room len e f h p q = rw h (q ∙ ap (λ (l : Room). less_by l (ending_value len f)) p)
+pub ending_off : (r s room : Option ℕ) (len : ℕ) (e f : Ending) → e ≡ f → s ≡ less_by room (ending_word f) → r ≡ less_by s (ending_value len f) → r ≡ less_by (less_by room (ending_word e)) (ending_value len e)
+ending_off r s room len e f h p q = rw h (q ∙ ap (λ (l : Option ℕ). less_by l (ending_value len f)) p)
 
 module _ (value : List ℕ) (e : Ending) where
   pub got_length : e ≡ endings.Got → length (ending_bytes value e) ≡ 6 + length value

@@ -7,10 +7,16 @@ use decimals::integer::integer_len;
 use frames::frames::{Ending, Frame, Piece};
 use frames::words::{head_len, middle_len};
 use texts::text_at;
-use writing::room::{Room, less};
+use writing::room::less;
 
 // The value has len bytes.
-pub fn less_piece(room: Room, p: Piece, text: &[u8], bytes: &[u8], len: usize) -> Room
+pub fn less_piece(
+    room: Option<usize>,
+    p: Piece,
+    text: &[u8],
+    bytes: &[u8],
+    len: usize,
+) -> Option<usize>
     ensures { result ≡ less_by room (piece_length text.now bytes.now len p) }
 {
     match p {
@@ -23,7 +29,7 @@ pub fn less_piece(room: Room, p: Piece, text: &[u8], bytes: &[u8], len: usize) -
 }
 
 // The word of an ending, then the value.
-pub fn less_ending(room: Room, e: Ending, len: usize) -> Room
+pub fn less_ending(room: Option<usize>, e: Ending, len: usize) -> Option<usize>
     ensures { result ≡ less_by (less_by room (ending_word e)) (ending_value len e) }
 {
     match e {
@@ -33,7 +39,7 @@ pub fn less_ending(room: Room, e: Ending, len: usize) -> Room
     }
 }
 
-pub fn frame_room(f: Frame, text: &[u8], bytes: &[u8], len: usize, room: usize) -> Room
+pub fn frame_room(f: Frame, text: &[u8], bytes: &[u8], len: usize, room: usize) -> Option<usize>
     ensures { result ≡ left room (frame_length text.now bytes.now len f) }
 {
     let first = f.first;
@@ -41,10 +47,7 @@ pub fn frame_room(f: Frame, text: &[u8], bytes: &[u8], len: usize, room: usize) 
     let second = f.second;
     let b = f.b;
     let ending = f.ending;
-    let one = less(
-        less(Room::Left(room), head_len(first)),
-        text_at(text, a).len(),
-    );
+    let one = less(less(Some(room), head_len(first)), text_at(text, a).len());
     let two = less_piece(less(one, middle_len(second)), b, text, bytes, len);
     less_ending(two, ending, len)
 }

@@ -1,4 +1,5 @@
 -- Laws of the numbers of an operation, of an entry, of an expectation and of an answer. Assumes nothing.
+use Rattle.std.specs.Prelude.{Err, None, Ok, Option, Some}
 use Prim.Native.Nat.{ℕ, zero, suc, ◌+◌, ◌≤◌, ◌<◌}
 use mathlib.Core.Path.{◌≡◌, refl, sym, ap, ◌∙◌}
 use mathlib.Core.List.{List, [], ◌∷◌, ◌++◌}
@@ -20,18 +21,16 @@ use Rattle.script.specs.declared.records.FramedData.{FramedData}
 use Rattle.script.specs.declared.records.Items.{Items}
 use Rattle.script.specs.declared.records.Matcher.{Matcher}
 use Rattle.script.specs.declared.records.Matcher.TheVariants.{Exact, Regex, GreaterThan, LessThan, GreaterOrEqual, LessOrEqual}
-use Rattle.script.specs.declared.records.Maybe.{Maybe}
-use Rattle.script.specs.declared.records.MaybeItems.{MaybeItems}
 use Rattle.script.specs.declared.records.Place.{Place}
 use Rattle.script.specs.declared.records.Script.{Script}
-use Rattle.script.specs.declared.records.Stamp.{Stamp}
 use Rattle.script.specs.declared.records.Time.{Time}
-use Rattle.script.specs.Reading.{Parsed, refused_at, read}
 use Rattle.wire.specs.declared.ops.Op.{Op}
 use Rattle.wire.specs.Operations.{operation}
 use Rattle.call_fields.specs.CallFields.{padded, flag, place_numbers, items_numbers, data_numbers}
 use Rattle.call_fields.proofs.FieldLaws.{spread, spread-is, padded-length}
 use Rattle.numbers.specs.Numbers.{unsigned, stamp_numbers, call_row, call_numbers, entry_head, entry_numbers, matcher_numbers, expect_numbers, expectation_numbers, maybe_numbers, maybe_items_numbers, counts_numbers, script_numbers, head_numbers}
+use Rattle.script.specs.Reading.{Parsed}
+use Rattle.script.specs.Refusals.{reason_number}
 
 -- ---- the kinds of an operation
 
@@ -122,15 +121,15 @@ module _ (c : OpCall) (r : List ℕ) (op : Op) (k : ℕ) (q : k ≡ (operation o
 
 -- ---- a timestamp, an entry
 
-stamp_four : (s : Stamp) → length (stamp_numbers s) ≡ 4
+stamp_four : (s : Option Time) → length (stamp_numbers s) ≡ 4
 unfolding stamp_numbers
-stamp_four Stamp.Absent = refl
-stamp_four (Stamp.At t) = refl
+stamp_four None = refl
+stamp_four (Some t) = refl
 
-pub stamp_by : (s x : Stamp) → s ≡ x → (r : List ℕ) → r ≡ stamp_numbers x → r ≡ stamp_numbers s
+pub stamp_by : (s x : Option Time) → s ≡ x → (r : List ℕ) → r ≡ stamp_numbers x → r ≡ stamp_numbers s
 stamp_by s x e r h = h ∙ ap stamp_numbers (sym e)
 
-pub stamp-at : (s : Stamp) (t : Time) (k l : ℕ) → s ≡ Stamp.At t → k ≡ flag t.negative → l ≡ unsigned t.decimals → 1 ∷ k ∷ t.digits ∷ l ∷ [] ≡ stamp_numbers s
+pub stamp-at : (s : Option Time) (t : Time) (k l : ℕ) → s ≡ Some t → k ≡ flag t.negative → l ≡ unsigned t.decimals → 1 ∷ k ∷ t.digits ∷ l ∷ [] ≡ stamp_numbers s
 unfolding stamp_numbers
 stamp-at s t k l e p q = rw (e, p, q)
 
@@ -207,21 +206,15 @@ expectation_count x = ap suc (expect_six x.expect)
 
 -- ---- an answer
 
-maybe_three : (m : Maybe) → length (maybe_numbers m) ≡ 3
+maybe_three : (m : Option Place) → length (maybe_numbers m) ≡ 3
 unfolding maybe_numbers place_numbers
-maybe_three Maybe.Absent = refl
-maybe_three (Maybe.At p) = refl
+maybe_three None = refl
+maybe_three (Some p) = refl
 
-pub maybe_by : (m x : Maybe) → m ≡ x → (r : List ℕ) → r ≡ maybe_numbers x → r ≡ maybe_numbers m
-maybe_by m x e r h = h ∙ ap maybe_numbers (sym e)
-
-maybe_items_three : (m : MaybeItems) → length (maybe_items_numbers m) ≡ 3
+maybe_items_three : (m : Option Items) → length (maybe_items_numbers m) ≡ 3
 unfolding maybe_items_numbers items_numbers
-maybe_items_three MaybeItems.Absent = refl
-maybe_items_three (MaybeItems.Are i) = refl
-
-pub maybe-items_by : (m x : MaybeItems) → m ≡ x → (r : List ℕ) → r ≡ maybe_items_numbers x → r ≡ maybe_items_numbers m
-maybe-items_by m x e r h = h ∙ ap maybe_items_numbers (sym e)
+maybe_items_three None = refl
+maybe_items_three (Some i) = refl
 
 abbrev script_from : Script → (daemon trust server : List ℕ) → List ℕ
 script_from s d t f =
@@ -250,5 +243,5 @@ script_twenty s =
 
 pub head_count : (p : Parsed Script) → length (head_numbers p) ≡ 20
 unfolding head_numbers
-head_count (refused_at r) = padded-length 20 (1 ∷ r.number ∷ r.line ∷ [])
-head_count (read s) = script_twenty s
+head_count (Err r) = padded-length 20 (1 ∷ reason_number r.reason ∷ r.line ∷ [])
+head_count (Ok s) = script_twenty s

@@ -1,22 +1,23 @@
 -- The records of a script as numbers, and a number as 8 bytes, by which a host sees them. Assumes nothing.
-use Rattle.std.specs.Prelude.{ℕ, zero, suc, ◌-◌, ◌/◌, ◌%◌, ℤ, pos, negsuc, get_or}
+use Rattle.std.specs.Prelude.{ℕ, zero, suc, ◌-◌, ◌/◌, ◌%◌, ℤ, pos, negsuc, get_or, Err, None, Ok, Option, Some}
 use mathlib.Core.List.{List, [], ◌∷◌, ◌++◌, flat_map}
 use Rattle.wire.specs.Operations.{operation}
-use Rattle.script.specs.Reading.{Parsed, refused_at, read}
-use Rattle.script.specs.declared.records.Maybe.{Maybe}
-use Rattle.script.specs.declared.records.MaybeItems.{MaybeItems}
 use Rattle.script.specs.declared.records.Matcher.{Matcher}
 use Rattle.script.specs.declared.records.Matcher.TheVariants.{Exact, Regex, GreaterThan, LessThan, GreaterOrEqual, LessOrEqual}
 use Rattle.script.specs.declared.records.Expect.{Expect}
 use Rattle.script.specs.declared.records.Expect.TheVariants.{Terminal, Result, ResultField, Error, StderrCount, Daemon, Trust, ServerFeatures}
 use Rattle.script.specs.declared.records.Expectation.{Expectation}
-use Rattle.script.specs.declared.records.Stamp.{Stamp}
 use Rattle.script.specs.declared.records.OpCall.{OpCall}
 use Rattle.script.specs.declared.records.OpCall.TheVariants.{SinglePath, SingleString, PathSet, PathSetFlag, PathSetMode, NoArgs, SetOptions, CollectGarbage, VerifyStore, AddPermRoot, AddSignatures, AddTextToStore, AddToStore, AddMultipleToStore, AddBuildLog, RegisterDrvOutput, QueryRealisation, QuerySubstitutablePathInfo, QuerySubstitutablePathInfos, RawBytes}
 use Rattle.script.specs.declared.records.Entry.{Entry}
 use Rattle.script.specs.declared.records.Counts.{Counts}
 use Rattle.script.specs.declared.records.Script.{Script}
 use Rattle.call_fields.specs.CallFields.{flag, place_numbers, items_numbers, padded, data_numbers, options_numbers}
+use Rattle.script.specs.declared.records.Items.{Items}
+use Rattle.script.specs.declared.records.Place.{Place}
+use Rattle.script.specs.declared.records.Time.{Time}
+use Rattle.script.specs.Reading.{Parsed}
+use Rattle.script.specs.Refusals.{reason_number}
 
 -- ---- bytes and integers
 
@@ -38,9 +39,9 @@ unsigned (negsuc n) = 0xFFFF_FFFF_FFFF_FFFF - n
 
 -- ---- an entry, 23 numbers
 
-unfoldable pub stamp_numbers : Stamp → List ℕ
-stamp_numbers Stamp.Absent = 0 ∷ 0 ∷ 0 ∷ 0 ∷ []
-stamp_numbers (Stamp.At t) = 1 ∷ flag t.negative ∷ t.digits ∷ unsigned t.decimals ∷ []
+unfoldable pub stamp_numbers : Option Time → List ℕ
+stamp_numbers None = 0 ∷ 0 ∷ 0 ∷ 0 ∷ []
+stamp_numbers (Some t) = 1 ∷ flag t.negative ∷ t.digits ∷ unsigned t.decimals ∷ []
 
 -- the kind of the operation in the order of the declaration, its code where the record has one, else 0, and the other fields
 unfoldable pub call_row : OpCall → List ℕ
@@ -107,13 +108,13 @@ expectation_numbers x = x.line ∷ expect_numbers x.expect
 
 -- ---- the answer, 20 numbers
 
-unfoldable pub maybe_numbers : Maybe → List ℕ
-maybe_numbers Maybe.Absent = 0 ∷ 0 ∷ 0 ∷ []
-maybe_numbers (Maybe.At p) = 1 ∷ place_numbers p
+unfoldable pub maybe_numbers : Option Place → List ℕ
+maybe_numbers None = 0 ∷ 0 ∷ 0 ∷ []
+maybe_numbers (Some p) = 1 ∷ place_numbers p
 
-unfoldable pub maybe_items_numbers : MaybeItems → List ℕ
-maybe_items_numbers MaybeItems.Absent = 0 ∷ 0 ∷ 0 ∷ []
-maybe_items_numbers (MaybeItems.Are i) = 1 ∷ items_numbers i
+unfoldable pub maybe_items_numbers : Option Items → List ℕ
+maybe_items_numbers None = 0 ∷ 0 ∷ 0 ∷ []
+maybe_items_numbers (Some i) = 1 ∷ items_numbers i
 
 unfoldable pub counts_numbers : Counts → List ℕ
 counts_numbers c = c.entries ∷ c.items ∷ c.expectations ∷ c.store ∷ []
@@ -130,5 +131,5 @@ script_numbers s =
     ++ counts_numbers s.counts
 
 unfoldable pub head_numbers : Parsed Script → List ℕ
-head_numbers (refused_at r) = padded 20 (1 ∷ r.number ∷ r.line ∷ [])
-head_numbers (read s) = script_numbers s
+head_numbers (Err r) = padded 20 (1 ∷ reason_number r.reason ∷ r.line ∷ [])
+head_numbers (Ok s) = script_numbers s

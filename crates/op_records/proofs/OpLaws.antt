@@ -1,15 +1,13 @@
 -- Laws of the record of an entry's operation: what the code's answers come to. For `search` to use. Assumes nothing.
+use Rattle.std.specs.Prelude.{None, Option, Some}
 use Prim.Native.Nat.{ℕ, ◌+◌, ◌<◌}
 use mathlib.Core.Path.{◌≡◌, refl, sym, ap, ◌∙◌}
 use mathlib.Core.Bool.{Bool, true, false, not}
 use mathlib.Core.List.{List}
-use mathlib.Core.Option.{Option}
 use native.Mathlib.Omega.{arith}
 use borrow.Author.Tests.{not-true, not-false}
 use Rattle.text.specs.Base.{BLANK}
-use Rattle.text.specs.Parts.{span, starts_with, position, found_of, same_bytes}
-use Rattle.text.specs.declared.parts.Found.{Found}
-use Rattle.text.specs.declared.parts.Found.TheVariants.{At, Nothing}
+use Rattle.text.specs.Parts.{span, starts_with, position, same_bytes}
 use Rattle.text.specs.declared.parts.Span.{Span}
 use Rattle.text.proofs.LiteralLaws.{codes, spells_as}
 use Rattle.wire.specs.declared.ops.Op.{Op}
@@ -45,12 +43,12 @@ module _ (text : List ℕ) (p q : Span) (z : q ≡ trim text p) (b : Bool) (e : 
   unfolding rest_of path_set plain_set
   rest_plain r f h = rw (← z, behind-none text q "{" b e f, path_set, rest_of) (rw z at h)
 
-  module _ (t : b ≡ true) (f : Found) (g : found_of f ≡ position CLOSING-BRACE (bytes text (span (q.start + 1) q.end))) where
-    pub rest_open : f ≡ Nothing → p ≡ rest_of text p
+  module _ (t : b ≡ true) (f : Option ℕ) (g : f ≡ position CLOSING-BRACE (bytes text (span (q.start + 1) q.end))) where
+    pub rest_open : f ≡ None → p ≡ rest_of text p
     unfolding rest_of path_set braced_set
     rest_open n = rw (← z, behind-some text q "{" b e t, cut-none text (q.start + 1) q.end CLOSING-BRACE f g n, path_set, rest_of)
 
-    pub rest-braced : (n : ℕ) (r : Span) → f ≡ At n → r ≡ trim text (span (q.start + 1 + n + 1) q.end) → r ≡ rest_of text p
+    pub rest-braced : (n : ℕ) (r : Span) → f ≡ Some n → r ≡ trim text (span (q.start + 1 + n + 1) q.end) → r ≡ rest_of text p
     unfolding rest_of path_set braced_set cut_at
     rest-braced n r h k = rw (← z, behind-some text q "{" b e t, cut-some text (q.start + 1) q.end CLOSING-BRACE f g n h, path_set, rest_of) k
 
@@ -58,7 +56,7 @@ module _ (text : List ℕ) (p q : Span) (z : q ≡ trim text p) (b : Bool) (e : 
   braces_in i t = behind_in text q.start q.end 1 b (codes "{") e t i refl
 
 -- where the rest starts: `not b` is the test of the code
-module _ (text : List ℕ) (q : Span) (b : Bool) (e : b ≡ starts_with (codes "{") (bytes text q)) (t : not b ≡ false) (f : Found) (g : found_of f ≡ position CLOSING-BRACE (bytes text (span (q.start + 1) q.end))) (n : ℕ) (h : f ≡ At n) (i : In text q) where
+module _ (text : List ℕ) (q : Span) (b : Bool) (e : b ≡ starts_with (codes "{") (bytes text q)) (t : not b ≡ false) (f : Option ℕ) (g : f ≡ position CLOSING-BRACE (bytes text (span (q.start + 1) q.end))) (n : ℕ) (h : f ≡ Some n) (i : In text q) where
   pub rest_in : In text (span (q.start + 1 + n + 1) q.end)
   rest_in = cut-after text (q.start + 1) q.end CLOSING-BRACE f g n h (behind_in text q.start q.end 1 b (codes "{") e (not-false b t) i refl)
 

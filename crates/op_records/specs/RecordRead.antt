@@ -1,6 +1,5 @@
 -- The record of an operation, told apart as the code does it: by the lines that it takes, then by the path set on its line. Assumes nothing.
-use Rattle.std.specs.Prelude.{ℕ, List}
-use Rattle.std.proofs.Math.Option.{Option}
+use Rattle.std.specs.Prelude.{ℕ, List, Option}
 use Rattle.text.specs.Base.{BLANK}
 use Rattle.text.specs.declared.parts.Span.{Span}
 use Rattle.wire.specs.declared.ops.Op.{Op}

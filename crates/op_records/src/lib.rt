@@ -15,7 +15,7 @@ use openings::SetPlace;
 use records::calls::Sizes;
 use script::records::{Items, OpCall};
 use script::roles::Takes;
-use text::parts::{Found, Span};
+use text::parts::Span;
 use wire::ops::Op;
 
 // What stands behind a path set, trimmed; the piece itself where its brace is not closed.
@@ -30,7 +30,7 @@ fn rest_of(text: &[u8], p: Span) -> Span
         return pieces::pieces::trimmed(text, Span { start: end, end });
     }
     let start = q.start + 1;
-    let Found::At(n) = pieces::pieces::find_in(text, Span { start, end }, 0x7D) else {
+    let Some(n) = pieces::pieces::find_in(text, Span { start, end }, 0x7D) else {
         return p;
     };
     pieces::pieces::trimmed(

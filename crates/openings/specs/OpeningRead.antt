@@ -1,27 +1,21 @@
 -- What the code's answers about opening lines say. Assumes nothing.
-use Rattle.std.specs.Prelude.{ℕ, List}
+use Rattle.std.specs.Prelude.{ℕ, List, Err, Ok}
 use Rattle.text.specs.declared.parts.Span.{Span}
-use Rattle.script.specs.Answers.{Answer, given, refused}
 use Rattle.script.specs.Operations.{Syntax, ignored, one_text, one_set, path_then_set, path_then_text}
 use Rattle.script.specs.Pieces.{Cut, cut_into}
-use Rattle.script.specs.Timestamps.{Stamped, stamped_as}
 use Rattle.script.specs.Roles.{step, opening_role, after_opening}
 use Rattle.script.specs.Inside.{In}
 use Rattle.script.specs.declared.roles.Step.{Step}
 use Rattle.openings.specs.declared.Halves.{Halves}
 use Rattle.openings.specs.declared.SetPlace.{SetPlace}
 use Rattle.openings.specs.declared.SetPlace.TheVariants.{NoSet, AllOf, BehindBlank}
-use Rattle.openings.specs.declared.StampedAnswer.{StampedAnswer}
-use Rattle.openings.specs.declared.StampedAnswer.TheVariants.{Read, Bad}
-
-unfoldable pub stamped_read : StampedAnswer → Answer Stamped
-stamped_read (Read stamp rest) = given (stamped_as stamp rest)
-stamped_read (Bad n) = refused n
+use Rattle.script.specs.Answers.{Answer}
+use Rattle.script.specs.declared.roles.Stamped.{Stamped}
 
 -- what follows a timestamp that was read lies in the text
-abbrev pub RestIn : List ℕ → StampedAnswer → Type 0
-RestIn text (Read stamp rest) = In text rest
-RestIn text (Bad n) = Unit {0}
+abbrev pub RestIn : List ℕ → Answer Stamped → Type 0
+RestIn text (Ok s) = In text s.rest
+RestIn text (Err n) = Unit {0}
 
 abbrev pub halves : Halves → Cut
 halves h = cut_into h.before h.after

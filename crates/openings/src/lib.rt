@@ -1,29 +1,20 @@
 // Opening lines: a timestamp, an operation's name, and what stands behind it.
 #![tactic(auto)]
 
-ghost use Rattle.std.specs.Prelude.{◌≡◌, ◌+◌, ◌≤◌};
-ghost use Rattle.std.proofs.Math.Option.{some};
+ghost use Rattle.std.specs.Prelude.{◌≡◌, ◌+◌, ◌≤◌, Ok, Some};
 ghost use Rattle.script.specs.Operations.{form_of};
 ghost use Rattle.script.specs.Pieces.{cut_or};
 ghost use Rattle.script.specs.Roles.{set_on, not_closed, open_on, with_stamp, opening_role, below, skipped, after_opening};
-ghost use Rattle.script.specs.Answers.{given};
 ghost use Rattle.script.specs.Timestamps.{stamped_as, stamped_at};
 ghost use Rattle.script.specs.Timestamps as definition;
 ghost use Rattle.script.specs.Inside.{In};
-ghost use Rattle.openings.specs.OpeningRead.{stamped_read, RestIn, halves, set_place, opening_step};
+ghost use Rattle.openings.specs.OpeningRead.{RestIn, halves, set_place, opening_step};
 
-use script::records::Stamp;
-use script::roles::{Opening, Role, Step, Takes, Where};
-use stamps::timestamps::TimeAnswer;
-use text::parts::{Found, Span};
-use wire::ops::{Op, OpFound};
-
-// A line's timestamp, if it has one, and what follows it; or a refusal.
-#[derive(Clone, Copy)]
-pub enum StampedAnswer {
-    Read(Stamp, Span),
-    Bad(u64),
-}
+use script::records::Time;
+use script::refusals::Reason;
+use script::roles::{Opening, Role, Stamped, Step, Takes, Where};
+use text::parts::Span;
+use wire::ops::Op;
 
 // A piece cut in two.
 #[derive(Clone, Copy)]
@@ -49,7 +40,7 @@ pub fn cut_or(text: &[u8], p: Span, b: u8) -> Halves
 {
     let start = p.start;
     let end = p.end;
-    let Found::At(n) = pieces::pieces::find_in(text, p, b) else {
+    let Some(n) = pieces::pieces::find_in(text, p, b) else {
         return Halves {
             before: p,
             after: Span { start: end, end },
@@ -63,38 +54,40 @@ pub fn cut_or(text: &[u8], p: Span, b: u8) -> Halves
 }
 
 // The timestamp that stands in the piece before its n-th byte, where `ms` stands; what follows is trimmed.
-fn stamp_before(text: &[u8], p: Span, n: usize) -> StampedAnswer
+fn stamp_before(text: &[u8], p: Span, n: usize) -> Result<Stamped, Reason>
     requires fact { In text.now p }
     requires n_bound { p.start + n + 2 ≤ p.end }
-    ensures result_value { stamped_read result ≡ stamped_at text.now p (some n) }
+    ensures result_value { result ≡ stamped_at text.now p (Some n) }
     ensures rest_in { RestIn text.now result }
 {
     let start = p.start;
     let end = p.end;
     let ms = start + n;
-    match stamps::timestamps::time(&text[start..ms]) {
-        TimeAnswer::Read(t) => {
-            let rest = pieces::pieces::trimmed(text, Span { start: ms + 2, end });
-            StampedAnswer::Read(Stamp::At(t), rest)
-        }
-        TimeAnswer::Bad(k) => StampedAnswer::Bad(k),
-    }
+    let time = stamps::timestamps::time(&text[start..ms])?;
+    let rest = pieces::pieces::trimmed(text, Span { start: ms + 2, end });
+    Ok(Stamped {
+        stamp: Some(time),
+        rest,
+    })
 }
 
-// A timestamp stands between `@` and the first `ms`. 6: there is no `ms`.
-pub fn stamped(text: &[u8], p: Span) -> StampedAnswer
+// A timestamp stands between `@` and the first `ms`.
+pub fn stamped(text: &[u8], p: Span) -> Result<Stamped, Reason>
     requires { In text.now p }
-    ensures result_value { stamped_read result ≡ definition.stamped text.now p }
+    ensures result_value { result ≡ definition.stamped text.now p }
     ensures rest_in { RestIn text.now result }
 {
     if !pieces::pieces::begins(text, p, b"@") {
-        return StampedAnswer::Read(Stamp::Absent, p);
+        return Ok(Stamped {
+            stamp: None,
+            rest: p,
+        });
     }
     let start = p.start + 1;
     let end = p.end;
-    let Found::At(n) = text::parts::find_pair(&text[start..end], 0x6D, 0x73) else {
-        return StampedAnswer::Bad(6);
-    };
+    let n = text::parts::find_pair(&text[start..end], 0x6D, 0x73).ok_or(
+        Reason::TimestampWithoutMs,
+    )?;
     stamp_before(text, Span { start, end }, n)
 }
 
@@ -111,10 +104,7 @@ pub fn not_closed(text: &[u8], p: Span) -> bool
         start: q.start + 1,
         end: q.end,
     };
-    let Found::At(_) = pieces::pieces::find_in(text, behind, 0x7D) else {
-        return true;
-    };
-    false
+    pieces::pieces::find_in(text, behind, 0x7D).is_none()
 }
 
 // Where the operation has a path set on its line.
@@ -148,20 +138,20 @@ fn set_open(text: &[u8], op: Op, args: Span) -> bool
     }
 }
 
-// The operation's name ends at the first blank; what follows is trimmed. 9: unknown operation; 10: brace not closed.
-fn named_role(text: &[u8], stamp: Stamp, rest: Span) -> Role
+// The operation's name ends at the first blank; what follows is trimmed.
+fn named_role(text: &[u8], stamp: Option<Time>, rest: Span) -> Role
     requires { In text.now rest }
-    ensures { result ≡ with_stamp text.now (given (stamped_as stamp rest)) }
+    ensures { result ≡ with_stamp text.now (Ok (stamped_as stamp rest)) }
 {
     let c = cut_or(text, rest, 0x20);
     let start = c.before.start;
     let end = c.before.end;
-    let OpFound::Is(op) = Op::from_name(&text[start..end]) else {
-        return Role::Bad(9);
+    let Some(op) = Op::from_name(&text[start..end]) else {
+        return Role::Bad(Reason::UnknownOperation);
     };
     let args = pieces::pieces::trimmed(text, c.after);
     if set_open(text, op, args) {
-        return Role::Bad(10);
+        return Role::Bad(Reason::BraceNotClosed);
     }
     Role::Opens(Opening { stamp, op, args })
 }
@@ -172,8 +162,8 @@ pub fn opening_role(text: &[u8], t: Span) -> Role
     ensures { result ≡ opening_role text.now t }
 {
     match stamped(text, t) {
-        StampedAnswer::Read(stamp, rest) => named_role(text, stamp, rest),
-        StampedAnswer::Bad(n) => Role::Bad(n),
+        Ok(s) => named_role(text, s.stamp, s.rest),
+        Err(reason) => Role::Bad(reason),
     }
 }
 

@@ -5,7 +5,6 @@ ghost use Rattle.std.specs.Prelude.{◌≡◌};
 ghost use Rattle.verdicts.specs.Decisions.{decides, passed_if};
 ghost use Rattle.orders.specs.Orders.{holding, matching, order_of};
 
-use values::number::Integer;
 use verdicts::Verdict;
 
 // How a value is compared with a matcher's number.
@@ -52,7 +51,7 @@ pub fn compare(order: Order, n: i64, value: &[u8]) -> Verdict
     ensures { result ≡ decides (matching order n) value.now }
 {
     match values::number::parse_i64(value) {
-        Integer::Value(v) => passed_if(holds(order, n, v)),
-        Integer::Bad => Verdict::Failed,
+        Some(v) => passed_if(holds(order, n, v)),
+        None => Verdict::Failed,
     }
 }

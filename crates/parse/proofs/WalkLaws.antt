@@ -1,4 +1,5 @@
 -- Laws of the walk over lines: what the line at hand does to the totals, to what is open and to the answer. For `search` to use. Assumes nothing.
+use Rattle.std.specs.Prelude.{Err, Ok}
 use Prim.Native.Nat.{ℕ, ◌+◌, ◌*◌, ◌≤◌, ◌<◌}
 use native.Mathlib.Omega.{arith}
 use mathlib.Core.Path.{◌≡◌, sym, ap, ◌∙◌}
@@ -12,8 +13,9 @@ use Rattle.text.proofs.LineLaws.{lines_at, known, lines_none}
 use Rattle.script.specs.Inside.{In, SayingIn, RoleIn}
 use Rattle.script.specs.Values.{plain_rules}
 use Rattle.script.specs.Roles.{line_span, step_of}
-use Rattle.script.specs.Reading.{Parsed, read, refusal}
+use Rattle.script.specs.Refusals.{refusal}
 use Rattle.script.specs.declared.records.Counts.{Counts}
+use Rattle.script.specs.declared.refusals.Reason.{Reason}
 use Rattle.script.specs.declared.roles.Where.{Where}
 use Rattle.script.specs.declared.roles.Where.TheVariants.{InPreamble}
 use Rattle.script.specs.declared.records.Expect.{Expect}
@@ -27,11 +29,10 @@ use Rattle.kept.specs.declared.Kept.{Kept}
 use Rattle.kept.proofs.KeptLaws.{keep_memo, found_step, found_next}
 use Rattle.measuring.specs.declared.What.TheVariants.{ThePreamble}
 use Rattle.measuring.specs.declared.Open.{Open}
-use Rattle.parse.specs.declared.measure.Measured.TheVariants.{Refused, Read}
 use Rattle.totals.specs.Bounds.{Small, Few}
 use Rattle.measuring.specs.Measure.{begun, preamble_open, zeros, onward, counts, close_on, entered, count_on, opened, say_on, open_on, walk_from}
-use Rattle.parse.specs.MeasureRead.{measured_of}
 use Rattle.totals.proofs.BoundLaws.{begun-small, grown, said-small, opened-small, more_few, entered_few}
+use Rattle.script.specs.Reading.{Parsed}
 
 -- how small the numbers are at a line, by its number
 abbrev pub small_at : ℕ → ℕ
@@ -44,9 +45,9 @@ module _ (text : List ℕ) (t : Counts) (o : Open) (w : Where) (at number : ℕ)
   abbrev pub Here : Type 0
   Here = walk_from text t o w (lines_at text at number) ≡ whole
 
-  pub walk_over : Here → length text ≤ at → (r : Counts) → r ≡ close_on t o → measured_of (Read r) ≡ whole
-  unfolding walk_from measured_of
-  walk_over q h r e = ap (λ (c : Counts). read c) e ∙ (rw (lines_none text at number h) at q)
+  pub walk_over : Here → length text ≤ at → (r : Counts) → r ≡ close_on t o → Ok r ≡ whole
+  unfolding walk_from
+  walk_over q h r e = ap (λ (c : Counts). Ok c) e ∙ (rw (lines_none text at number h) at q)
 
   module _ (q : Here) (h : at < length text) (l : Line) (e : l ≡ line_at text at number) (s : Step) (f : s ≡ step_of plain_rules text w l) where
     -- the walk from the next line on
@@ -61,8 +62,8 @@ module _ (text : List ℕ) (t : Counts) (o : Open) (w : Where) (at number : ℕ)
         let z : Step = step_of plain_rules text w l in
         rw f (ap (λ (n : ℕ). onward n z.role (later z)) (sym k.called) ∙ (rw k.more at q))
 
-    pub walk_bad : (n : ℕ) → s.role ≡ Bad n → measured_of (Refused (refusal n number)) ≡ whole
-    unfolding onward measured_of
+    pub walk_bad : (n : Reason) → s.role ≡ Bad n → Err (refusal n number) ≡ whole
+    unfolding onward
     walk_bad n b = rw b at by_role
 
 -- ---- the numbers are small

@@ -5,25 +5,18 @@ ghost use Rattle.kept.specs.Kept.{Memo};
 ghost use Rattle.script.specs.Reading.{measured};
 ghost use Rattle.script.specs.declared.roles.Where.TheVariants as Stands;
 ghost use Rattle.measuring.specs.Measure.{preamble_open, zeros, walk_from};
-ghost use Rattle.parse.specs.MeasureRead.{measured_of};
 
 use kept::Kept;
 use measuring::What;
 use script::records::{Counts, Refusal};
+use script::refusals::Reason;
 use script::roles::{Role, Where};
 
-// What Measure answers.
-#[derive(Clone, Copy)]
-pub enum Measured {
-    Refused(Refusal),
-    Read(Counts),
-}
-
 // One line after another; the first refused line is the answer. What each line is is kept.
-pub fn walk(text: &[u8], kept: &mut [Kept]) -> Measured
+pub fn walk(text: &[u8], kept: &mut [Kept]) -> Result<Counts, Refusal>
     requires text_len_bound { length text.now ≤ 0x8000 }
     requires memo { Memo text.now kept.old }
-    ensures result_value { measured_of result ≡ walk_from text.now zeros preamble_open Stands.InPreamble (lines text.now) }
+    ensures result_value { result ≡ walk_from text.now zeros preamble_open Stands.InPreamble (lines text.now) }
     ensures memo_2 { Memo text.now kept.new × (length kept.new ≡ length kept.old) }
 {
     let mut t = Counts {
@@ -50,9 +43,9 @@ pub fn walk(text: &[u8], kept: &mut [Kept]) -> Measured
                 t = totals::enter(t, o);
                 o = totals::open_entry(text, p);
             }
-            Role::Bad(n) => {
-                return Measured::Refused(Refusal {
-                    number: n,
+            Role::Bad(reason) => {
+                return Err(Refusal {
+                    reason,
                     line: number,
                 });
             }
@@ -61,26 +54,26 @@ pub fn walk(text: &[u8], kept: &mut [Kept]) -> Measured
         at = l.next;
         number += 1;
     }
-    Measured::Read(totals::close_on(t, o))
+    Ok(totals::close_on(t, o))
 }
 
-// 1: text too long; 2: not UTF-8; then the lines, and what each is is kept.
-pub fn measure_keeping(text: &[u8], kept: &mut [Kept]) -> Measured
+// First the length, then whether it is UTF-8, then the lines, and what each is is kept.
+pub fn measure_keeping(text: &[u8], kept: &mut [Kept]) -> Result<Counts, Refusal>
     requires { Memo text.now kept.old }
-    ensures result_value { measured_of result ≡ measured text.now }
+    ensures result_value { result ≡ measured text.now }
     ensures memo { Memo text.now kept.new × (length kept.new ≡ length kept.old) }
 {
     if 0x8000 < text.len() {
-        return Measured::Refused(Refusal { number: 1, line: 0 });
+        return Err(Refusal::from(Reason::TextTooLong));
     }
     if !utf8::well_formed(text) {
-        return Measured::Refused(Refusal { number: 2, line: 0 });
+        return Err(Refusal::from(Reason::NotUtf8));
     }
     walk(text, kept)
 }
 
-pub fn measure(text: &[u8]) -> Measured
-    ensures { measured_of result ≡ measured text.now }
+pub fn measure(text: &[u8]) -> Result<Counts, Refusal>
+    ensures { result ≡ measured text.now }
 {
     let mut kept = kept::no_room();
     measure_keeping(text, &mut kept)

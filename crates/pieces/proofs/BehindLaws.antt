@@ -1,18 +1,16 @@
 -- Laws of words at the front of a piece: from what the code found there to what the definitions say of the piece. For `search` to use. Assumes nothing.
+use Rattle.std.specs.Prelude.{None, Option, Some}
 use Prim.Native.Nat.{ℕ, ◌+◌, ◌≤◌, ◌<◌}
 use Prim.Native.String.{String}
-use mathlib.Core.Path.{◌≡◌, refl, sym, ap, ◌∙◌}
+use mathlib.Core.Path.{◌≡◌, refl, sym, ◌∙◌}
 use mathlib.Core.Bool.{Bool, true, false}
 use mathlib.Core.List.{List, [], ◌∷◌}
-use mathlib.Core.Option.{none, some}
 use native.Mathlib.Omega.{arith}
 use lib.Dec.{eqb, ltb}
 use lib.ListN.{length, get_or}
 use borrow.Author.Tests.{eq-eqb, ltb-true}
-use Rattle.text.specs.Parts.{span, starts_with, position, found_of}
+use Rattle.text.specs.Parts.{span, starts_with, position}
 use Rattle.text.specs.declared.parts.Span.{Span}
-use Rattle.text.specs.declared.parts.Found.{Found}
-use Rattle.text.specs.declared.parts.Found.TheVariants.{At, Nothing}
 use Rattle.text.proofs.Scan.{never}
 use Rattle.text.proofs.LiteralLaws.{codes, begins_as, length_as}
 use Rattle.script.specs.Pieces.{bytes, begins, behind, cut, cut_at}
@@ -27,11 +25,11 @@ module _ (text : List ℕ) (p : Span) (w : String) (r : Bool) (e : r ≡ starts_
   unfolding begins
   begins-is = begins_as w (bytes text p) ∙ sym e
 
-  pub behind-some : r ≡ true → behind text w p ≡ some (span (p.start + length (codes w)) p.end)
+  pub behind-some : r ≡ true → behind text w p ≡ Some (span (p.start + length (codes w)) p.end)
   unfolding behind
   behind-some t = rw (begins-is ∙ t, length_as w)
 
-  pub behind-none : r ≡ false → behind text w p ≡ none
+  pub behind-none : r ≡ false → behind text w p ≡ None
   unfolding behind
   behind-none f = rw (begins-is ∙ f)
 
@@ -66,11 +64,11 @@ module _ (text : List ℕ) (p : Span) (x : ℕ) (e : x ≡ get_or (bytes text p)
   pub front_begins : (w : String) → fronts x (codes w) ≡ false → begins text w p ≡ false
   front_begins w f = begins-is text p w false (sym (other_front (codes w) (bytes text p) x e f))
 
-  pub front_behind : (w : String) → fronts x (codes w) ≡ false → behind text w p ≡ none
+  pub front_behind : (w : String) → fronts x (codes w) ≡ false → behind text w p ≡ None
   front_behind w f = behind-none text p w false (sym (other_front (codes w) (bytes text p) x e f)) refl
 
   -- the word is that one byte
-  pub front_is : (w : String) (c : ℕ) → codes w ≡ c ∷ [] → x ≡ c → ltb 0 c ≡ true → behind text w p ≡ some (span (p.start + 1) p.end)
+  pub front_is : (w : String) (c : ℕ) → codes w ≡ c ∷ [] → x ≡ c → ltb 0 c ≡ true → behind text w p ≡ Some (span (p.start + 1) p.end)
   front_is w c k q z = rw k at (behind-some text p w true (sym (rw k (one_front c (bytes text p) (sym e ∙ q) z))) refl)
 
 -- a first byte that is not 0 stands in the piece
@@ -82,20 +80,20 @@ byte_fits text p x c i e q z = front_fits text p c i (sym e ∙ q) z
 
 -- ---- the first b of a piece: f is the answer of `pieces::find_in`
 
-module _ (text : List ℕ) (start end b : ℕ) (f : Found) (e : found_of f ≡ position b (bytes text (span start end))) where
-  pub cut-none : f ≡ Nothing → cut text b (span start end) ≡ none
-  unfolding cut found_of
+module _ (text : List ℕ) (start end b : ℕ) (f : Option ℕ) (e : f ≡ position b (bytes text (span start end))) where
+  pub cut-none : f ≡ None → cut text b (span start end) ≡ None
+  unfolding cut
   cut-none h = rw (← e, h)
 
-  module _ (n : ℕ) (h : f ≡ At n) where
-    pub cut-some : cut text b (span start end) ≡ some (cut_at (span start end) n)
-    unfolding cut found_of
+  module _ (n : ℕ) (h : f ≡ Some n) where
+    pub cut-some : cut text b (span start end) ≡ Some (cut_at (span start end) n)
+    unfolding cut
     cut-some = rw (← e, h)
 
     pub cut_fits : In text (span start end) → start + n < end
-    unfolding position found_of
+    unfolding position
     cut_fits i =
-        let k = position_in b 0 n (bytes text (span start end)) (sym e ∙ ap found_of h) in
+        let k = position_in b 0 n (bytes text (span start end)) (sym e ∙ h) in
         omega (arith, k, length-bytes text (span start end) i, i.forward)
 
     pub cut-before : In text (span start end) → In text (span start (start + n))

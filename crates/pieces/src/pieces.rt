@@ -1,10 +1,10 @@
 // Pieces of the text: spans of places that lie inside it.
 ghost use Rattle.std.specs.Prelude.{◌≡◌, true, ◌+◌, ◌≤◌, length};
-ghost use Rattle.text.specs.Parts.{starts_with, same_bytes, ends_with, position, found_of};
+ghost use Rattle.text.specs.Parts.{starts_with, same_bytes, ends_with, position};
 ghost use Rattle.script.specs.Pieces.{bytes, trim};
 ghost use Rattle.script.specs.Inside.{In};
 
-use text::parts::{Found, Span};
+use text::parts::Span;
 
 // The piece without the White_Space at both ends.
 pub fn trimmed(text: &[u8], p: Span) -> Span
@@ -54,9 +54,9 @@ pub fn ends_in(text: &[u8], p: Span, b: u8) -> bool
 }
 
 // The first b of the piece, counted from its start.
-pub fn find_in(text: &[u8], p: Span, b: u8) -> Found
+pub fn find_in(text: &[u8], p: Span, b: u8) -> Option<usize>
     requires { In text.now p }
-    ensures { found_of result ≡ position b (bytes text.now p) }
+    ensures { result ≡ position b (bytes text.now p) }
 {
     let start = p.start;
     let end = p.end;

@@ -5,7 +5,7 @@ ghost use Rattle.std.specs.Prelude.{◌≡◌};
 ghost use Rattle.text.specs.Base.{◌&◌};
 ghost use Rattle.verdicts.specs.Held as Held;
 
-use script::records::{Expect, Matcher, Maybe, Place};
+use script::records::{Expect, Matcher, Place};
 
 // A part of n bytes, or of n records.
 pub fn inside(n: usize, start: usize, len: usize) -> bool
@@ -23,12 +23,12 @@ pub fn place_in(n: usize, p: Place) -> bool
     inside(n, p.start, p.len)
 }
 
-pub fn maybe_in(n: usize, m: Maybe) -> bool
+pub fn maybe_in(n: usize, m: Option<Place>) -> bool
     ensures { result ≡ Held.maybe_in n m }
 {
     match m {
-        Maybe::Absent => true,
-        Maybe::At(p) => place_in(n, p),
+        None => true,
+        Some(p) => place_in(n, p),
     }
 }
 

@@ -1,8 +1,7 @@
 // The record of the preamble, from what its lines say and from how many features and expectations it has.
 #![tactic(auto)]
 
-ghost use Rattle.std.specs.Prelude.{◌≡◌};
-ghost use Rattle.std.proofs.Math.Option.{some};
+ghost use Rattle.std.specs.Prelude.{◌≡◌, Some};
 ghost use Rattle.script.specs.Contents.{version_in};
 ghost use Rattle.script.specs.Layout.{maybe};
 ghost use Rattle.script.specs.Inside.{In};
@@ -10,23 +9,19 @@ ghost use Rattle.script.specs.declared.roles.Key.TheVariants as Key;
 ghost use Rattle.said.specs.Said.{piece_at, SaidIn};
 ghost use Rattle.records.specs.Records.{maybe_sized, preamble_record};
 
-use said::said::Piece;
-use script::records::{Maybe, MaybeItems, Preamble};
+use script::records::{Items, Place, Preamble};
 use script::roles::Key;
 use text::parts::Span;
-use version::{ProtocolVersion, Version};
+use version::ProtocolVersion;
 
 // A version that cannot be read is the default.
 fn version_in(text: &[u8], v: Span) -> ProtocolVersion
     requires { In text.now v }
-    ensures { result ≡ version_in text.now (some v) }
+    ensures { result ≡ version_in text.now (Some v) }
 {
     let start = v.start;
     let end = v.end;
-    match version::parse_version(&text[start..end]) {
-        Version::Read(w) => w,
-        Version::Bad => ProtocolVersion::default(),
-    }
+    version::parse_version(&text[start..end]).unwrap_or(ProtocolVersion::default())
 }
 
 // The version of the protocol, the default where it was not said.
@@ -35,29 +30,25 @@ fn version_of(text: &[u8], starts: &[usize], ends: &[usize]) -> ProtocolVersion
     ensures { result ≡ version_in text.now (piece_at starts.now ends.now Key.Protocol) }
 {
     match said::said::value_of(starts, ends, Key::Protocol) {
-        Piece::Absent => ProtocolVersion::default(),
-        Piece::Is(v) => version_in(text, v),
+        None => ProtocolVersion::default(),
+        Some(v) => version_in(text, v),
     }
 }
 
 // The place of the key's value, where it was said.
-fn maybe_of(starts: &[usize], ends: &[usize], k: Key) -> Maybe
+fn maybe_of(starts: &[usize], ends: &[usize], k: Key) -> Option<Place>
     ensures { result ≡ maybe (piece_at starts.now ends.now k) }
 {
-    match said::said::value_of(starts, ends, k) {
-        Piece::Absent => Maybe::Absent,
-        Piece::Is(v) => Maybe::At(matchers::matchers::place_of(v)),
-    }
+    let v = said::said::value_of(starts, ends, k)?;
+    Some(matchers::matchers::place_of(v))
 }
 
 // The range of n server features, where such a line was said, behind those that are there.
-fn server_of(starts: &[usize], ends: &[usize], before: usize, n: usize) -> MaybeItems
+fn server_of(starts: &[usize], ends: &[usize], before: usize, n: usize) -> Option<Items>
     ensures { result ≡ maybe_sized (piece_at starts.now ends.now Key.ServerFeatures) before n }
 {
-    match said::said::value_of(starts, ends, Key::ServerFeatures) {
-        Piece::Absent => MaybeItems::Absent,
-        Piece::Is(_) => MaybeItems::Are(records::calls::range_of(before, n)),
-    }
+    said::said::value_of(starts, ends, Key::ServerFeatures)?;
+    Some(records::calls::range_of(before, n))
 }
 
 // The record of the preamble, which has so many client features, server features and expectations.

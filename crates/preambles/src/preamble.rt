@@ -6,9 +6,9 @@ ghost use Rattle.script.specs.Roles.{version_role, word_role, preamble_expect, p
 ghost use Rattle.script.specs.Inside.{In};
 
 use remarks::{comment_role, is_remark};
+use script::refusals::Reason;
 use script::roles::{Key, Role, Saying, Step, Where};
 use text::parts::Span;
-use version::Version;
 
 // A version that cannot be read leaves the version so far.
 fn version_role(text: &[u8], v: Span) -> Role
@@ -18,8 +18,8 @@ fn version_role(text: &[u8], v: Span) -> Role
     let start = v.start;
     let end = v.end;
     match version::parse_version(&text[start..end]) {
-        Version::Read(_) => Role::Says(Saying::Known(Key::Protocol, v)),
-        Version::Bad => Role::Nothing,
+        Some(_) => Role::Says(Saying::Known(Key::Protocol, v)),
+        None => Role::Nothing,
     }
 }
 
@@ -30,7 +30,7 @@ fn on_protocol(text: &[u8], t: Span) -> Role
     ensures { result ≡ word_role text.now t }
 {
     if !pieces::pieces::begins(text, t, b"protocol:") {
-        return Role::Bad(3);
+        return Role::Bad(Reason::UnexpectedPreambleLine);
     }
     version_role(text, pieces::fronts::behind_trimmed(text, t, 9))
 }
@@ -45,10 +45,10 @@ fn word_role(text: &[u8], t: Span) -> Role
         return on_protocol(text, t);
     }
     if x != b'f' {
-        return Role::Bad(3);
+        return Role::Bad(Reason::UnexpectedPreambleLine);
     }
     if !pieces::pieces::begins(text, t, b"features:") {
-        return Role::Bad(3);
+        return Role::Bad(Reason::UnexpectedPreambleLine);
     }
     let value = pieces::fronts::behind_trimmed(text, t, 9);
     Role::Says(Saying::Known(Key::Features, value))
@@ -65,7 +65,7 @@ fn preamble_expect(text: &[u8], t: Span) -> Role
     if pieces::pieces::begins(text, t, b"expect:") {
         return expectations::expect_role(text, t);
     }
-    Role::Bad(3)
+    Role::Bad(Reason::UnexpectedPreambleLine)
 }
 
 // What a line of the preamble is. One that begins with `e` is an expectation or of no known form.

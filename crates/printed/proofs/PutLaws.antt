@@ -10,6 +10,7 @@ use Rattle.text.specs.Unicode.{encoded}
 use Rattle.text.proofs.LiteralLaws.{codes}
 use Rattle.wire.specs.Operations.{operation}
 use Rattle.version.specs.declared.ProtocolVersion.{ProtocolVersion}
+use Rattle.script.specs.Refusals.{reason_number}
 use Rattle.script.specs.declared.records.Entry.{Entry}
 use Rattle.script.specs.declared.records.Refusal.{Refusal}
 use Rattle.script.specs.declared.records.Script.{Script}
@@ -26,9 +27,11 @@ version_put x at t u v a b room p q = put_then at (codes "version " ++ decimal x
 pub line_put : (at : ℕ) (xs : List ℕ) (m : ℕ) (t u : List ℕ) (a : ℕ) → Put at xs m t u a → at + (m + 1) ≤ length t → Put at (xs ++ (LF ∷ [])) (m + 1) t (set u a LF) (a + 1)
 line_put at xs m t u a p room = put_then at xs m t u a p (LF ∷ []) 1 (set u a LF) (a + 1) room (put_one a LF u)
 
-pub refusal_put : (q : Refusal) (at : ℕ) (t u v : List ℕ) (a b : ℕ) → at + 55 ≤ length t → Put at (codes "refused " ++ decimal q.number) 28 t u a → Put a (codes " line " ++ decimal q.line) 26 u v b → Put at (refusal_line q) 55 t (set v b LF) (b + 1)
+-- n is the number of the reason
+pub refusal_put : (q : Refusal) (at : ℕ) (t u v : List ℕ) (a b n : ℕ) → at + 55 ≤ length t → n ≡ reason_number q.reason
+    → Put at (codes "refused " ++ decimal n) 28 t u a → Put a (codes " line " ++ decimal q.line) 26 u v b → Put at (refusal_line q) 55 t (set v b LF) (b + 1)
 unfolding refusal_line after utf8 encoded
-refusal_put q at t u v a b room p₁ p₂ = line_put at _ 54 t v b (put_then at _ 28 t u a p₁ _ 26 v b (omega arith) (λ r. p₂)) room
+refusal_put q at t u v a b n room k p₁ p₂ = rw (← k) (line_put at _ 54 t v b (put_then at _ 28 t u a p₁ _ 26 v b (omega arith) (λ r. p₂)) room)
 
 -- n is the code of the operation
 pub entry_put : (e : Entry) (at : ℕ) (t u v w : List ℕ) (a b d n : ℕ) → at + 63 ≤ length t → n ≡ (operation (op_of e.op_call)).code

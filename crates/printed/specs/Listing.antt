@@ -1,13 +1,14 @@
 -- Document 01, "Listing a script": what the program `script-list` prints for a text. First: version, preamble expectations, entries, entry
 -- expectations. Then per entry: line, operation code, expectations. A refusal prints only `refused N line L`. Assumes nothing.
-use Rattle.std.specs.Prelude.{ℕ, ◌-◌, List, [], ◌∷◌, ◌++◌}
+use Rattle.std.specs.Prelude.{ℕ, ◌-◌, List, [], ◌∷◌, ◌++◌, Err, Ok}
 use Prim.Native.String.{String}
 use Rattle.text.specs.Base.{LF}
 use Rattle.text.specs.Literal.{utf8}
 use Rattle.wire.specs.Operations.{operation}
 use Rattle.version.specs.declared.ProtocolVersion.{ProtocolVersion}
 use Rattle.script.specs.Layout.{Reading}
-use Rattle.script.specs.Reading.{Parsed, refused_at, read, read_into}
+use Rattle.script.specs.Reading.{read_into, Parsed}
+use Rattle.script.specs.Refusals.{reason_number}
 use Rattle.script.specs.declared.records.Entry.{Entry}
 use Rattle.script.specs.declared.records.Counts.{Counts}
 use Rattle.script.specs.declared.records.Script.{Script}
@@ -47,11 +48,11 @@ entry_lines (e ∷ es) = entry_line e ++ entry_lines es
 
 -- a refusal's line
 unfoldable pub refusal_line : Refusal → List ℕ
-refusal_line r = after "refused " r.number ++ after " line " r.line ++ (LF ∷ [])
+refusal_line r = after "refused " (reason_number r.reason) ++ after " line " r.line ++ (LF ∷ [])
 
 unfoldable pub listing : Parsed Reading → List ℕ
-listing (refused_at r) = refusal_line r
-listing (read r) = header_line r.script ++ entry_lines r.tables.entries
+listing (Err r) = refusal_line r
+listing (Ok r) = header_line r.script ++ entry_lines r.tables.entries
 
 -- what is printed for a text
 unfoldable pub listing_of : (text : List ℕ) → List ℕ

@@ -8,7 +8,6 @@ use call_ops::op_of;
 use decimals::decimal::{put_after, put_decimal};
 use script::records::{Entry, Refusal, Script};
 use version::ProtocolVersion;
-use wire::ops::Op;
 
 // Writes `version` and the two numbers of a version.
 fn put_version(v: ProtocolVersion, out: &mut [u8], at: usize) -> usize
@@ -53,7 +52,7 @@ pub fn put_entry_line(e: Entry, out: &mut [u8], at: usize) -> usize
 {
     let call = e.op_call;
     let a = put_decimal(e.line as u64, out, at);
-    let b = put_after(b" ", Op::code(op_of(call)), out, a);
+    let b = put_after(b" ", op_of(call).code(), out, a);
     let c = put_after(b" ", e.expects.count as u64, out, b);
     out[c] = 0x0A;
     c + 1
@@ -66,7 +65,7 @@ pub fn put_refusal(q: Refusal, out: &mut [u8], at: usize) -> usize
     ensures out_after { out.new ≡ written_at at (refusal_line q) out.old }
     ensures upper_bound { result ≤ at + refusal_room }
 {
-    let a = put_after(b"refused ", q.number, out, at);
+    let a = put_after(b"refused ", q.reason.number(), out, at);
     let b = put_after(b" line ", q.line as u64, out, a);
     out[b] = 0x0A;
     b + 1

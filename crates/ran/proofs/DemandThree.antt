@@ -1,18 +1,18 @@
 -- Demand 3 of document 01: a text is read into lent tables, and then judged by any list of calls. The premises are what Read's contract (crates/read,
 -- `read::reading::read`) says where it answers with a script. Assumes nothing.
+use Rattle.std.specs.Prelude.{Err, Ok}
 use Prim.Native.Nat.{ℕ}
 use mathlib.Core.Path.{◌≡◌, refl}
 use mathlib.Core.List.{List}
 use native.Mathlib.Omega.{arith}
 use lib.ListN.{length}
 use Rattle.script.specs.Layout.{Reading}
-use Rattle.script.specs.Reading.{Parsed, refused_at, read, read_into}
+use Rattle.script.specs.Reading.{read_into, Parsed}
 use Rattle.script.specs.declared.records.Entry.{Entry}
 use Rattle.script.specs.declared.records.Expectation.{Expectation}
 use Rattle.script.specs.declared.records.Script.{Script}
 use Rattle.written.specs.Written.{written_at}
-use Rattle.read.specs.Read.{lent_of, answer_of, script_or, tables_or}
-use Rattle.read.specs.declared.reading.Answer.TheVariants as Answer
+use Rattle.read.specs.Read.{lent_of, script_or, tables_or}
 use Rattle.judging.specs.Calls.{Call}
 use Rattle.judging.specs.PlainJudge.{plain_run}
 use Rattle.judging.specs.Judge.{Lent}
@@ -24,7 +24,7 @@ module _
     (text : List ℕ) (entries : List Entry) (items : List (List ℕ)) (expectations : List Expectation) (store : List ℕ)
     -- the script that it answers, and the tables that it leaves
     (script : Script) (entries-left : List Entry) (expectations-left : List Expectation)
-    (answers : answer_of (Answer.Read script) ≡ script_or (read_into (lent_of entries items expectations store) text))
+    (answers : Ok script ≡ script_or (read_into (lent_of entries items expectations store) text))
     (leaves-entries : entries-left ≡ written_at 0 (tables_or (read_into (lent_of entries items expectations store) text)).entries entries)
     (leaves-expectations : expectations-left ≡ written_at 0 (tables_or (read_into (lent_of entries items expectations store) text)).expectations expectations) where
   -- what is then lent to the calls
@@ -32,14 +32,14 @@ module _
   lent = record { text = text; script = script; entries = entries-left; expectations = expectations-left }
 
   pub as_read : (r : Reading) × AsRead (lent_of entries items expectations store) entries expectations r lent
-  unfolding answer_of script_or tables_or
+  unfolding script_or tables_or
   as_read = go (read_into (lent_of entries items expectations store) text) refl answers leaves-entries leaves-expectations
     where
-      go : (p : Parsed Reading) → read_into (lent_of entries items expectations store) text ≡ p → answer_of (Answer.Read script) ≡ script_or p
+      go : (p : Parsed Reading) → read_into (lent_of entries items expectations store) text ≡ p → Ok script ≡ script_or p
           → entries-left ≡ written_at 0 (tables_or p).entries entries → expectations-left ≡ written_at 0 (tables_or p).expectations expectations
           → (r : Reading) × AsRead (lent_of entries items expectations store) entries expectations r lent
-      go (refused_at q) e a x y = let z : ◌≡◌ {A = ℕ} 0 1 = cc in absurd (omega arith)
-      go (read r) e a x y =
+      go (Err q) e a x y = let z : ◌≡◌ {A = ℕ} 0 1 = cc in absurd (omega arith)
+      go (Ok r) e a x y =
           let s : script ≡ r.script = cc in
           (r, record { entries-lent = refl; expectations-lent = refl; is_read = e; script = s; entries-left = x; expectations-left = y })
 

@@ -1,4 +1,5 @@
 -- What a run answers and leaves, path by path. Assumes nothing.
+use Rattle.std.specs.Prelude.{Err, Ok, Result}
 use Prim.Native.Nat.{ℕ, ◌≤◌, ◌<◌}
 use mathlib.Core.Path.{◌≡◌, refl, sym, ap, ◌∙◌}
 use mathlib.Core.Bool.{Bool, true, false}
@@ -7,7 +8,7 @@ use native.Mathlib.Omega.{arith}
 use lib.ListN.{length}
 use borrow.Author.Tests.{lt-ltb, le-ltb}
 use Rattle.script.specs.Layout.{Reading}
-use Rattle.script.specs.Reading.{Parsed, refused_at, read, read_into}
+use Rattle.script.specs.Reading.{read_into, Parsed}
 use Rattle.script.specs.declared.records.Entry.{Entry}
 use Rattle.script.specs.declared.records.Expectation.{Expectation}
 use Rattle.script.specs.declared.records.Refusal.{Refusal}
@@ -15,10 +16,9 @@ use Rattle.script.specs.declared.records.Script.{Script}
 use Rattle.written.specs.Written.{written_at}
 use Rattle.tables.specs.Items.{item_of}
 use Rattle.written.proofs.WrittenLaws.{written_none}
-use Rattle.read.specs.Read.{lent_of, answer_of, script_or, tables_or}
-use Rattle.read.specs.declared.reading.Answer.{Answer}
+use Rattle.read.specs.Read.{lent_of, script_or, tables_or}
 use Rattle.judge.specs.declared.tally.Tally.{Tally}
-use Rattle.tallies.specs.declared.calls.Answer as Told
+use Rattle.tallies.specs.declared.calls.Answer.{Answer}
 use Rattle.judging.specs.Calls.{Call, run}
 use Rattle.judging.specs.Judge.{Lent, JudgeState, judge_start, judge_step}
 use Rattle.judging.specs.PlainJudge.{plain_run}
@@ -28,9 +28,8 @@ use Rattle.calls.specs.CallRows.{calls_of, answer_code}
 use Rattle.judging.specs.Runs.{scratch_call, scratch_run, plain_scratch}
 use Rattle.asking.specs.Asking.{asks_more}
 use Rattle.judging.proofs.RunLaws.{same_scratch}
-use Rattle.ran.specs.Ran.{plain_left, ran_as, ran_of, if_done}
-use Rattle.ran.specs.declared.Ran.{Ran}
-use Rattle.ran.specs.declared.Ran.TheVariants.{FewAnswers, MuchScratch, Refused, Done}
+use Rattle.ran.specs.Ran.{Ran, plain_left, ran_as, ran_of, if_done}
+use Rattle.ran.specs.declared.RunError.TheVariants.{FewAnswers, MuchScratch, Refused}
 use Rattle.ran.proofs.DemandThree as three
 
 module _ (text : List ℕ) (entries : List Entry) (items : List (List ℕ)) (expectations : List Expectation) (store : List ℕ)
@@ -53,12 +52,12 @@ module _ (text : List ℕ) (entries : List Entry) (items : List (List ℕ)) (exp
       × ((scr' ≡ if_done r (plain_scratch text (length v) calls scr) scr)
       × (ans' ≡ if_done r (written_at 0 (map answer_code (plain_run text (length v) calls).0) ans) ans)))))))
 
-  pub few_answers : length ans < length rows → Left FewAnswers entries items expectations store v scr ans
+  pub few_answers : length ans < length rows → Left (Err FewAnswers) entries items expectations store v scr ans
   unfolding ran_of if_done
   few_answers h = (rw (lt-ltb (length ans) (length rows) h) refl, (refl, (refl, (refl, (refl, (refl, (refl, refl)))))))
 
   module _ (enough : length rows ≤ length ans) (b : Bool) (asked : b ≡ asks_more (length scr) rows) where
-    pub much_scratch : b ≡ true → Left MuchScratch entries items expectations store v scr ans
+    pub much_scratch : b ≡ true → Left (Err MuchScratch) entries items expectations store v scr ans
     unfolding ran_of if_done
     much_scratch e = (rw (le-ltb (length ans) (length rows) enough, sym asked ∙ e) refl, (refl, (refl, (refl, (refl, (refl, (refl, refl)))))))
 
@@ -68,20 +67,20 @@ module _ (text : List ℕ) (entries : List Entry) (items : List (List ℕ)) (exp
       unfolding ran_of
       ran_as_lem left = rw (le-ltb (length ans) (length rows) enough, sym asked ∙ little) refl
 
-      module _ (a : Answer) (answers : answer_of a ≡ script_or p) (es : List Entry) (is : List (List ℕ)) (xs : List Expectation) (st : List ℕ)
+      module _ (a : Parsed Script) (answers : a ≡ script_or p) (es : List Entry) (is : List (List ℕ)) (xs : List Expectation) (st : List ℕ)
           (e₁ : es ≡ written_at 0 (tables_or p).entries entries) (e₂ : is ≡ written_at 0 (map item_of (tables_or p).items) items)
           (e₃ : xs ≡ written_at 0 (tables_or p).expectations expectations) (e₄ : st ≡ written_at 0 (tables_or p).store store) where
         -- where Read refuses it leaves the tables alone
-        pub refused : (q : Refusal) → a ≡ Answer.Refused q → Left (Refused q) es is xs st v scr ans
-        unfolding answer_of script_or tables_or ran_as if_done
-        refused q e = go p refl (sym (ap answer_of e) ∙ answers)
+        pub refused : (q : Refusal) → a ≡ Err q → Left (Err (Refused q)) es is xs st v scr ans
+        unfolding script_or tables_or ran_as if_done
+        refused q e = go p refl (sym e ∙ answers)
           where
-            go : (o : Parsed Reading) → p ≡ o → refused_at q ≡ script_or o → Left (Refused q) es is xs st v scr ans
-            go (read r) h f = let z : ◌≡◌ {A = ℕ} 0 1 = cc in absurd (omega arith)
-            go (refused_at r) h f =
+            go : (o : Parsed Reading) → p ≡ o → Err q ≡ script_or o → Left (Err (Refused q)) es is xs st v scr ans
+            go (Ok r) h f = let z : ◌≡◌ {A = ℕ} 0 1 = cc in absurd (omega arith)
+            go (Err r) h f =
                 let g : q ≡ r = cc in
                 let left : JudgeState = plain_left text v calls in (
-                  ap (λ (x : Refusal). Refused x) g ∙ sym (ran_as_lem left ∙ ap (λ (o : Parsed Reading). ran_as (script_or o) left) h),
+                  ap {B = Ran} (λ (x : Refusal). Err (Refused x)) g ∙ sym (ran_as_lem left ∙ ap (λ (o : Parsed Reading). ran_as (script_or o) left) h),
                   (
                     e₁ ∙ ap (λ (o : Parsed Reading). written_at 0 (tables_or o).entries entries) h ∙ written_none 0 entries,
                     (
@@ -95,9 +94,9 @@ module _ (text : List ℕ) (entries : List Entry) (items : List (List ℕ)) (exp
                 )
 
         -- where it reads, the calls answer and leave what the plain judge does
-        module _ (script : Script) (e : a ≡ Answer.Read script) where
-          reads : answer_of (Answer.Read script) ≡ script_or p
-          reads = sym (ap answer_of e) ∙ answers
+        module _ (script : Script) (e : a ≡ Ok script) where
+          reads : Ok script ≡ script_or p
+          reads = sym e ∙ answers
 
           abbrev k : Lent
           k = record { text = text; script = script; entries = es; expectations = xs }
@@ -114,11 +113,11 @@ module _ (text : List ℕ) (entries : List Entry) (items : List (List ℕ)) (exp
               → state_of t v' ≡ (run (judge_step k) (judge_start v) calls).1
               → ans' ≡ written_at 0 (map answer_code (run (judge_step k) (judge_start v) calls).0) ans
               → scr' ≡ scratch_run (judge_step k) (scratch_call k) (judge_start v) calls scr
-              → Left (Done t) es is xs st v' scr' ans'
-          unfolding answer_of ran_as if_done
+              → Left (Ok t) es is xs st v' scr' ans'
+          unfolding ran_as if_done
           done t v' scr' ans' x y z =
-              let left : state_of t v' ≡ plain_left text v calls = x ∙ ap (λ (r : List Told.Answer × JudgeState). r.1) same in
+              let left : state_of t v' ≡ plain_left text v calls = x ∙ ap (λ (r : List (Result Answer Refusal) × JudgeState). r.1) same in
               let told : t ≡ tally_of (plain_left text v calls) = ap tally_of left in (
-                ap (λ (u : Tally). Done u) told ∙ sym (ran_as_lem (plain_left text v calls) ∙ ap (λ (o : Parsed Script). ran_as o (plain_left text v calls)) (sym reads)),
-                (e₁, (e₂, (e₃, (e₄, (ap (λ (s : JudgeState). s.verdicts) left, (z ∙ scratch_same, y ∙ ap (λ (r : List Told.Answer × JudgeState). written_at 0 (map answer_code r.0) ans) same)))))),
+                ap {B = Ran} (λ (u : Tally). Ok u) told ∙ sym (ran_as_lem (plain_left text v calls) ∙ ap (λ (o : Parsed Script). ran_as o (plain_left text v calls)) (sym reads)),
+                (e₁, (e₂, (e₃, (e₄, (ap (λ (s : JudgeState). s.verdicts) left, (z ∙ scratch_same, y ∙ ap (λ (r : List (Result Answer Refusal) × JudgeState). written_at 0 (map answer_code r.0) ans) same)))))),
               )

@@ -1,7 +1,7 @@
 -- A test of every expectation of a range, one after another; and the tests of refusals 31 and 34 as such. Assumes nothing.
+use Rattle.std.specs.Prelude.{None, Option, Some}
 use mathlib.Core.Path.{◌≡◌, refl, sym, ap, ◌∙◌}
 use mathlib.Core.Bool.{Bool, true, false, not}
-use mathlib.Core.Option.{Option, none, some}
 use mathlib.Core.List.{List, [], ◌∷◌, map}
 use Prim.Native.Nat.{ℕ, ◌+◌, ◌≤◌, ◌<◌}
 use native.Mathlib.Omega.{arith}
@@ -61,8 +61,8 @@ module _ (text : List ℕ) (room : ℕ) (g : Expected → Option (List ℕ)) whe
 
   one_fits : (o : Option (List ℕ)) (later : List (Option (List ℕ))) → not (too_long room (o ∷ later)) ≡ fits room o & not (too_long room later)
   unfolding too_long fits present_bytes
-  one_fits none later = let z = le-leb 0 room (omega arith) in rw z
-  one_fits (some value) later = elim (dec_le (length value) room) [
+  one_fits None later = let z = le-leb 0 room (omega arith) in rw z
+  one_fits (Some value) later = elim (dec_le (length value) room) [
     | yes h ↦ let a = le-ltb room (length value) h in let b = le-leb (length value) room h in rw (a, b)
     | no h ↦
         let k : room < length value = omega arith in

@@ -1,70 +1,26 @@
--- Laws for the code of Judge: which refusal comes first, what holds where there is none; and that judging the handshake does not
--- look at the entries. Assumes nothing.
-use mathlib.Core.Path.{◌≡◌, refl, sym, ◌∙◌}
-use mathlib.Core.Bool.{Bool, true, false}
-use mathlib.Core.Option.{none, some}
+-- Laws for the code of Judge: what holds where no refusal applies; and that judging the handshake does not look at the entries. Assumes nothing.
+use Rattle.std.specs.Prelude.{None}
+use mathlib.Core.Path.{◌≡◌, refl}
+use mathlib.Core.Bool.{Bool, false}
 use mathlib.Core.List.{List, [], map}
 use Prim.Native.Nat.{ℕ, ◌≤◌}
 use lib.Dec.{ltb}
 use borrow.Author.Tests.{ltb-false}
-use Rattle.script.specs.Reading.{refusal}
 use Rattle.script.specs.declared.records.Items.{Items}
 use Rattle.script.specs.declared.records.Entry.{Entry}
 use Rattle.script.specs.declared.records.Expectation.{Expectation}
 use Rattle.script.specs.declared.records.Script.{Script}
 use Rattle.script.specs.declared.response.HandshakeInfo.{HandshakeInfo}
+use Rattle.script.specs.declared.refusals.Reason.TheVariants.{CountTooHigh, ExpectationOutside, FewSlots, PartOutside, ValueTooLong, WrongNumber}
 use Rattle.verdicts.specs.Lookup.{looked}
 use Rattle.tallies.specs.declared.tally.Counts.{Counts}
 use Rattle.verdicts.specs.declared.handed.Handed.TheVariants.{Info}
 use Rattle.tallies.specs.Tally.{over_limit}
-use Rattle.tallies.specs.Answers.{first_refusal}
 use Rattle.judging.specs.Calls.{Judging, judge, subject_of, wrong_number, part_outside, too_long}
 use Rattle.judging.specs.Judge.{Lent, JudgeState, range_for, records_in, said_by, range_outside, out_of_reach, few_slots, range_refusals, judge_refusal, judged_by, judged, judge_step, refusal_on, judged_on}
 use Rattle.judging.specs.Scratch.{scratch_after, scratch_on}
 use Rattle.judging.proofs.Orders.{neither}
-use Rattle.tallies.proofs.Refusals.{no_test, hit, pass, passed_by}
-
--- ---- the first test that applies, where those before it do not
-
-module _ (k : Lent) (past : Bool) (r : Items) (next : ℕ) (counts : Counts) (places : ℕ) (j : Judging) where
-  pub refuse_36 : over_limit counts ≡ true → some (refusal 36 0) ≡ refusal_on k past r next counts places j
-  unfolding refusal_on
-  refuse_36 e = rw e (sym (hit 36 _))
-
-  module _ (few : over_limit counts ≡ false) where
-    pub refuse_33 : wrong_number next j.number past j.handed ≡ true → some (refusal 33 0) ≡ refusal_on k past r next counts places j
-    unfolding refusal_on
-    refuse_33 e = rw (few, e) (sym (pass 36 _ ∙ hit 33 _))
-
-    module _ (number : wrong_number next j.number past j.handed ≡ false) where
-      -- those of the range
-      pub refuse_range : first_refusal (range_refusals k r places j) ≡ refusal_on k past r next counts places j
-      unfolding refusal_on
-      refuse_range = rw (few, number) (sym (pass 36 _ ∙ pass 33 _))
-
-module _ (k : Lent) (i : Items) (places : ℕ) (j : Judging) where
-  pub refuse_31 : out_of_reach k i ≡ true → some (refusal 31 0) ≡ first_refusal (range_refusals k i places j)
-  unfolding range_refusals
-  refuse_31 e = rw e (sym (hit 31 _))
-
-  module _ (reach : out_of_reach k i ≡ false) where
-    pub refuse_32 : part_outside j ≡ true → some (refusal 32 0) ≡ first_refusal (range_refusals k i places j)
-    unfolding range_refusals
-    refuse_32 e = rw (reach, e) (sym (pass 31 _ ∙ hit 32 _))
-
-    module _ (parts : part_outside j ≡ false) where
-      pub refuse_35 : few_slots k places ≡ true → some (refusal 35 0) ≡ first_refusal (range_refusals k i places j)
-      unfolding range_refusals
-      refuse_35 e = rw (reach, parts, e) (sym (pass 31 _ ∙ pass 32 _ ∙ hit 35 _))
-
-      module _ (slots : few_slots k places ≡ false) where
-        pub refuse_34 : too_long j.scratch (map (looked (subject_of j)) (said_by k i)) ≡ true → some (refusal 34 0) ≡ first_refusal (range_refusals k i places j)
-        unfolding range_refusals
-        refuse_34 e = rw (reach, parts, slots, e) (sym (pass 31 _ ∙ pass 32 _ ∙ pass 35 _ ∙ hit 34 _))
-
-        pub refuse_none : too_long j.scratch (map (looked (subject_of j)) (said_by k i)) ≡ false → none ≡ first_refusal (range_refusals k i places j)
-        unfolding range_refusals
-        refuse_none e = rw (reach, parts, slots, e) (sym (pass 31 _ ∙ pass 32 _ ∙ pass 35 _ ∙ pass 34 _ ∙ no_test))
+use Rattle.tallies.proofs.Refusals.{passed_by}
 
 -- ---- no test applies
 
@@ -76,15 +32,15 @@ pub record Clear (k : Lent) (past : Bool) (r : Items) (next : ℕ) (counts : Cou
   pub slots : few_slots k places ≡ false
   pub values : too_long j.scratch (map (looked (subject_of j)) (said_by k r)) ≡ false
 
-pub clear : (k : Lent) (past : Bool) (r : Items) (next : ℕ) (counts : Counts) (places : ℕ) (j : Judging) → refusal_on k past r next counts places j ≡ none → Clear k past r next counts places j
+pub clear : (k : Lent) (past : Bool) (r : Items) (next : ℕ) (counts : Counts) (places : ℕ) (j : Judging) → refusal_on k past r next counts places j ≡ None → Clear k past r next counts places j
 unfolding refusal_on range_refusals
 clear k past r next counts places j e =
-    let a = passed_by 36 (over_limit counts) _ e in
-    let b = passed_by 33 (wrong_number next j.number past j.handed) _ a.1 in
-    let c = passed_by 31 (out_of_reach k r) _ b.1 in
-    let d = passed_by 32 (part_outside j) _ c.1 in
-    let f = passed_by 35 (few_slots k places) _ d.1 in
-    let g = passed_by 34 (too_long j.scratch (map (looked (subject_of j)) (said_by k r))) _ f.1 in
+    let a = passed_by CountTooHigh (over_limit counts) _ e in
+    let b = passed_by WrongNumber (wrong_number next j.number past j.handed) _ a.1 in
+    let c = passed_by ExpectationOutside (out_of_reach k r) _ b.1 in
+    let d = passed_by PartOutside (part_outside j) _ c.1 in
+    let f = passed_by FewSlots (few_slots k places) _ d.1 in
+    let g = passed_by ValueTooLong (too_long j.scratch (map (looked (subject_of j)) (said_by k r))) _ f.1 in
     record { few = a.0; number = b.0; reach = c.0; parts = d.0; slots = f.0; values = g.0 }
 
 -- ---- what each says

@@ -1,5 +1,4 @@
 pub mod JudgeLaws
 pub mod RangeLaws
 pub mod EveryLaws
-pub mod CheckLaws
 pub mod StepLaws

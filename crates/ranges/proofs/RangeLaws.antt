@@ -1,8 +1,8 @@
 -- A loop over the expectations of a range, one after another: what is left of the range, and a judging that stores, counts and looks up as it goes.
 -- Assumes nothing.
+use Rattle.std.specs.Prelude.{None, Option, Some}
 use mathlib.Core.Path.{◌≡◌, refl, sym, ap, ◌∙◌}
 use mathlib.Core.Bool.{false}
-use mathlib.Core.Option.{Option, none, some}
 use mathlib.Core.List.{List, [], ◌∷◌, map}
 use Prim.Native.Nat.{ℕ, suc, ◌+◌, ◌-◌, ◌≤◌, ◌<◌}
 use native.Mathlib.Omega.{arith}
@@ -67,26 +67,26 @@ nothing_said text = refl
 -- ---- the scratch
 
 -- where none of some values is too long, the first is not
-pub first_fits : (scratch : ℕ) (value : List ℕ) (values : List (Option (List ℕ))) → too_long scratch (some value ∷ values) ≡ false → length value ≤ scratch
+pub first_fits : (scratch : ℕ) (value : List ℕ) (values : List (Option (List ℕ))) → too_long scratch (Some value ∷ values) ≡ false → length value ≤ scratch
 unfolding too_long
 first_fits scratch value values e = ltb-false scratch (length value) (neither (ltb scratch (length value)) _ e).0
 
 pub later_fit : (scratch : ℕ) (value : Option (List ℕ)) (values : List (Option (List ℕ))) → too_long scratch (value ∷ values) ≡ false → too_long scratch values ≡ false
 unfolding too_long
-later_fit scratch none values e = e
-later_fit scratch (some value) values e = (neither (ltb scratch (length value)) _ e).1
+later_fit scratch None values e = e
+later_fit scratch (Some value) values e = (neither (ltb scratch (length value)) _ e).1
 
 -- a value is written over the last, a missing one is not
 pub overlaid_present : (o : Option (List ℕ)) (scratch : List ℕ) → overlaid (present_bytes o) scratch ≡ overwritten_by o scratch
 unfolding overwritten_by present_bytes overlaid
-overlaid_present none scratch = rw (le-leb 0 (length scratch) (omega arith)) refl
-overlaid_present (some value) scratch = refl
+overlaid_present None scratch = rw (le-leb 0 (length scratch) (omega arith)) refl
+overlaid_present (Some value) scratch = refl
 
-present_none : length (present_bytes none) ≡ 0
+present_none : length (present_bytes None) ≡ 0
 unfolding present_bytes
 present_none = refl
 
-present_some : (value : List ℕ) → present_bytes (some value) ≡ value
+present_some : (value : List ℕ) → present_bytes (Some value) ≡ value
 unfolding present_bytes
 present_some value = refl
 
@@ -102,8 +102,8 @@ next_fits text table r g room i more in_table e =
     (one o _ h, later_fit room o _ h)
   where
     one : (o : Option (List ℕ)) (later : List (Option (List ℕ))) → too_long room (o ∷ later) ≡ false → length (present_bytes o) ≤ room
-    one none later e = omega (arith, present_none)
-    one (some value) later e = rw (present_some value) (first_fits room value later e)
+    one None later e = omega (arith, present_none)
+    one (Some value) later e = rw (present_some value) (first_fits room value later e)
 
 -- ---- a judging on its way
 

@@ -1,7 +1,5 @@
 -- What only the code of Judge needs. Assumes nothing.
-use Rattle.std.specs.Prelude.{ℕ, List, eqb, if◌then◌else◌}
-use Rattle.std.proofs.Math.Option.{Option, none, some}
-use Rattle.script.specs.Reading.{refusal}
+use Rattle.std.specs.Prelude.{ℕ, List, eqb, if◌then◌else◌, Result}
 use Rattle.script.specs.declared.records.Items.{Items}
 use Rattle.script.specs.declared.records.Refusal.{Refusal}
 use Rattle.tallies.specs.declared.calls.Answer.{Answer}
@@ -13,16 +11,12 @@ use Rattle.verdicts.specs.declared.handed.Handed.{Handed}
 use Rattle.judging.specs.Calls.{Judging}
 use Rattle.judging.specs.Judge.{Lent, JudgeState}
 
--- a refusal by its number, 0 is none
-unfoldable pub refusal_by : ℕ → Option Refusal
-refusal_by n = if eqb n 0 then none else some (refusal n 0)
-
 -- an empty range begins at 0, wherever it stood
 unfoldable pub settled_as : Items → Items
 settled_as r = if eqb r.count 0 then record { first = 0; count = 0 } else r
 
 -- what a step answered, and what it left
-abbrev pub stepped : Step → (verdicts : List ℕ) → Answer × JudgeState
+abbrev pub stepped : Step → (verdicts : List ℕ) → Result Answer Refusal × JudgeState
 stepped s verdicts = (s.answer, record { next = s.next; counts = s.counts; verdicts = verdicts })
 
 -- what is lent to a judging to read

@@ -13,7 +13,6 @@ ghost use Rattle.judging.specs.Scratch.{overwritten};
 use script::records::{Expectation, Items};
 use subjects::one::{judge_one, reaches, value_fits};
 use tallies::tally::Counts;
-use verdicts::code_of;
 use verdicts::handed::Handed;
 
 // Every part of them lies inside the text.
@@ -83,7 +82,7 @@ pub fn judge_range(
     while i < r.count {
         let at = r.first + i;
         let v = judge_one(expectations[at], text, h, bytes, lists, scratch);
-        verdicts[at] = code_of(v);
+        verdicts[at] = u8::from(v);
         c = c.add(v);
         i += 1;
     }

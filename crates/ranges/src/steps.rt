@@ -1,15 +1,15 @@
 // Judge: refusals first, then a range. Functions here hold a slice of records.
-ghost use Rattle.std.specs.Prelude.{◌≡◌, [], ◌+◌, ◌-◌, ◌≤◌, length, get_or, ltb};
+ghost use Rattle.std.specs.Prelude.{◌≡◌, [], ◌-◌, ◌≤◌, length, get_or, ltb};
 ghost use Rattle.slots.specs.Blank.{blank_entry};
-ghost use Rattle.script.specs.Reading.{refusal};
-ghost use Rattle.tallies.specs.declared.calls.Answer.TheVariants.{Refused, Judged};
+ghost use Rattle.script.specs.Refusals.{ok_unless};
 ghost use Rattle.judging.specs.Judge.{refusal_on, judged_on};
 ghost use Rattle.judging.specs.Scratch.{scratch_on};
-ghost use Rattle.ranges.specs.Judging.{refusal_by, stepped, lent_of, asked_of};
+ghost use Rattle.ranges.specs.Judging.{stepped, lent_of, asked_of};
 
-use crate::checks::{early, few_slots, range_outside, settled};
+use crate::checks::{few_slots, range_outside, settled, wrong_number};
 use crate::each::{all_fit, all_in, judge_range};
 use script::records::{Entry, Expectation, Items, Refusal, Script};
+use script::refusals::Reason;
 use subjects::handed::parts_in;
 use tallies::calls::Answer;
 use tallies::tally::Counts;
@@ -20,10 +20,11 @@ use verdicts::handed::Handed;
 pub struct Step {
     pub next: usize,
     pub counts: Counts,
-    pub answer: Answer,
+    pub answer: Result<Answer, Refusal>,
 }
 
-// The number of the first refusal that applies, or 0. So many entries can be judged.
+// The first refusal that applies, if one does. So many entries can be judged.
+#[tactic(auto, using(crate::proofs::StepLaws::settled_ranged), unfolding(judging::specs::Judge::refusal_on, judging::specs::Judge::range_refusals, judging::specs::Judge::out_of_reach, judging::specs::Judge::range_outside, judging::specs::Judge::few_slots, judging::specs::Judge::records_in, judging::specs::Judge::said_by, judging::specs::Calls::part_outside, tallies::specs::Answers::first_refusal, tallies::specs::Answers::refused_if, script::specs::Refusals::ok_unless))]
 pub fn refusal_of(
     next: usize,
     counts: Counts,
@@ -38,54 +39,35 @@ pub fn refusal_of(
     lists: &[[usize; 2]],
     places: usize,
     room: usize,
-) -> u64
-    ensures { refusal_by result ≡ refusal_on (lent_of text.now script [] expectations.now) (ltb entries number) r next counts places (asked_of number h bytes.now lists.now room) }
+) -> Result<(), Refusal>
+    ensures { result ≡ ok_unless (refusal_on (lent_of text.now script [] expectations.now) (ltb entries number) r next counts places (asked_of number h bytes.now lists.now room)) }
 {
-    let n = early(next, counts, number, entries, h);
-    if n != 0 {
-        return n;
+    if counts.over_limit() {
+        return Err(Refusal::from(Reason::CountTooHigh));
     }
-    if range_outside(script.counts.expectations, expectations.len(), r) {
-        return 31;
+    if wrong_number(next, number, entries, h) {
+        return Err(Refusal::from(Reason::WrongNumber));
     }
     let q = settled(r);
-    if all_in(text, expectations, q) {
-        if parts_in(h, bytes, lists) {
-            if few_slots(script.counts.expectations, places) {
-                return 35;
-            }
-            if all_fit(text, expectations, q, h, bytes, lists, room) {
-                return 0;
-            }
-            return 34;
-        }
-        return 32;
+    if range_outside(script.counts.expectations, expectations.len(), r)
+        || !all_in(text, expectations, q)
+    {
+        return Err(Refusal::from(Reason::ExpectationOutside));
     }
-    31
-}
-
-fn refused(next: usize, counts: Counts, number: u64) -> Step
-    ensures { result ≡ record { next = next; counts = counts; answer = Refused (refusal number 0) } }
-{
-    Step {
-        next,
-        counts,
-        answer: Answer::Refused(Refusal { number, line: 0 }),
+    if !parts_in(h, bytes, lists) {
+        return Err(Refusal::from(Reason::PartOutside));
     }
-}
-
-fn judged(number: usize, counts: Counts) -> Step
-    requires { number ≤ 0x8000 }
-    ensures { result ≡ record { next = number + 1; counts = counts; answer = Judged } }
-{
-    Step {
-        next: number + 1,
-        counts,
-        answer: Answer::Judged,
+    if few_slots(script.counts.expectations, places) {
+        return Err(Refusal::from(Reason::FewSlots));
     }
+    if !all_fit(text, expectations, q, h, bytes, lists, room) {
+        return Err(Refusal::from(Reason::ValueTooLong));
+    }
+    Ok(())
 }
 
 // The judging of a range.
+#[tactic(auto, using(crate::proofs::StepLaws::settled_ranged, crate::proofs::StepLaws::settled_written), unfolding(judging::specs::Judge::judged_on, judging::specs::Judge::judged_by, judging::specs::Judge::said_by, judging::specs::Judge::records_in, judging::specs::Calls::judged_or, judging::specs::Scratch::scratch_on, judging::specs::Scratch::overwritten_or, script::specs::Refusals::ok_unless))]
 pub fn judge_on(
     next: usize,
     counts: Counts,
@@ -106,7 +88,7 @@ pub fn judge_on(
     ensures verdicts_after { stepped result verdicts.new ≡ judged_on (lent_of text.now script [] expectations.now) (ltb entries number) r (record { next = next; counts = counts; verdicts = verdicts.old }) (asked_of number h bytes.now lists.now (length scratch.old)) }
     ensures scratch_after { scratch.new ≡ scratch_on (lent_of text.now script [] expectations.now) (ltb entries number) r (record { next = next; counts = counts; verdicts = verdicts.old }) (asked_of number h bytes.now lists.now (length scratch.old)) scratch.old }
 {
-    let n = refusal_of(
+    let tried = refusal_of(
         next,
         counts,
         text,
@@ -121,8 +103,12 @@ pub fn judge_on(
         verdicts.len(),
         scratch.len(),
     );
-    if n != 0 {
-        return refused(next, counts, n);
+    if let Err(refusal) = tried {
+        return Step {
+            next,
+            counts,
+            answer: Err(refusal),
+        };
     }
     let q = settled(r);
     let after = judge_range(
@@ -136,39 +122,20 @@ pub fn judge_on(
         scratch,
         counts,
     );
-    judged(number, after)
-}
-
-pub fn handshake_range(script: Script) -> Items
-    ensures { result ≡ script.preamble.expects }
-{
-    let preamble = script.preamble;
-    preamble.expects
-}
-
-fn expects_of(e: Entry) -> Items
-    ensures { result ≡ e.expects }
-{
-    e.expects
-}
-
-// Entries are numbered from 1.
-fn index_of(number: usize) -> usize
-    ensures { result ≡ number - 1 }
-{
-    if number == 0 {
-        return 0;
+    Step {
+        next: next + 1,
+        counts: after,
+        answer: Ok(Answer::Judged),
     }
-    number - 1
 }
 
-// The range of the entry of that number.
+// The range of the entry of that number; entries are numbered from 1.
 pub fn entry_range(entries: &[Entry], number: usize) -> Items
     ensures { result ≡ (get_or entries.now (number - 1) blank_entry).expects }
 {
-    let i = index_of(number);
+    let i = number.saturating_sub(1);
     if i < entries.len() {
-        return expects_of(entries[i]);
+        return entries[i].expects;
     }
     Items { first: 0, count: 0 }
 }

@@ -3,53 +3,29 @@ ghost use Rattle.std.specs.Prelude.{◌≡◌, map};
 ghost use Rattle.script.specs.Reading.{read_into};
 ghost use Rattle.written.specs.Written.{written_at};
 ghost use Rattle.tables.specs.Items.{item_of};
-ghost use Rattle.read.specs.Read.{answer_of, script_or, tables_or, lent_of};
+ghost use Rattle.read.specs.Read.{script_or, tables_or, lent_of};
 
 use entries::scripts::read_script;
-use fits::Fit;
-use parse::measure::Measured;
 use script::records::{Entry, Expectation, Refusal, Script};
 
-// What Read answers.
-#[derive(Clone, Copy)]
-pub enum Answer {
-    Refused(Refusal),
-    Read(Script),
-}
-
-// Reads a script into the lent tables: the used front of each holds the script's records, the rest is as it was. Measure's refusals, then 21 to 24: then
-// all is as it was.
+// Reads a script into the lent tables: the used front of each holds the script's records, the rest is as it was. Where Measure refuses, or a table is too
+// short, all is as it was.
 pub fn read(
     text: &[u8],
     entries: &mut [Entry],
     items: &mut [[usize; 2]],
     expectations: &mut [Expectation],
     store: &mut [u8],
-) -> Answer
-    ensures result_value { answer_of result ≡ script_or (read_into (lent_of entries.old items.old expectations.old store.old) text.now) }
+) -> Result<Script, Refusal>
+    ensures result_value { result ≡ script_or (read_into (lent_of entries.old items.old expectations.old store.old) text.now) }
     ensures entries_after { entries.new ≡ written_at 0 (tables_or (read_into (lent_of entries.old items.old expectations.old store.old) text.now)).entries entries.old }
     ensures after { items.new ≡ written_at 0 (map item_of (tables_or (read_into (lent_of entries.old items.old expectations.old store.old) text.now)).items) items.old }
     ensures expectations_after { expectations.new ≡ written_at 0 (tables_or (read_into (lent_of entries.old items.old expectations.old store.old) text.now)).expectations expectations.old }
     ensures store_after { store.new ≡ written_at 0 (tables_or (read_into (lent_of entries.old items.old expectations.old store.old) text.now)).store store.old }
 {
     let mut kept = [kept::blank(); 1024];
-    let measured = parse::measure::measure_keeping(text, &mut kept);
-    match measured {
-        Measured::Refused(r) => Answer::Refused(r),
-        Measured::Read(needed) => {
-            let lent = fits::lent_of(entries.len(), items.len(), expectations.len(), store.len());
-            match fits::room_for(needed, lent) {
-                Fit::Short(r) => Answer::Refused(r),
-                Fit::Enough => Answer::Read(read_script(
-                    text,
-                    &kept,
-                    needed,
-                    entries,
-                    items,
-                    expectations,
-                    store,
-                )),
-            }
-        }
-    }
+    let needed = parse::measure::measure_keeping(text, &mut kept)?;
+    let lent = fits::lent_of(entries.len(), items.len(), expectations.len(), store.len());
+    fits::room_for(needed, lent)?;
+    Ok(read_script(text, &kept, needed, entries, items, expectations, store))
 }

@@ -1,9 +1,9 @@
 -- Laws of the record of an entry's operation: what the code's answers come to. For `search` to use. Assumes nothing.
+use Rattle.std.specs.Prelude.{None, Option, Some}
 use Prim.Native.Nat.{ℕ, zero, suc, ◌+◌, ◌≤◌}
 use mathlib.Core.Path.{◌≡◌, refl, sym, ap, ◌∙◌}
 use mathlib.Core.Bool.{Bool, true, false}
 use mathlib.Core.List.{List}
-use mathlib.Core.Option.{Option, some}
 use Rattle.text.specs.Parts.{span, starts_with}
 use Rattle.text.specs.declared.parts.Span.{Span}
 use Rattle.text.proofs.LiteralLaws.{codes}
@@ -20,10 +20,8 @@ use Rattle.script.specs.declared.records.Options.{Options}
 use Rattle.script.specs.declared.records.OpCall.{OpCall}
 use Rattle.script.specs.declared.roles.Key.{Key}
 use Rattle.pieces.proofs.BehindLaws.{behind-none, behind-some, behind_in}
-use Rattle.said.specs.declared.said.Piece.{Piece}
-use Rattle.said.specs.declared.said.Piece.TheVariants.{Absent, Is}
 use Rattle.records.specs.declared.calls.Sizes.{Sizes}
-use Rattle.said.specs.Said.{piece_at, piece_of}
+use Rattle.said.specs.Said.{piece_at}
 use Rattle.records.specs.Records.{sized_at, framed_sized, options_record, garbage_record, verify_record, store_record, multiple_record, texts_record}
 
 -- ---- places and ranges: none is 0 and 0
@@ -58,16 +56,16 @@ pub ruleset empties = (place_none, place-some, range_none, range-some)
 -- ---- data: r and s are the answers of `pieces::begins`
 
 module _ (text : List ℕ) (v : Span) (b n : ℕ) (r : Bool) (e : r ≡ starts_with (codes "x\"") (bytes text v)) where
-  pub data_hex : (p : Place) → r ≡ true → p ≡ place_of b n → FramedData.Inline p ≡ framed_sized text (some v) b n
+  pub data_hex : (p : Place) → r ≡ true → p ≡ place_of b n → FramedData.Inline p ≡ framed_sized text (Some v) b n
   unfolding framed_sized sized_at data_of given_data framed first_of inline_of
   data_hex p t h = simp (behind-some text v "x\"" r e t, h)
 
   module _ (f : r ≡ false) (s : Bool) (d : s ≡ starts_with (codes "@file:") (bytes text v)) where
-    pub data_file : (p : Place) → s ≡ true → p ≡ place (span (v.start + 6) v.end) → FramedData.FileRef p ≡ framed_sized text (some v) b n
+    pub data_file : (p : Place) → s ≡ true → p ≡ place (span (v.start + 6) v.end) → FramedData.FileRef p ≡ framed_sized text (Some v) b n
     unfolding framed_sized sized_at data_of given_data framed first_of inline_of
     data_file p t h = simp (behind-none text v "x\"" r e f, behind-some text v "@file:" s d t, h)
 
-    pub data_neither : (p : Place) → s ≡ false → p ≡ place_of b n → FramedData.Inline p ≡ framed_sized text (some v) b n
+    pub data_neither : (p : Place) → s ≡ false → p ≡ place_of b n → FramedData.Inline p ≡ framed_sized text (Some v) b n
     unfolding framed_sized sized_at data_of given_data framed first_of inline_of
     data_neither p m h = simp (behind-none text v "x\"" r e f, behind-none text v "@file:" s d m, h)
 
@@ -96,14 +94,13 @@ options n1 n2 n3 n4 n5 n6 n7 n8 n9 n10 n11 n12 overrides = record {
 
 module _ (text starts ends : List ℕ) where
   -- p is the answer of `value_of`
-  module _ (b n : ℕ) (p : Piece) (e : piece_of p ≡ piece_at starts ends Key.Data) where
-    pub framed_absent : (q : Place) → p ≡ Absent → q ≡ place_of b n → FramedData.Inline q ≡ framed_sized text (piece_at starts ends Key.Data) b n
-    unfolding framed_sized sized_at data_of piece_of
+  module _ (b n : ℕ) (p : Option Span) (e : p ≡ piece_at starts ends Key.Data) where
+    pub framed_absent : (q : Place) → p ≡ None → q ≡ place_of b n → FramedData.Inline q ≡ framed_sized text (piece_at starts ends Key.Data) b n
+    unfolding framed_sized sized_at data_of
     framed_absent q h f = rw (← e, h, f)
 
-    pub framed_is : (v : Span) (d : FramedData) → p ≡ Is v → d ≡ framed_sized text (some v) b n → d ≡ framed_sized text (piece_at starts ends Key.Data) b n
-    unfolding piece_of
-    framed_is v d h f = f ∙ ap (λ (o : Option Span). framed_sized text o b n) (sym (ap piece_of h) ∙ e)
+    pub framed_is : (v : Span) (d : FramedData) → p ≡ Some v → d ≡ framed_sized text (Some v) b n → d ≡ framed_sized text (piece_at starts ends Key.Data) b n
+    framed_is v d h f = f ∙ ap (λ (o : Option Span). framed_sized text o b n) (sym h ∙ e)
 
   pub options_is : (n1 n2 n3 n4 n5 n6 n7 n8 n9 n10 n11 n12 : ℕ) (overrides : Items)
       → n1 ≡ number_of text (piece_at starts ends Key.KeepFailed)

@@ -1,8 +1,8 @@
 -- The record that the code computes is the one that the reading leaves. Assumes nothing.
+use Rattle.std.specs.Prelude.{None, Option, Some}
 use Prim.Native.Nat.{ℕ}
 use mathlib.Core.Path.{◌≡◌, refl, ap, ◌∙◌, fun_ext}
 use mathlib.Core.List.{List}
-use mathlib.Core.Option.{Option, none, some}
 use lib.ListN.{length}
 use Rattle.text.specs.declared.parts.Span.{Span}
 use Rattle.wire.specs.declared.ops.Op.{Op}
@@ -66,8 +66,8 @@ record_laid text sh op args value i b z ss h e =
 
 server_is : (text : List ℕ) (said : Option Span) (before : ℕ) → maybe_sized said before (length (or_none (features_in text said))) ≡ maybe_items before (features_in text said)
 unfolding maybe_sized features_in or_none maybe_items listed
-server_is text none before = refl
-server_is text (some v) before = refl
+server_is text None before = refl
+server_is text (Some v) before = refl
 
 -- with what its lines say, and with how many features and expectations it has, it is the preamble that the reading lays out
 pub preamble-is : (text : List ℕ) (ms : List Marked)

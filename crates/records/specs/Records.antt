@@ -1,7 +1,6 @@
 -- The record of one entry and that of the preamble, from what was said and from how many items and bytes that takes. `RecordLaws` shows that they are the
 -- records of the reading. Assumes nothing.
-use Rattle.std.specs.Prelude.{ℕ, ◌+◌, List, length}
-use Rattle.std.proofs.Math.Option.{Option, none, some}
+use Rattle.std.specs.Prelude.{ℕ, ◌+◌, List, length, None, Option, Some}
 use Rattle.text.specs.Base.{BLANK}
 use Rattle.text.specs.declared.parts.Span.{Span}
 use Rattle.wire.specs.declared.ops.Op.{Op}
@@ -11,7 +10,6 @@ use Rattle.script.specs.Values.{plain_rules, Framed, inline, file_ref}
 use Rattle.script.specs.Contents.{number_of, flag_of, rest_of, version_in, data_of, Call, SinglePath, SingleString, PathSet, PathSetFlag, PathSetMode, NoArgs, SetOptions, CollectGarbage, VerifyStore, AddPermRoot, AddSignatures, AddTextToStore, AddToStore, AddMultipleToStore, AddBuildLog, RegisterDrvOutput, QueryRealisation, QuerySubstitutablePathInfo, QuerySubstitutablePathInfos, RawBytes}
 use Rattle.script.specs.Layout.{range, stored_of, maybe}
 use Rattle.script.specs.declared.records.Items.{Items}
-use Rattle.script.specs.declared.records.MaybeItems.{MaybeItems}
 use Rattle.script.specs.declared.records.FramedData.{FramedData}
 use Rattle.script.specs.declared.records.Options.{Options}
 use Rattle.script.specs.declared.records.OpCall.{OpCall}
@@ -123,9 +121,9 @@ module _ (text : List ℕ) where
 -- ---- the record of the preamble
 
 -- n server features, where there is such a line, behind those of the client
-unfoldable pub maybe_sized : Option Span → (before n : ℕ) → MaybeItems
-maybe_sized none before n = MaybeItems.Absent
-maybe_sized (some v) before n = MaybeItems.Are (range before n)
+unfoldable pub maybe_sized : Option Span → (before n : ℕ) → Option Items
+maybe_sized None before n = None
+maybe_sized (Some v) before n = Some (range before n)
 
 unfoldable pub preamble_record : (text : List ℕ) → (value : Key → Option Span) → (features server expects : ℕ) → Preamble
 preamble_record text value features server expects = record {

@@ -1,6 +1,5 @@
 // Places, ranges and data of a record, from what was said and from how many items and bytes that takes.
-ghost use Rattle.std.specs.Prelude.{◌≡◌};
-ghost use Rattle.std.proofs.Math.Option.{some};
+ghost use Rattle.std.specs.Prelude.{◌≡◌, Some};
 ghost use Rattle.script.specs.Pieces.{place_of};
 ghost use Rattle.script.specs.Layout.{range};
 ghost use Rattle.script.specs.Inside.{In};
@@ -8,7 +7,6 @@ ghost use Rattle.script.specs.declared.roles.Key.TheVariants as Key;
 ghost use Rattle.said.specs.Said.{piece_at, SaidIn};
 ghost use Rattle.records.specs.Records.{framed_sized};
 
-use said::said::Piece;
 use script::records::{FramedData, Items, Place};
 use script::roles::Key;
 use text::parts::Span;
@@ -48,7 +46,7 @@ pub fn range_of(before: usize, n: usize) -> Items
 // Data that takes n bytes of the store, behind b of them; a file's name is a part of the text.
 fn data_in(text: &[u8], v: Span, b: usize, n: usize) -> FramedData
     requires { In text.now v }
-    ensures { result ≡ framed_sized text.now (some v) b n }
+    ensures { result ≡ framed_sized text.now (Some v) b n }
 {
     if pieces::pieces::begins(text, v, b"x\"") {
         return FramedData::Inline(placed(b, n));
@@ -69,7 +67,7 @@ pub fn framed_of(text: &[u8], starts: &[usize], ends: &[usize], b: usize, n: usi
     ensures { result ≡ framed_sized text.now (piece_at starts.now ends.now Key.Data) b n }
 {
     match said::said::value_of(starts, ends, Key::Data) {
-        Piece::Absent => FramedData::Inline(placed(b, n)),
-        Piece::Is(v) => data_in(text, v, b, n),
+        None => FramedData::Inline(placed(b, n)),
+        Some(v) => data_in(text, v, b, n),
     }
 }

@@ -5,21 +5,18 @@ use Prim.Native.String.{String}
 use mathlib.Core.Path.{◌≡◌, refl, sym, ap, ◌∙◌}
 use mathlib.Core.Bool.{Bool, true, false}
 use mathlib.Core.List.{List, [], ◌∷◌, ◌++◌}
-use mathlib.Core.Option.{Option, none, some}
 use native.Mathlib.Omega.{arith}
 use lib.Dec.{eqb}
 use lib.ListN.{length, get_or}
 use borrow.Author.Tests.{eq-eqb, ne_eqb}
-use Rattle.std.specs.Prelude.{if◌then◌else◌}
+use Rattle.std.specs.Prelude.{if◌then◌else◌, None, Option, Some}
 use Rattle.text.specs.Base.{◌&◌}
 use Rattle.text.specs.Parts.{span, starts_with, same_bytes}
 use Rattle.text.specs.declared.parts.Span.{Span}
 use Rattle.text.proofs.Scan.{rest_more, never}
 use Rattle.text.proofs.LiteralLaws.{codes, spells_as}
-use Rattle.version.specs.Version.{version, version_of}
+use Rattle.version.specs.Version.{version}
 use Rattle.version.specs.declared.ProtocolVersion.{ProtocolVersion}
-use Rattle.version.specs.declared.Version.{Version}
-use Rattle.version.specs.declared.Version.TheVariants as read
 use Rattle.script.specs.Answers.{first_of}
 use Rattle.script.specs.Pieces.{bytes, is_empty, is, begins, behind, trim}
 use Rattle.script.specs.Roles.{step, expect_role, behind_signs, version_role, saying, comment_role, protocol_role, word_role, preamble_expect, preamble_role, preamble_step}
@@ -30,6 +27,7 @@ use Rattle.script.specs.declared.roles.Role.{Role}
 use Rattle.script.specs.declared.roles.Role.TheVariants.{Nothing, Says, Bad}
 use Rattle.remarks.specs.PreambleSaid.{said}
 use Rattle.pieces.proofs.BehindLaws.{begins-is, behind-some, behind-none, one_front, front_begins, front_behind}
+use Rattle.script.specs.declared.refusals.Reason.TheVariants.{UnexpectedPreambleLine}
 
 -- ---- the signs at the front of a comment
 
@@ -70,8 +68,8 @@ module _ (text : List ℕ) (c : Span) (word : List ℕ) (k : Key) (r : Bool) (e 
 -- the only attempt, where those behind it fail
 only : {A : Type 0} (o : Option A) (os : List (Option A)) (last : A) → first_of os last ≡ last → first_of (o ∷ os) last ≡ first_of (o ∷ []) last
 unfolding first_of
-only none os last e = e
-only (some a) os last e = refl
+only None os last e = e
+only (Some a) os last e = refl
 
 said-is : (text : List ℕ) (c : Span) (w : String) (k : Key) (b : Bool) → b ≡ starts_with (codes w) (bytes text c) → said text c (codes w) k ≡ first_of (saying text k (behind text w c) ∷ []) Nothing
 unfolding said saying first_of
@@ -108,7 +106,7 @@ module _ (text : List ℕ) (t : Span) (start : ℕ) (e : start ≡ behind_signs 
   comment_daemon d r h =
       h
       ∙ said-is text c "daemon:" Key.DaemonVersion (starts_with (codes "daemon:") (bytes text c)) refl
-      ∙ sym (only (saying text Key.DaemonVersion (behind text "daemon:" c)) (none ∷ none ∷ []) Nothing refl)
+      ∙ sym (only (saying text Key.DaemonVersion (behind text "daemon:" c)) (None ∷ None ∷ []) Nothing refl)
       ∙ (rw (front_behind text c 100 (sym d ∙ g) "trust:" refl, front_behind text c 100 (sym d ∙ g) "server_features:" refl) at comment_in_lem)
 
   pub comment_trust : x ≡ 116 → (r : Role) → r ≡ said text c (codes "trust:") Key.TrustStatus → r ≡ comment_role text t
@@ -116,7 +114,7 @@ module _ (text : List ℕ) (t : Span) (start : ℕ) (e : start ≡ behind_signs 
   comment_trust d r h =
       h
       ∙ said-is text c "trust:" Key.TrustStatus (starts_with (codes "trust:") (bytes text c)) refl
-      ∙ sym (only (saying text Key.TrustStatus (behind text "trust:" c)) (none ∷ []) Nothing refl)
+      ∙ sym (only (saying text Key.TrustStatus (behind text "trust:" c)) (None ∷ []) Nothing refl)
       ∙ (rw (front_behind text c 116 (sym d ∙ g) "daemon:" refl, front_behind text c 116 (sym d ∙ g) "server_features:" refl) at comment_in_lem)
 
   pub comment_features : x ≡ 115 → (r : Role) → r ≡ said text c (codes "server_features:") Key.ServerFeatures → r ≡ comment_role text t
@@ -128,18 +126,18 @@ module _ (text : List ℕ) (t : Span) (start : ℕ) (e : start ≡ behind_signs 
 
 -- ---- versions and words
 
-module _ (text : List ℕ) (v : Span) (a : Version) (q : version_of a ≡ version (bytes text v)) where
-  pub version-read : (w : ProtocolVersion) → a ≡ read.Read w → Says (Known Key.Protocol v) ≡ version_role (version (bytes text v)) v
-  unfolding version_of version_role
+module _ (text : List ℕ) (v : Span) (a : Option ProtocolVersion) (q : a ≡ version (bytes text v)) where
+  pub version-read : (w : ProtocolVersion) → a ≡ Some w → Says (Known Key.Protocol v) ≡ version_role (version (bytes text v)) v
+  unfolding version_role
   version-read w e = rw (← q, e)
 
-  pub version-bad : a ≡ read.Bad → Nothing ≡ version_role (version (bytes text v)) v
-  unfolding version_of version_role
+  pub version-bad : a ≡ None → Nothing ≡ version_role (version (bytes text v)) v
+  unfolding version_role
   version-bad e = rw (← q, e)
 
 module _ (text : List ℕ) (t : Span) where
   module _ (x : get_or (bytes text t) 0 0 ≡ 112) (b : Bool) (e : b ≡ starts_with (codes "protocol:") (bytes text t)) where
-    pub no_protocol : b ≡ false → Bad 3 ≡ word_role text t
+    pub no_protocol : b ≡ false → Bad UnexpectedPreambleLine ≡ word_role text t
     unfolding word_role protocol_role saying first_of
     no_protocol f = rw (behind-none text t "protocol:" b e f, front_behind text t 112 (sym x) "features:" refl)
 
@@ -148,12 +146,12 @@ module _ (text : List ℕ) (t : Span) where
     a_protocol y v k r h = rw (behind-some text t "protocol:" b e y, ← k, h)
 
   module _ (x : ℕ) (g : x ≡ get_or (bytes text t) 0 0) where
-    pub no_word : (x ≡ 112 → ⊥) → (x ≡ 102 → ⊥) → Bad 3 ≡ word_role text t
+    pub no_word : (x ≡ 112 → ⊥) → (x ≡ 102 → ⊥) → Bad UnexpectedPreambleLine ≡ word_role text t
     unfolding word_role protocol_role saying first_of
     no_word p f = rw (front_behind text t x g "protocol:" (ne_eqb x 112 p), front_behind text t x g "features:" (ne_eqb x 102 f))
 
     module _ (p : x ≡ 112 → ⊥) (b : Bool) (e : b ≡ starts_with (codes "features:") (bytes text t)) where
-      pub no_features : b ≡ false → Bad 3 ≡ word_role text t
+      pub no_features : b ≡ false → Bad UnexpectedPreambleLine ≡ word_role text t
       unfolding word_role protocol_role saying first_of
       no_features f = rw (front_behind text t x g "protocol:" (ne_eqb x 112 p), behind-none text t "features:" b e f)
 
@@ -173,7 +171,7 @@ module _ (text : List ℕ) (t : Span) (b : Bool) (e : b ≡ starts_with (codes "
     unfolding preamble_expect
     expect_colon y r h = rw (begins-is text t "expect " b e ∙ n, begins-is text t "expect:" b₂ e₂ ∙ y, h)
 
-    pub expect_other : b₂ ≡ false → Bad 3 ≡ preamble_expect text t
+    pub expect_other : b₂ ≡ false → Bad UnexpectedPreambleLine ≡ preamble_expect text t
     unfolding preamble_expect
     expect_other f = rw (begins-is text t "expect " b e ∙ n, begins-is text t "expect:" b₂ e₂ ∙ f)
 

@@ -18,15 +18,12 @@ fn behind_signs(text: &[u8], t: Span) -> usize
     ensures value { result ≡ behind_signs t.start (bytes text.now t) }
     ensures fact { In text.now (span result t.end) }
 {
-    let end = t.end;
-    let mut i = t.start;
-    while i < end {
+    for i in t.start..t.end {
         if text[i] != b'#' {
             return i;
         }
-        i += 1;
     }
-    i
+    t.end
 }
 
 // What a comment says that begins with the key's word, or nothing.

@@ -4,10 +4,8 @@
 #![tactic(auto)]
 
 ghost use Rattle.std.specs.Prelude.{◌+◌, ◌≤◌, length};
-ghost use Rattle.std.specs.Io.{ReadsAtMost};
 
 use std::io;
-use std::io::Read;
 
 // What a line of the input came to.
 #[derive(Clone, Copy)]
@@ -270,24 +268,9 @@ fn say(rt: &impl Print, words: &[u8], n: u64) -> io::Result<()> {
     rt.print(n)
 }
 
-// Reads until the room is full or the input ends: how many bytes stand at the front of the room.
-fn read_full(input: &mut impl Read, room: &mut [u8]) -> io::Result<usize>
-    ensures { ReadsAtMost result room.new }
-{
-    let mut done = 0;
-    while done < room.len() {
-        let n = input.read(&mut room[done..])?;
-        if n == 0 {
-            break;
-        }
-        done += n;
-    }
-    Ok(done)
-}
-
 fn main(rt: HostRuntime) -> io::Result<()> {
     let mut input = [0u8; 65536];
-    let n = read_full(&mut rt.stdin(), &mut input)?;
+    let n = inputs::read_full(&mut rt.stdin(), &mut input)?;
     let mut codes = [0xFFFF_FFFFu32; 32];
     let tally = read_cases(&input[..n], &mut codes);
     say(&rt, b"white space ", tally.white as u64)?;

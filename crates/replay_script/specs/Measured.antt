@@ -1,9 +1,8 @@
 -- Whether Measure answers what is stored. On a line, behind the word `measure`: the refusal's number or 0, its line, entries, items, expectations, store
 -- bytes; and the text in hex. Assumes nothing.
-use Rattle.std.specs.Prelude.{ℕ, List, eqb, get_or, drop, if◌then◌else◌}
-use Rattle.std.proofs.Math.Option.{Option, none, some}
+use Rattle.std.specs.Prelude.{ℕ, List, eqb, get_or, drop, if◌then◌else◌, None, Option, Some}
 use Rattle.text.specs.Trim.{trimmed}
-use Rattle.script.specs.Reading.{Parsed, measured}
+use Rattle.script.specs.Reading.{measured, Parsed}
 use Rattle.script.specs.declared.records.Counts.{Counts}
 use Rattle.fields.specs.Fields.{after, numbers_at, hex_for}
 use Rattle.cases.specs.Answers.{answer, matched}
@@ -17,8 +16,8 @@ replayed p stored =
     if matched p stored then (if eqb stored.number 0 then Read else Refused) else Wrong
 
 unfoldable pub replayed_text : Option (List ℕ) → Answer → Case
-replayed_text none stored = Wrong
-replayed_text (some text) stored = replayed (measured text) stored
+replayed_text None stored = Wrong
+replayed_text (Some text) stored = replayed (measured text) stored
 
 -- the six numbers of a line
 abbrev pub answer_by : List ℕ → Answer

@@ -2,10 +2,8 @@
 // message. The numbers are 0 for the handshake or 1 for an entry, the verdict's number, the rows of the expectation and of what it is judged against, and a table of places.
 ghost use Rattle.std.specs.Prelude.{◌≡◌, ◌≤◌, length};
 ghost use Rattle.replayed.specs.Told.{table_of};
-ghost use Rattle.replay_script.specs.Judged.{entry_says, handshake_says, says, message_agreed, bytes_agreed, text_agreed, matcher_agreed, agreed};
+ghost use Rattle.replay_script.specs.Judged.{entry_says, handshake_says, says, message_agreed, bytes_agreed, text_agreed, agreed};
 
-use fields::bytes::BytesAt;
-use fields::numbers::{IntegerAt, NumbersAt};
 use replayed::judged::{is_told, of_handshake, table_of};
 
 fn entry_says(
@@ -62,6 +60,7 @@ fn handshake_says(
     is_told(t, n[1], &left, message)
 }
 
+#[tactic(auto, unfolding(crate::specs::Judged::says))]
 fn is_said(n: [u64; 39], m: i64, text: &[u8], bytes: &[u8], message: &[u8]) -> bool
     ensures { result ≡ says n m text.now bytes.now message.now }
 {
@@ -73,60 +72,56 @@ fn is_said(n: [u64; 39], m: i64, text: &[u8], bytes: &[u8], message: &[u8]) -> b
 }
 
 // The message of a line.
+#[tactic(auto, unfolding(crate::specs::Judged::message_agreed, fields::specs::Fields::after), using(fields::proofs::FieldLaws::field_laws))]
 fn message_agrees(line: &[u8], from: usize, n: [u64; 39], m: i64, text: &[u8], bytes: &[u8]) -> bool
     requires { from ≤ length line.now }
     ensures { result ≡ message_agreed line.now from n m text.now bytes.now }
 {
     let mut room = [0u8; 256];
-    let BytesAt::Are(len, _) = fields::bytes::bytes_at(line, from, &mut room) else {
+    let Some(message) = fields::bytes::bytes_at(line, from, &mut room) else {
         return false;
     };
-    is_said(n, m, text, bytes, &room[..len])
+    is_said(n, m, text, bytes, &room[..message.value])
 }
 
 // The bytes and the message.
+#[tactic(auto, unfolding(crate::specs::Judged::bytes_agreed, fields::specs::Fields::after), using(fields::proofs::FieldLaws::field_laws))]
 fn bytes_agree(line: &[u8], from: usize, n: [u64; 39], m: i64, text: &[u8]) -> bool
     requires { from ≤ length line.now }
     ensures { result ≡ bytes_agreed line.now from n m text.now }
 {
     let mut room = [0u8; 256];
-    let BytesAt::Are(len, end) = fields::bytes::bytes_at(line, from, &mut room) else {
+    let Some(bytes) = fields::bytes::bytes_at(line, from, &mut room) else {
         return false;
     };
-    message_agrees(line, end, n, m, text, &room[..len])
+    message_agrees(line, bytes.end, n, m, text, &room[..bytes.value])
 }
 
 // The text, the bytes and the message.
+#[tactic(auto, unfolding(crate::specs::Judged::text_agreed, fields::specs::Fields::after), using(fields::proofs::FieldLaws::field_laws))]
 fn text_agrees(line: &[u8], from: usize, n: [u64; 39], m: i64) -> bool
     requires { from ≤ length line.now }
     ensures { result ≡ text_agreed line.now from n m }
 {
     let mut room = [0u8; 256];
-    let BytesAt::Are(len, end) = fields::bytes::bytes_at(line, from, &mut room) else {
+    let Some(text) = fields::bytes::bytes_at(line, from, &mut room) else {
         return false;
     };
-    bytes_agree(line, end, n, m, &room[..len])
-}
-
-// The matcher's number, and what follows it.
-fn matcher_agrees(line: &[u8], from: usize, n: [u64; 39]) -> bool
-    requires { from ≤ length line.now }
-    ensures { result ≡ matcher_agreed line.now from n }
-{
-    let IntegerAt::Value(m, end) = fields::numbers::integer_at(line, from) else {
-        return false;
-    };
-    text_agrees(line, end, n, m)
+    bytes_agree(line, text.end, n, m, &room[..text.value])
 }
 
 // Whether Message says what a line does from a place on.
+#[tactic(auto, unfolding(crate::specs::Judged::agreed, crate::specs::Judged::matcher_agreed, fields::specs::Fields::after), using(fields::proofs::FieldLaws::field_laws))]
 pub fn agrees(line: &[u8], from: usize) -> bool
     requires { from ≤ length line.now }
     ensures { result ≡ agreed line.now from }
 {
     let mut n = [0u64; 39];
-    let NumbersAt::End(end) = fields::numbers::numbers_at(line, from, &mut n) else {
+    let Some(end) = fields::numbers::numbers_at(line, from, &mut n) else {
         return false;
     };
-    matcher_agrees(line, end, n)
+    let Some(matcher) = fields::numbers::integer_at(line, end) else {
+        return false;
+    };
+    text_agrees(line, matcher.end, n, matcher.value)
 }

@@ -6,7 +6,6 @@
 #![tactic(auto)]
 
 ghost use Rattle.std.specs.Prelude.{◌≡◌, ◌≤◌, length};
-ghost use Rattle.std.specs.Io.{ReadsAtMost};
 ghost use Rattle.cases.specs.Cases.{total};
 ghost use Rattle.replay_script.specs.Answers.{read_replayed, judged_replayed, line_replayed};
 ghost use Rattle.replay_script.specs.Tallies.{all_counted};
@@ -20,6 +19,7 @@ use std::io;
 use std::io::Read;
 
 // What follows the word `read`.
+#[tactic(auto, unfolding(crate::specs::Answers::read_replayed))]
 fn replay_read(line: &[u8], from: usize) -> Case
     requires { from ≤ length line.now }
     ensures { result ≡ read_replayed line.now from }
@@ -31,6 +31,7 @@ fn replay_read(line: &[u8], from: usize) -> Case
 }
 
 // What follows the word `judged`.
+#[tactic(auto, unfolding(crate::specs::Answers::judged_replayed))]
 fn replay_judged(line: &[u8], from: usize) -> Case
     requires { from ≤ length line.now }
     ensures { result ≡ judged_replayed line.now from }
@@ -41,20 +42,20 @@ fn replay_judged(line: &[u8], from: usize) -> Case
     Case::Wrong
 }
 
+#[tactic(auto, unfolding(crate::specs::Answers::line_replayed), using(text::proofs::LiteralLaws::spells_as, text::proofs::WordLaws::word_places))]
 fn replay_line(line: &[u8]) -> Case
     ensures { result ≡ line_replayed line.now }
 {
     let w = words::word_at(line, 0);
-    let start = w.start;
-    let end = w.end;
-    if text::parts::same(&line[start..end], b"measure") {
-        return measured::replay_measure(line, end);
+    let word = &line[w.start..w.end];
+    if text::parts::same(word, b"measure") {
+        return measured::replay_measure(line, w.end);
     }
-    if text::parts::same(&line[start..end], b"read") {
-        return replay_read(line, end);
+    if text::parts::same(word, b"read") {
+        return replay_read(line, w.end);
     }
-    if text::parts::same(&line[start..end], b"judged") {
-        return replay_judged(line, end);
+    if text::parts::same(word, b"judged") {
+        return replay_judged(line, w.end);
     }
     Case::Wrong
 }
@@ -84,27 +85,12 @@ fn replay_all(input: &[u8]) -> Tally
     tally
 }
 
-// Reads until the room is full or the input ends: how many bytes stand at the front of the room.
-fn read_full(input: &mut impl Read, room: &mut [u8]) -> io::Result<usize>
-    ensures { ReadsAtMost result room.new }
-{
-    let mut done = 0;
-    while done < room.len() {
-        let n = input.read(&mut room[done..])?;
-        if n == 0 {
-            break;
-        }
-        done += n;
-    }
-    Ok(done)
-}
-
 // An input that does not fit is not replayed to its end: that is one case wrong.
 fn with_unread(input: &mut impl Read, tally: Tally) -> io::Result<Tally>
     requires { total tally ≤ 0x100000 }
 {
     let mut beyond = [0u8; 1];
-    if read_full(input, &mut beyond)? == 0 {
+    if inputs::read_full(input, &mut beyond)? == 0 {
         return Ok(tally);
     }
     Ok(tally.with(Case::Wrong))
@@ -123,7 +109,7 @@ fn room() -> [u8; 0x100000] {
 fn main(rt: HostRuntime) -> io::Result<()> {
     let mut stdin = rt.stdin();
     let mut input = room();
-    let n = read_full(&mut stdin, &mut input)?;
+    let n = inputs::read_full(&mut stdin, &mut input)?;
     let tally = with_unread(&mut stdin, replay_all(&input[..n]))?;
     say(&rt, b"read ", tally.read)?;
     say(&rt, b"\nrefused ", tally.refused)?;

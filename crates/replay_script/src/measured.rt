@@ -4,10 +4,9 @@ ghost use Rattle.script.specs.Reading.{measured};
 ghost use Rattle.replay_script.specs.Measured.{replayed, hex_replayed, measure_replayed};
 
 use cases::{Answer, Case, agrees};
-use fields::bytes::Bytes;
-use fields::numbers::NumbersAt;
 
 // A text and its stored answer.
+#[tactic(auto, unfolding(crate::specs::Measured::replayed))]
 fn replay(text: &[u8], stored: Answer) -> Case
     ensures { result ≡ replayed (measured text.now) stored }
 {
@@ -21,22 +20,24 @@ fn replay(text: &[u8], stored: Answer) -> Case
 }
 
 // A text in hex, which is decoded into the room lent, and its stored answer.
+#[tactic(auto, unfolding(crate::specs::Measured::hex_replayed, crate::specs::Measured::replayed_text), using(fields::proofs::FieldLaws::byte_bound))]
 fn replay_hex(hex: &[u8], room: &mut [u8], stored: Answer) -> Case
     ensures { result ≡ hex_replayed (length room.old) hex.now stored }
 {
-    let Bytes::Are(n) = fields::bytes::decode(hex, room) else {
+    let Some(n) = fields::bytes::decode(hex, room) else {
         return Case::Wrong;
     };
     replay(&room[..n], stored)
 }
 
 // What follows the word `measure`: six numbers, and the rest of the line is the text.
+#[tactic(auto, unfolding(crate::specs::Measured::measure_replayed, fields::specs::Fields::after), using(fields::proofs::FieldLaws::field_laws, fields::proofs::FieldLaws::rest_of))]
 pub fn replay_measure(line: &[u8], from: usize) -> Case
     requires { from ≤ length line.now }
     ensures { result ≡ measure_replayed line.now from }
 {
     let mut n = [0u64; 6];
-    let NumbersAt::End(end) = fields::numbers::numbers_at(line, from, &mut n) else {
+    let Some(end) = fields::numbers::numbers_at(line, from, &mut n) else {
         return Case::Wrong;
     };
     let stored = Answer {

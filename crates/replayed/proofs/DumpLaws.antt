@@ -1,9 +1,9 @@
 -- The laws of a dump on a line: a number in front, and the numbers one after another. Assumes nothing.
+use Rattle.std.specs.Prelude.{None, Option, Some}
 use Prim.Native.Nat.{ℕ, ◌+◌, ◌-◌, ◌^◌, ◌≤◌, ◌<◌}
-use mathlib.Core.Path.{◌≡◌, refl, sym, ap, ◌∙◌}
+use mathlib.Core.Path.{◌≡◌, refl, sym, ◌∙◌}
 use mathlib.Core.Bool.{Bool, true, false}
 use mathlib.Core.List.{List, [], ◌∷◌}
-use mathlib.Core.Option.{Option, none, some}
 use native.Mathlib.Omega.{arith}
 use lib.Dec.{eqb}
 use lib.ListN.{length, take, drop, length-drop}
@@ -15,25 +15,13 @@ use Rattle.text.specs.Words.{words_from, word_at}
 use Rattle.text.specs.declared.parts.Span.{Span}
 use Rattle.text.proofs.Scan.{rest-none, both, never}
 use Rattle.text.proofs.WordLaws.{words_at, known}
-use Rattle.values.specs.Numbers.{number, number_of}
-use Rattle.values.specs.declared.number.Number.{Number}
+use Rattle.values.specs.Numbers.{number}
 use Rattle.numbers.specs.Numbers.{low_bytes, bytes_of}
 use Rattle.fields.specs.Fields.{word_bytes}
 use Rattle.fields.proofs.FieldLaws.{rest_of}
 use Rattle.replayed.specs.Dumps.{in_front, is_dump}
 
 -- ---- a number in front
-
-module _ (word found : List ℕ) (n : Number) (q : number_of n ≡ number (2 ^ 64) word) where
-  pub no_number : n ≡ Number.Bad → false ≡ in_front (number (2 ^ 64) word) found
-  unfolding in_front number_of
-  no_number r = rw (← q, r)
-
-  pub number-in_front : (v : ℕ) (bytes : List ℕ) (b : Bool) → n ≡ Number.Value v → bytes ≡ bytes_of v → b ≡ starts_with bytes found → b ≡ in_front (number (2 ^ 64) word) found
-  unfolding in_front number_of
-  number-in_front v bytes b r e s = rw (← q, r) (s ∙ ap (λ (l : List ℕ). starts_with l found) e)
-
-pub ruleset front_laws = (no_number, number-in_front)
 
 front_long : (prefix s : List ℕ) → starts_with prefix s ≡ true → length prefix ≤ length s
 unfolding starts_with
@@ -43,8 +31,8 @@ front_long (p ∷ prefix) (x ∷ s) e = omega (arith, front_long prefix s (both 
 
 eight : (o : Option ℕ) (found : List ℕ) → in_front o found ≡ true → 8 ≤ length found
 unfolding in_front bytes_of low_bytes
-eight none found e = never (sym e)
-eight (some n) found e = front_long (bytes_of n) found e
+eight None found e = never (sym e)
+eight (Some n) found e = front_long (bytes_of n) found e
 
 -- ---- numbers, one after another
 

@@ -1,2 +1,1 @@
 pub mod DumpLaws
-pub mod ToldLaws

@@ -4,13 +4,12 @@ ghost use Rattle.text.proofs.WordLaws.{words_at};
 ghost use Rattle.values.specs.Numbers.{number};
 ghost use Rattle.replayed.specs.Dumps.{in_front, is_dump};
 
-use values::number::Number;
-
 // Whether the number that a word spells is found in front.
+#[tactic(auto, unfolding(crate::specs::Dumps::in_front))]
 fn is_in_front(word: &[u8], found: &[u8]) -> bool
     ensures { result ≡ in_front (number (2 ^ 64) word.now) found.now }
 {
-    let Number::Value(n) = values::number::parse_u64(word) else {
+    let Some(n) = values::number::parse_up_to(word, u64::MAX) else {
         return false;
     };
     let bytes = numbers::bytes::bytes_of(n);

@@ -3,6 +3,7 @@
 ghost use Rattle.std.specs.Prelude.{◌≡◌};
 ghost use Rattle.replayed.specs.Told.{of_handshake, table_of, written_as};
 
+use script::records::Refusal;
 use told::Told;
 
 pub fn of_handshake(n: [u64; 39]) -> bool
@@ -12,6 +13,7 @@ pub fn of_handshake(n: [u64; 39]) -> bool
 }
 
 // The table of places.
+#[tactic(auto, unfolding(crate::specs::Told::table_of))]
 pub fn table_of(n: [u64; 39]) -> [[usize; 2]; 6]
     ensures { result ≡ table_of n }
 {
@@ -26,19 +28,18 @@ pub fn table_of(n: [u64; 39]) -> [[usize; 2]; 6]
 }
 
 // Whether Message answered with this verdict, and left this message.
-pub fn is_told(t: Told, verdict: u64, left: &[u8], message: &[u8]) -> bool
+#[tactic(auto, unfolding(crate::specs::Told::written_as))]
+pub fn is_told(t: Result<Told, Refusal>, verdict: u64, left: &[u8], message: &[u8]) -> bool
     ensures { result ≡ written_as t verdict left.now message.now }
 {
-    match t {
-        Told::Refused(_) => false,
-        Told::Says(v, n) => {
-            if left.len() < n {
-                return false;
-            }
-            if verdicts::code_of(v) as u64 != verdict {
-                return false;
-            }
-            text::parts::same(&left[..n], message)
-        }
+    let Ok(told) = t else {
+        return false;
+    };
+    if left.len() < told.len {
+        return false;
     }
+    if u8::from(told.verdict) as u64 != verdict {
+        return false;
+    }
+    text::parts::same(&left[..told.len], message)
 }

@@ -7,7 +7,7 @@ ghost use Rattle.script.specs.declared.response.ResultData.TheVariants.{PathInfo
 
 use fits::room;
 use places::{inside, maybe_in, place_in};
-use script::records::{Items, MaybeItems};
+use script::records::Items;
 use script::response::{DaemonResponse, HandshakeInfo, PathInfoResult, ResultData};
 
 // The texts from the record at first on, count of them, lie inside n bytes.
@@ -38,12 +38,12 @@ pub fn list_in(n: usize, lists: &[[usize; 2]], r: Items) -> bool
     false
 }
 
-pub fn maybe_list_in(n: usize, lists: &[[usize; 2]], m: MaybeItems) -> bool
+pub fn maybe_list_in(n: usize, lists: &[[usize; 2]], m: Option<Items>) -> bool
     ensures { result ≡ Held.maybe_list_in n lists.now m }
 {
     match m {
-        MaybeItems::Absent => true,
-        MaybeItems::Are(r) => list_in(n, lists, r),
+        None => true,
+        Some(r) => list_in(n, lists, r),
     }
 }
 

@@ -3,8 +3,7 @@ use Prim.Native.Nat.{ℕ}
 use mathlib.Core.Path.{◌≡◌, refl, sym, ap, ◌∙◌}
 use mathlib.Core.Bool.{Bool, true, false}
 use mathlib.Core.List.{List}
-use mathlib.Core.Option.{Option, none, some}
-use Rattle.std.specs.Prelude.{if◌then◌else◌}
+use Rattle.std.specs.Prelude.{if◌then◌else◌, None, Option, Some}
 use Rattle.text.specs.Parts.{starts_with}
 use Rattle.text.specs.declared.parts.Span.{Span}
 use Rattle.text.proofs.LiteralLaws.{codes}
@@ -21,27 +20,27 @@ use Rattle.script.specs.declared.roles.Saying.TheVariants.{Known}
 use Rattle.script.specs.declared.roles.Role.TheVariants.{Says, Bad}
 use Rattle.script.specs.Inside.{In}
 use Rattle.arguments.specs.ArgumentRead.{SayingIn}
-use Rattle.roles.specs.BlockRead.{kind_of, refused_of}
+use Rattle.roles.specs.BlockRead.{kind_of}
 use Rattle.roles.specs.declared.blocks.ValueKind.{ValueKind}
 use Rattle.roles.specs.declared.blocks.ValueKind.TheVariants.{Set, Data, Overrides, Other}
-use Rattle.roles.specs.declared.blocks.Refused.{Refused}
-use Rattle.roles.specs.declared.blocks.Refused.TheVariants.{No, By}
 use Rattle.pieces.proofs.BehindLaws.{behind-some, behind-none}
+use Rattle.script.specs.declared.refusals.Reason.{Reason}
+use Rattle.script.specs.declared.refusals.Reason.TheVariants.{BraceNotClosed, DataUnknown}
 
 -- ---- data: r and q are the answers of `pieces::begins`
 
 module _ (text : List ℕ) (v : Span) (r : Bool) (e : r ≡ starts_with (codes "x\"") (bytes text v)) where
-  pub data_hex : r ≡ true → refused_of No ≡ refusal_in (framed plain_rules text v)
-  unfolding refused_of refusal_in framed first_of inline_of
+  pub data_hex : r ≡ true → None ≡ refusal_in (framed plain_rules text v)
+  unfolding refusal_in framed first_of inline_of
   data_hex y = simp (behind-some text v "x\"" r e y)
 
   module _ (n : r ≡ false) (q : Bool) (d : q ≡ starts_with (codes "@file:") (bytes text v)) where
-    pub data_file : q ≡ true → refused_of No ≡ refusal_in (framed plain_rules text v)
-    unfolding refused_of refusal_in framed first_of inline_of
+    pub data_file : q ≡ true → None ≡ refusal_in (framed plain_rules text v)
+    unfolding refusal_in framed first_of inline_of
     data_file y = simp (behind-none text v "x\"" r e n, behind-some text v "@file:" q d y)
 
-    pub data_neither : q ≡ false → refused_of (By 11) ≡ refusal_in (framed plain_rules text v)
-    unfolding refused_of refusal_in framed first_of inline_of
+    pub data_neither : q ≡ false → Some DataUnknown ≡ refusal_in (framed plain_rules text v)
+    unfolding refusal_in framed first_of inline_of
     data_neither m = simp (behind-none text v "x\"" r e n, behind-none text v "@file:" q d m)
 
 pub ruleset data_words = (data_hex, data_file, data_neither)
@@ -49,11 +48,11 @@ pub ruleset data_words = (data_hex, data_file, data_neither)
 -- ---- a key's value: w is the answer of `value_kind`
 
 module _ (text : List ℕ) (v : Span) (w : ValueKind) where
-  refuses : ValueKind → Option ℕ
-  refuses Set = if not_closed text v then some 10 else none
+  refuses : ValueKind → Option Reason
+  refuses Set = if not_closed text v then Some BraceNotClosed else None
   refuses Data = refusal_in (framed plain_rules text v)
-  refuses Overrides = none
-  refuses Other = none
+  refuses Overrides = None
+  refuses Other = None
 
   by_kind : (k : Kind) → refuses (kind_of k) ≡ refusal_of_kind plain_rules text k v
   unfolding refuses kind_of refusal_of_kind refusal_in
@@ -69,24 +68,24 @@ module _ (text : List ℕ) (v : Span) (w : ValueKind) where
   by_kind a_text = refl
 
   module _ (k : Kind) (e : w ≡ kind_of k) where
-    pub set_open : (r : Bool) → w ≡ Set → r ≡ not_closed text v → r ≡ true → refused_of (By 10) ≡ refusal_of_kind plain_rules text k v
-    unfolding refused_of refuses
+    pub set_open : (r : Bool) → w ≡ Set → r ≡ not_closed text v → r ≡ true → Some BraceNotClosed ≡ refusal_of_kind plain_rules text k v
+    unfolding refuses
     set_open r h q y = simp (← q, y) at (ap refuses (sym h ∙ e) ∙ by_kind k)
 
-    pub set_closed : (r : Bool) → w ≡ Set → r ≡ not_closed text v → r ≡ false → refused_of No ≡ refusal_of_kind plain_rules text k v
-    unfolding refused_of refuses
+    pub set_closed : (r : Bool) → w ≡ Set → r ≡ not_closed text v → r ≡ false → None ≡ refusal_of_kind plain_rules text k v
+    unfolding refuses
     set_closed r h q n = simp (← q, n) at (ap refuses (sym h ∙ e) ∙ by_kind k)
 
-    pub data_told : (f : Refused) → w ≡ Data → refused_of f ≡ refusal_in (framed plain_rules text v) → refused_of f ≡ refusal_of_kind plain_rules text k v
+    pub data_told : (f : Option Reason) → w ≡ Data → f ≡ refusal_in (framed plain_rules text v) → f ≡ refusal_of_kind plain_rules text k v
     unfolding refuses
     data_told f h q = q ∙ ap refuses (sym h ∙ e) ∙ by_kind k
 
-    pub list_fine : w ≡ Overrides → refused_of No ≡ refusal_of_kind plain_rules text k v
-    unfolding refused_of refuses
+    pub list_fine : w ≡ Overrides → None ≡ refusal_of_kind plain_rules text k v
+    unfolding refuses
     list_fine h = ap refuses (sym h ∙ e) ∙ by_kind k
 
-    pub other_fine : w ≡ Other → refused_of No ≡ refusal_of_kind plain_rules text k v
-    unfolding refused_of refuses
+    pub other_fine : w ≡ Other → None ≡ refusal_of_kind plain_rules text k v
+    unfolding refuses
     other_fine h = ap refuses (sym h ∙ e) ∙ by_kind k
 
 pub ruleset value-words = (set_open, set_closed, data_told, list_fine, other_fine)
@@ -137,7 +136,7 @@ module _ (text : List ℕ) (s : Saying) (k : Key) (v : Span) (e : s ≡ Known k 
   pub known_in : SayingIn text s → In text v
   known_in i = rw e at i
 
-  pub known_refused : (f : Refused) → refused_of f ≡ refusal_of_kind plain_rules text (key_row k).kind v → refused_of f ≡ refusal_of plain_rules text s
+  pub known_refused : (f : Option Reason) → f ≡ refusal_of_kind plain_rules text (key_row k).kind v → f ≡ refusal_of plain_rules text s
   unfolding refusal_of
   known_refused f q = q ∙ rw e
 
@@ -146,13 +145,13 @@ known_after takes s k v next e q = q ∙ ap (after_saying takes) (sym e)
 
 -- ---- an argument line
 
-module _ (text : List ℕ) (takes : Takes) (list_open : Bool) (t : Span) (s : Saying) (e : s ≡ saying_in text takes list_open t) (next : Where) (a : next ≡ after_saying takes s) (f : Refused) (q : refused_of f ≡ refusal_of plain_rules text s) where
-  pub line-says : f ≡ No → step (Says s) next ≡ argument_step plain_rules text takes list_open t
-  unfolding argument_step refused_of
+module _ (text : List ℕ) (takes : Takes) (list_open : Bool) (t : Span) (s : Saying) (e : s ≡ saying_in text takes list_open t) (next : Where) (a : next ≡ after_saying takes s) (f : Option Reason) (q : f ≡ refusal_of plain_rules text s) where
+  pub line-says : f ≡ None → step (Says s) next ≡ argument_step plain_rules text takes list_open t
+  unfolding argument_step
   line-says h = simp (← e, a, ← q, h)
 
-  pub line_refused : (n : ℕ) → f ≡ By n → step (Bad n) next ≡ argument_step plain_rules text takes list_open t
-  unfolding argument_step refused_of
+  pub line_refused : (n : Reason) → f ≡ Some n → step (Bad n) next ≡ argument_step plain_rules text takes list_open t
+  unfolding argument_step
   line_refused n h = simp (← e, a, ← q, h)
 
 pub ruleset line-words = (line-says, line_refused)

@@ -1,15 +1,7 @@
--- What the code's answers about argument lines and their refusals say. Assumes nothing.
-use Rattle.std.specs.Prelude.{ℕ}
-use Rattle.std.proofs.Math.Option.{Option, none, some}
+-- What matters of the value of a key for its line. Assumes nothing.
 use Rattle.script.specs.Operations.{Kind, a_number, a_flag, a_quoted, a_set, some_data, a_list, a_hex, a_version, a_feature_set, a_text}
 use Rattle.roles.specs.declared.blocks.ValueKind.{ValueKind}
 use Rattle.roles.specs.declared.blocks.ValueKind.TheVariants.{Set, Data, Overrides, Other}
-use Rattle.roles.specs.declared.blocks.Refused.{Refused}
-use Rattle.roles.specs.declared.blocks.Refused.TheVariants.{No, By}
-
-unfoldable pub refused_of : Refused → Option ℕ
-refused_of No = none
-refused_of (By n) = some n
 
 unfoldable pub kind_of : Kind → ValueKind
 kind_of a_number = Other

@@ -5,8 +5,9 @@ ghost use Rattle.script.specs.Values.{plain_rules, framed};
 ghost use Rattle.script.specs.Roles.{opens_list, after_key, after_saying, refusal_in, refusal_of_kind, refusal_of, argument_step};
 ghost use Rattle.script.specs.Inside.{In};
 ghost use Rattle.arguments.specs.ArgumentRead.{SayingIn};
-ghost use Rattle.roles.specs.BlockRead.{kind_of, refused_of};
+ghost use Rattle.roles.specs.BlockRead.{kind_of};
 
+use script::refusals::Reason;
 use script::roles::{Key, Role, Saying, Step, Takes, Where};
 use text::parts::Span;
 
@@ -17,13 +18,6 @@ pub enum ValueKind {
     Data,
     Overrides,
     Other,
-}
-
-// Whether something is refused, and by which number of document 01.
-#[derive(Clone, Copy)]
-pub enum Refused {
-    No,
-    By(u64),
 }
 
 fn value_kind(k: Key) -> ValueKind
@@ -38,49 +32,49 @@ fn value_kind(k: Key) -> ValueKind
     }
 }
 
-// Data that is neither hex nor a file's name. 11
-fn refused_data(text: &[u8], v: Span) -> Refused
+// The refusal of data that is neither hex nor a file's name.
+fn refused_data(text: &[u8], v: Span) -> Option<Reason>
     requires { In text.now v }
-    ensures { refused_of result ≡ refusal_in (framed plain_rules text.now v) }
+    ensures { result ≡ refusal_in (framed plain_rules text.now v) }
 {
     if pieces::pieces::begins(text, v, b"x\"") {
-        return Refused::No;
+        return None;
     }
     if pieces::pieces::begins(text, v, b"@file:") {
-        return Refused::No;
+        return None;
     }
-    Refused::By(11)
+    Some(Reason::DataUnknown)
 }
 
-// The refusal of a key's value. 10: brace not closed
-fn refused_value(text: &[u8], k: Key, v: Span) -> Refused
+// The refusal of a key's value.
+fn refused_value(text: &[u8], k: Key, v: Span) -> Option<Reason>
     requires { In text.now v }
-    ensures { refused_of result ≡ refusal_of_kind plain_rules text.now (key_row k).kind v }
+    ensures { result ≡ refusal_of_kind plain_rules text.now (key_row k).kind v }
 {
     match value_kind(k) {
         ValueKind::Set => {
             if openings::not_closed(text, v) {
-                return Refused::By(10);
+                return Some(Reason::BraceNotClosed);
             }
-            Refused::No
+            None
         }
         ValueKind::Data => refused_data(text, v),
-        ValueKind::Overrides => Refused::No,
-        ValueKind::Other => Refused::No,
+        ValueKind::Overrides => None,
+        ValueKind::Other => None,
     }
 }
 
-fn refusal_of(text: &[u8], s: Saying) -> Refused
+fn refusal_of(text: &[u8], s: Saying) -> Option<Reason>
     requires { SayingIn text.now s }
-    ensures { refused_of result ≡ refusal_of plain_rules text.now s }
+    ensures { result ≡ refusal_of plain_rules text.now s }
 {
     match s {
         Saying::Known(k, v) => refused_value(text, k, v),
-        Saying::Pair(_, _) => Refused::No,
-        Saying::NoColon => Refused::No,
-        Saying::Unknown(_, _) => Refused::No,
-        Saying::NoPair => Refused::No,
-        Saying::NoRaw => Refused::No,
+        Saying::Pair(_, _) => None,
+        Saying::NoColon => None,
+        Saying::Unknown(_, _) => None,
+        Saying::NoPair => None,
+        Saying::NoRaw => None,
     }
 }
 
@@ -133,12 +127,12 @@ pub fn argument_step(text: &[u8], takes: Takes, list_open: bool, t: Span) -> Ste
     let s = arguments::arguments::saying_in(text, takes, list_open, t);
     let next = after_saying(takes, s);
     match refusal_of(text, s) {
-        Refused::No => Step {
+        None => Step {
             role: Role::Says(s),
             next,
         },
-        Refused::By(n) => Step {
-            role: Role::Bad(n),
+        Some(reason) => Step {
+            role: Role::Bad(reason),
             next,
         },
     }

@@ -1,4 +1,5 @@
 -- What Message answers of an expectation and a response, or the handshake's information, that were read from rows. Assumes nothing.
+use Rattle.std.specs.Prelude.{Result}
 use Prim.Native.Nat.{ℕ}
 use mathlib.Core.Path.{◌≡◌, ap, ◌∙◌}
 use mathlib.Core.List.{List}
@@ -9,6 +10,7 @@ use mir.ValLaws.{to_z-of_z}
 use Rattle.script.specs.declared.records.Expect.{Expect}
 use Rattle.script.specs.declared.response.DaemonResponse.{DaemonResponse}
 use Rattle.script.specs.declared.response.HandshakeInfo.{HandshakeInfo}
+use Rattle.script.specs.declared.records.Refusal.{Refusal}
 use Rattle.verdicts.specs.Lookup.{looked_in, told_in, present_bytes}
 use Rattle.verdicts.specs.Messages.{entry_message, handshake_message}
 use Rattle.verdicts.specs.Held.{expected_of, response_of, info_of}
@@ -22,7 +24,7 @@ module _ (row : List ℕ) (n : ℤ) (f : SFits w64 n) (e : Expect) (ee : e ≡ e
   expect_handed : e ≡ expect_row row n
   expect_handed = ee ∙ ap (expect_row row) (to_z-of_z w64 n f)
 
-  module _ (text bytes : List ℕ) (lists : List (List ℕ)) (s b : ℕ) (t : Told) where
+  module _ (text bytes : List ℕ) (lists : List (List ℕ)) (s b : ℕ) (t : Result Told Refusal) where
     module _ (response : List ℕ) (r : DaemonResponse) (er : r ≡ response_row response) (et : t ≡ entry_told text e bytes lists r s b) where
       pub entry_told_lem : t ≡ entry_told text (expect_row row n) bytes lists (response_row response) s b
       entry_told_lem = rw (← expect_handed, ← er) et

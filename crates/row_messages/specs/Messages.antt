@@ -1,8 +1,9 @@
 -- What Message answers of an expectation and a response, or the handshake's information. Assumes nothing.
-use Rattle.std.specs.Prelude.{ℕ, List, length}
+use Rattle.std.specs.Prelude.{ℕ, List, length, Result}
 use Rattle.script.specs.declared.records.Expect.{Expect}
 use Rattle.script.specs.declared.response.DaemonResponse.{DaemonResponse}
 use Rattle.script.specs.declared.response.HandshakeInfo.{HandshakeInfo}
+use Rattle.script.specs.declared.records.Refusal.{Refusal}
 use Rattle.verdicts.specs.Told.{greeting, reply}
 use Rattle.verdicts.specs.Held.{expected_of, response_of, info_of, expect_in, response_in, info_in}
 use Rattle.told.specs.Told.{counted, told_of}
@@ -10,7 +11,7 @@ use Rattle.told.specs.declared.Told.{Told}
 
 -- by the lengths of the scratch and of the buffer
 module _ (text : List ℕ) (e : Expect) (bytes : List ℕ) (lists : List (List ℕ)) where
-  abbrev pub entry_told : DaemonResponse → (scratch buffer : ℕ) → Told
+  abbrev pub entry_told : DaemonResponse → (scratch buffer : ℕ) → Result Told Refusal
   entry_told r scratch buffer =
       told_of
       (expect_in (length text) e)
@@ -20,7 +21,7 @@ module _ (text : List ℕ) (e : Expect) (bytes : List ℕ) (lists : List (List �
       scratch
       buffer
 
-  abbrev pub handshake_told : HandshakeInfo → (scratch buffer : ℕ) → Told
+  abbrev pub handshake_told : HandshakeInfo → (scratch buffer : ℕ) → Result Told Refusal
   handshake_told i scratch buffer =
       told_of
       (expect_in (length text) e)

@@ -9,6 +9,7 @@ ghost use Rattle.rows.specs.Rows.{expect_row, response_row, info_row};
 ghost use Rattle.told.specs.Told.{counted, unless_refused};
 ghost use Rattle.row_messages.specs.Messages.{entry_told, handshake_told};
 
+use script::records::Refusal;
 use told::Told;
 
 // The message of an expectation that is judged against a response, at the front of the buffer; a present value at the front of the scratch. On a
@@ -22,7 +23,7 @@ pub fn entry_message(
     lists: &[[usize; 2]],
     scratch: &mut [u8],
     buffer: &mut [u8],
-) -> Told
+) -> Result<Told, Refusal>
     ensures value { result ≡ entry_told text.now (expect_row expectation.now n) bytes.now lists.now (response_row response.now) (length scratch.old) (length buffer.old) }
     ensures scratch_after { scratch.new ≡ unless_refused (entry_told text.now (expect_row expectation.now n) bytes.now lists.now (response_row response.now) (length scratch.old) (length buffer.old)) (present_bytes (looked_in (response_of bytes.now (counted lists.now) (response_row response.now)) (expected_of text.now (expect_row expectation.now n)))) scratch.old }
     ensures buffer_after { buffer.new ≡ unless_refused (entry_told text.now (expect_row expectation.now n) bytes.now lists.now (response_row response.now) (length scratch.old) (length buffer.old)) (entry_message (response_of bytes.now (counted lists.now) (response_row response.now)) (expected_of text.now (expect_row expectation.now n))) buffer.old }
@@ -42,7 +43,7 @@ pub fn handshake_message(
     lists: &[[usize; 2]],
     scratch: &mut [u8],
     buffer: &mut [u8],
-) -> Told
+) -> Result<Told, Refusal>
     ensures value { result ≡ handshake_told text.now (expect_row expectation.now n) bytes.now lists.now (info_row information.now) (length scratch.old) (length buffer.old) }
     ensures scratch_after { scratch.new ≡ unless_refused (handshake_told text.now (expect_row expectation.now n) bytes.now lists.now (info_row information.now) (length scratch.old) (length buffer.old)) (present_bytes (told_in (info_of bytes.now (counted lists.now) (info_row information.now)) (expected_of text.now (expect_row expectation.now n)))) scratch.old }
     ensures buffer_after { buffer.new ≡ unless_refused (handshake_told text.now (expect_row expectation.now n) bytes.now lists.now (info_row information.now) (length scratch.old) (length buffer.old)) (handshake_message (info_of bytes.now (counted lists.now) (info_row information.now)) (expected_of text.now (expect_row expectation.now n))) buffer.old }

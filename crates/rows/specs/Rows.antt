@@ -1,22 +1,15 @@
 -- Rows of numbers: a host hands over numbers and byte slices only, so an expectation, a response and the handshake's information come in rows. A row
 -- that is too short has 0 for what is missing; a number that stands for no kind reads as the last one. Assumes nothing.
-use Rattle.std.specs.Prelude.{ℕ, ◌%◌, Bool, not, List, get_or, eqb, ℤ, if◌then◌else◌}
+use Rattle.std.specs.Prelude.{ℕ, ◌%◌, Bool, not, List, get_or, eqb, ℤ, if◌then◌else◌, None, Option, Some}
 use Rattle.version.specs.declared.ProtocolVersion.{ProtocolVersion}
 use Rattle.script.specs.declared.records.Place.{Place}
 use Rattle.script.specs.declared.records.Items.{Items}
-use Rattle.script.specs.declared.records.Maybe.{Maybe}
-use Rattle.script.specs.declared.records.Maybe.TheVariants as Maybe
-use Rattle.script.specs.declared.records.MaybeItems.{MaybeItems}
-use Rattle.script.specs.declared.records.MaybeItems.TheVariants as MaybeItems
 use Rattle.script.specs.declared.records.Matcher.{Matcher}
 use Rattle.script.specs.declared.records.Matcher.TheVariants.{Exact, Regex, GreaterThan, LessThan, GreaterOrEqual, LessOrEqual}
 use Rattle.script.specs.declared.records.Expect.{Expect}
 use Rattle.script.specs.declared.records.Expect.TheVariants.{Terminal, Result, ResultField, Error, StderrCount, Daemon, Trust, ServerFeatures}
-use Rattle.script.specs.declared.response.MaybeNumber.{MaybeNumber}
-use Rattle.script.specs.declared.response.MaybeNumber.TheVariants as MaybeNumber
 use Rattle.script.specs.declared.response.PathInfoResult.{PathInfoResult}
 use Rattle.script.specs.declared.response.ResultData.{ResultData}
-use Rattle.script.specs.declared.response.ResultData.TheVariants as ResultData
 use Rattle.script.specs.declared.response.DaemonResponse.{DaemonResponse}
 use Rattle.script.specs.declared.response.HandshakeInfo.{HandshakeInfo}
 
@@ -37,14 +30,14 @@ unfoldable pub items_of : (first count : ℕ) → Items
 items_of first count = record { first = first; count = count }
 
 -- what may be missing has a flag in front
-unfoldable pub maybe_of : (present start len : ℕ) → Maybe
-maybe_of present start len = if eqb present 0 then Maybe.Absent else Maybe.At (place_of start len)
+unfoldable pub maybe_of : (present start len : ℕ) → Option Place
+maybe_of present start len = if eqb present 0 then None else Some (place_of start len)
 
-unfoldable pub maybe_items_of : (present first count : ℕ) → MaybeItems
-maybe_items_of present first count = if eqb present 0 then MaybeItems.Absent else MaybeItems.Are (items_of first count)
+unfoldable pub maybe_items_of : (present first count : ℕ) → Option Items
+maybe_items_of present first count = if eqb present 0 then None else Some (items_of first count)
 
-unfoldable pub maybe_number_of : (present n : ℕ) → MaybeNumber
-maybe_number_of present n = if eqb present 0 then MaybeNumber.Absent else MaybeNumber.Is n
+unfoldable pub maybe_number_of : (present n : ℕ) → Option ℕ
+maybe_number_of present n = if eqb present 0 then None else Some n
 
 -- ---- an expectation: its kind, a place (of the terminal name, or of a field's), its matcher's kind and place; a matcher's number comes apart, since it
 -- has a sign. The kinds are numbered as in the dump of Read.

@@ -2,8 +2,7 @@
 ghost use Rattle.std.specs.Prelude.{◌≡◌};
 ghost use Rattle.rows.specs.Rows as Rows;
 
-use script::records::{Items, Maybe, MaybeItems, Place};
-use script::response::MaybeNumber;
+use script::records::{Items, Place};
 
 // The number at k, or 0 where the row is too short.
 pub fn at(row: &[u64], k: usize) -> u64
@@ -33,29 +32,29 @@ pub fn items(first: u64, count: u64) -> Items
     }
 }
 
-pub fn maybe(present: u64, start: u64, len: u64) -> Maybe
+pub fn maybe(present: u64, start: u64, len: u64) -> Option<Place>
     ensures { result ≡ Rows.maybe_of present start len }
 {
     if present == 0 {
-        return Maybe::Absent;
+        return None;
     }
-    Maybe::At(place(start, len))
+    Some(place(start, len))
 }
 
-pub fn maybe_items(present: u64, first: u64, count: u64) -> MaybeItems
+pub fn maybe_items(present: u64, first: u64, count: u64) -> Option<Items>
     ensures { result ≡ Rows.maybe_items_of present first count }
 {
     if present == 0 {
-        return MaybeItems::Absent;
+        return None;
     }
-    MaybeItems::Are(items(first, count))
+    Some(items(first, count))
 }
 
-pub fn maybe_number(present: u64, n: u64) -> MaybeNumber
+pub fn maybe_number(present: u64, n: u64) -> Option<u64>
     ensures { result ≡ Rows.maybe_number_of present n }
 {
     if present == 0 {
-        return MaybeNumber::Absent;
+        return None;
     }
-    MaybeNumber::Is(n)
+    Some(n)
 }

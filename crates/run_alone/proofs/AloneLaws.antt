@@ -10,8 +10,7 @@ use Rattle.script.specs.declared.records.Expectation.{Expectation}
 use Rattle.slots.specs.Blank.{blank_entry, blank_expectation}
 use Rattle.read.specs.Read.{lent_of, script_or}
 use Rattle.calls.specs.CallRows.{calls_of}
-use Rattle.ran.specs.Ran.{plain_left, ran_of}
-use Rattle.ran.specs.declared.Ran.{Ran}
+use Rattle.ran.specs.Ran.{Ran, plain_left, ran_of}
 use Rattle.blanks.proofs.OwnLaws.{own-lent}
 use Rattle.run_alone.specs.Alone.{ran_alone}
 

@@ -4,8 +4,7 @@ use Rattle.script.specs.Reading.{read_into}
 use Rattle.read.specs.Read.{script_or}
 use Rattle.calls.specs.CallRows.{calls_of}
 use Rattle.blanks.specs.Own.{own_tables}
-use Rattle.ran.specs.Ran.{plain_left, ran_of}
-use Rattle.ran.specs.declared.Ran.{Ran}
+use Rattle.ran.specs.Ran.{Ran, plain_left, ran_of}
 
 -- of a text, rows of calls, what they hand over, the verdict list, and how many bytes of scratch and places for answers are lent
 unfoldable pub ran_alone : (text : List ℕ) → (rows : List (List ℕ)) → (bytes : List ℕ) → (lists : List (List ℕ)) → (verdicts : List ℕ) → (scratch answers : ℕ) → Ran

@@ -9,7 +9,8 @@ ghost use Rattle.judging.specs.Runs.{plain_scratch};
 ghost use Rattle.ran.specs.Ran.{plain_left, if_done};
 ghost use Rattle.run_alone.specs.Alone.{ran_alone};
 
-use ran::Ran;
+use judge::tally::Tally;
+use ran::RunError;
 use script_run::running::run_script;
 
 pub fn run_alone(
@@ -20,7 +21,7 @@ pub fn run_alone(
     verdicts: &mut [u8],
     scratch: &mut [u8],
     answers: &mut [u64],
-) -> Ran
+) -> Result<Tally, RunError>
     ensures value { result ≡ ran_alone text.now calls.now bytes.now lists.now verdicts.old (length scratch.old) (length answers.old) }
     ensures verdicts_after { verdicts.new ≡ if_done result (plain_left text.now verdicts.old (calls_of bytes.now lists.now calls.now)).verdicts verdicts.old }
     ensures scratch_after { scratch.new ≡ if_done result (plain_scratch text.now (length verdicts.old) (calls_of bytes.now lists.now calls.now) scratch.old) scratch.old }

@@ -1,4 +1,5 @@
 -- The loop over the calls: what is left of a run once i calls are done. Assumes nothing.
+use Rattle.std.specs.Prelude.{Result}
 use Prim.Native.Nat.{ℕ, ◌+◌, ◌-◌, ◌≤◌, ◌<◌}
 use mathlib.Core.Path.{◌≡◌, refl, sym, ap, ◌∙◌}
 use mathlib.Core.Bool.{false}
@@ -18,9 +19,10 @@ use Rattle.judging.specs.Runs.{scratch_call, scratch_run}
 use Rattle.judging.proofs.RunLaws.{run_length, run-first, scratch-first}
 use Rattle.asking.specs.Asking.{asks_more}
 use Rattle.asking.proofs.AskLaws.{rows_from, lent_here, lent_later}
+use Rattle.script.specs.declared.records.Refusal.{Refusal}
 
 module _ (k : Lent) (bytes : List ℕ) (lists : List (List ℕ)) (rows : List (List ℕ)) where
-  abbrev ran : JudgeState → List (List ℕ) → List Answer × JudgeState
+  abbrev ran : JudgeState → List (List ℕ) → List (Result Answer Refusal) × JudgeState
   ran s rest = run (judge_step k) s (calls_of bytes lists rest)
 
   abbrev after : JudgeState → List (List ℕ) → List ℕ → List ℕ
@@ -71,7 +73,7 @@ module _ (k : Lent) (bytes : List ℕ) (lists : List (List ℕ)) (rows : List (L
         part-lent = lent_here (length scr) rows i more g.lent
 
         -- one call more
-        pub going_on : (next : Tally) (v' scr' : List ℕ) (a : Answer) (n : ℕ) → (a, state_of next v') ≡ judge_step k s c → scr' ≡ scratch_call k s c scr
+        pub going_on : (next : Tally) (v' scr' : List ℕ) (a : Result Answer Refusal) (n : ℕ) → (a, state_of next v') ≡ judge_step k s c → scr' ≡ scratch_call k s c scr
             → length scr' ≡ length scr → n ≡ answer_code a → Going v₀ scr₀ ans₀ next v' scr' (set ans i n) (i + 1)
         going_on next v' scr' a n e f l m =
             let s' : JudgeState = state_of next v' in
@@ -81,10 +83,10 @@ module _ (k : Lent) (bytes : List ℕ) (lists : List (List ℕ)) (rows : List (L
               in_list = omega arith;
               lent = rw l (lent_later (length scr) rows i more g.lent);
               slots = omega (arith, g.slots, length-set ans i n);
-              left = g.left ∙ ap (λ (p : List Answer × JudgeState). p.1) first;
+              left = g.left ∙ ap (λ (p : List (Result Answer Refusal) × JudgeState). p.1) first;
               answered =
                   g.answered
-                  ∙ ap (λ (p : List Answer × JudgeState). written_at i (map answer_code p.0) ans) first
+                  ∙ ap (λ (p : List (Result Answer Refusal) × JudgeState). written_at i (map answer_code p.0) ans) first
                   ∙ ap (λ (x : ℕ). written_at i (x ∷ told) ans) (sym m)
                   ∙ sym (written_twice i (n ∷ []) told ans (omega (arith, rest-fits s', g.slots)))
                   ∙ ap (written_at (i + 1) told) (written_one i n ans (omega (arith, g.slots)));

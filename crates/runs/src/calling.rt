@@ -101,10 +101,8 @@ pub fn run_calls(
             verdicts,
             scratch,
         );
-        let next = turn.tally;
-        let answer = turn.answer;
-        t = next;
-        answers[i] = answer_code(answer);
+        t = turn.tally;
+        answers[i] = answer_code(turn.answer);
         i += 1;
     }
     t

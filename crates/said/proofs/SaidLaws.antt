@@ -4,19 +4,15 @@ use Prim.Native.Nat.{ℕ, zero, suc, ◌^◌, ◌≤◌, ◌<◌}
 use mathlib.Core.Path.{◌≡◌, refl, sym, ap, ◌∙◌}
 use mathlib.Core.Bool.{Bool, true, false, not}
 use mathlib.Core.List.{List, [], ◌∷◌}
-use mathlib.Core.Option.{none, some}
 use native.Mathlib.Omega.{arith}
 use lib.Dec.{eqb}
 use lib.ListN.{length, get_or, set, replicate, get_or-replicate}
 use lib.Seq.{get_or-set_same, get_or-set_other}
 use borrow.Author.Tests.{lt-ltb, le-ltb, eqb-true, eqb-false}
-use Rattle.std.specs.Prelude.{if◌then◌else◌}
+use Rattle.std.specs.Prelude.{if◌then◌else◌, None, Option, Some}
 use Rattle.values.specs.Numbers.{number}
-use Rattle.values.specs.Numbers as Numbers
 use Rattle.text.specs.Parts.{span, same_bytes}
 use Rattle.text.specs.declared.parts.Span.{Span}
-use Rattle.values.specs.declared.number.Number.{Number}
-use Rattle.values.specs.declared.number.Number.TheVariants.{Value, Bad}
 use Rattle.text.proofs.LiteralLaws.{codes, spells_as}
 use Rattle.script.specs.Pieces.{bytes}
 use Rattle.script.specs.Pieces as Pieces
@@ -24,9 +20,7 @@ use Rattle.script.specs.Operations.{key_row, same_key}
 use Rattle.script.specs.Contents.{number_of, flag_of}
 use Rattle.script.specs.Inside.{In}
 use Rattle.script.specs.declared.roles.Key.{Key}
-use Rattle.said.specs.declared.said.Piece.{Piece}
-use Rattle.said.specs.declared.said.Piece.TheVariants.{Absent, Is}
-use Rattle.said.specs.Said.{piece_from, piece_at, piece_of, OptIn, SaidIn}
+use Rattle.said.specs.Said.{piece_from, piece_at, OptIn, SaidIn}
 
 -- 33 numbers have a place for each key
 pub number_small : (k : Key) → (key_row k).number < 33
@@ -67,16 +61,16 @@ number_small Key.ServerFeatures = omega arith
 -- ---- what is said
 
 -- a piece that starts no later than it ends
-piece_some : (start end : ℕ) → start ≤ end → piece_from start end ≡ some (span start end)
+piece_some : (start end : ℕ) → start ≤ end → piece_from start end ≡ Some (span start end)
 unfolding piece_from
 piece_some start end h = rw (le-ltb end start h)
 
-piece_none : (start end : ℕ) → end < start → piece_from start end ≡ none
+piece_none : (start end : ℕ) → end < start → piece_from start end ≡ None
 unfolding piece_from
 piece_none start end h = rw (lt-ltb end start h)
 
 -- nothing is said at first
-pub said-none : (k : Key) → piece_at (replicate 33 1) (replicate 33 0) k ≡ none
+pub said-none : (k : Key) → piece_at (replicate 33 1) (replicate 33 0) k ≡ None
 unfolding piece_at
 said-none k =
     rw (get_or-replicate {A = ℕ} 33 (key_row k).number 1 1 (number_small k), get_or-replicate {A = ℕ} 33 (key_row k).number 0 0 (number_small k))
@@ -85,13 +79,13 @@ said-none k =
 -- a line with a key overwrites the value of that key
 module _ (starts ends : List ℕ) (k : Key) (v : Span) (s : 33 ≤ length starts) (e : 33 ≤ length ends) (forward : v.start ≤ v.end) where
   pub said-value : (j : Key)
-      → piece_at (set starts (key_row k).number v.start) (set ends (key_row k).number v.end) j ≡ (if same_key j k then some v else piece_at starts ends j)
+      → piece_at (set starts (key_row k).number v.start) (set ends (key_row k).number v.end) j ≡ (if same_key j k then Some v else piece_at starts ends j)
   unfolding piece_at same_key
   said-value j = go (eqb (key_row j).number (key_row k).number) refl
     where
       go : (b : Bool) → eqb (key_row j).number (key_row k).number ≡ b
           → piece_from (get_or (set starts (key_row k).number v.start) (key_row j).number 1) (get_or (set ends (key_row k).number v.end) (key_row j).number 0)
-          ≡ (if b then some v else piece_from (get_or starts (key_row j).number 1) (get_or ends (key_row j).number 0))
+          ≡ (if b then Some v else piece_from (get_or starts (key_row j).number 1) (get_or ends (key_row j).number 0))
       go true q =
           rw (
             eqb-true (key_row j).number (key_row k).number q,
@@ -110,7 +104,7 @@ module _ (starts ends : List ℕ) (k : Key) (v : Span) (s : 33 ≤ length starts
   unfolding SaidIn OptIn
   value_in text i h j = rw (said-value j) (go (same_key j k))
     where
-      go : (b : Bool) → OptIn text (if b then some v else piece_at starts ends j)
+      go : (b : Bool) → OptIn text (if b then Some v else piece_at starts ends j)
       go true = i
       go false = h j
 
@@ -131,44 +125,41 @@ module _ (starts ends : List ℕ) (k : Key) (n start end : ℕ) (p : n ≡ (key_
   unfolding piece_at
   at_key = rw (← p, ← q, ← r)
 
-  pub value_absent : end < start → piece_of Absent ≡ piece_at starts ends k
-  unfolding piece_of
+  pub value_absent : end < start → None ≡ piece_at starts ends k
   value_absent h = sym (at_key ∙ piece_none start end h)
 
-  pub value-is : start ≤ end → piece_of (Is (span start end)) ≡ piece_at starts ends k
-  unfolding piece_of
+  pub value-is : start ≤ end → (Some (span start end)) ≡ piece_at starts ends k
   value-is h = sym (at_key ∙ piece_some start end h)
 
 -- m is the answer of `number::parse_u64`
-module _ (text : List ℕ) (v : Span) (m : Number) (e : Numbers.number_of m ≡ number (2 ^ 64) (bytes text v)) where
-  pub number_read : (n : ℕ) → m ≡ Value n → n ≡ number_of text (some v)
-  unfolding number_of Numbers.number_of
+module _ (text : List ℕ) (v : Span) (m : Option ℕ) (e : m ≡ number (2 ^ 64) (bytes text v)) where
+  pub number_read : (n : ℕ) → m ≡ Some n → n ≡ number_of text (Some v)
+  unfolding number_of
   number_read n h = rw (← e, h, number_of)
 
-  pub number-bad : m ≡ Bad → 0 ≡ number_of text (some v)
-  unfolding number_of Numbers.number_of
+  pub number-bad : m ≡ None → 0 ≡ number_of text (Some v)
+  unfolding number_of
   number-bad h = rw (← e, h, number_of)
 
 -- p is the answer of `value_of`
-module _ (text starts ends : List ℕ) (k : Key) (p : Piece) (e : piece_of p ≡ piece_at starts ends k) where
-  pub said_in : (v : Span) → p ≡ Is v → SaidIn text starts ends → In text v
-  unfolding SaidIn OptIn piece_of
+module _ (text starts ends : List ℕ) (k : Key) (p : Option Span) (e : p ≡ piece_at starts ends k) where
+  pub said_in : (v : Span) → p ≡ Some v → SaidIn text starts ends → In text v
+  unfolding SaidIn OptIn
   said_in v h i = rw (← e, h) at (i k)
 
-  pub number_absent : p ≡ Absent → 0 ≡ number_of text (piece_at starts ends k)
-  unfolding number_of piece_of
+  pub number_absent : p ≡ None → 0 ≡ number_of text (piece_at starts ends k)
+  unfolding number_of
   number_absent h = rw (← e, h)
 
-  pub number_is : (v : Span) (n : ℕ) → p ≡ Is v → n ≡ number_of text (some v) → n ≡ number_of text (piece_at starts ends k)
-  unfolding piece_of
-  number_is v n h f = f ∙ ap (number_of text) (sym (ap piece_of h) ∙ e)
+  pub number_is : (v : Span) (n : ℕ) → p ≡ Some v → n ≡ number_of text (Some v) → n ≡ number_of text (piece_at starts ends k)
+  number_is v n h f = f ∙ ap (number_of text) (sym (h) ∙ e)
 
-  pub flag_absent : p ≡ Absent → false ≡ flag_of text (piece_at starts ends k)
-  unfolding flag_of piece_of
+  pub flag_absent : p ≡ None → false ≡ flag_of text (piece_at starts ends k)
+  unfolding flag_of
   flag_absent h = rw (← e, h)
 
-  pub flag_is : (v : Span) (b : Bool) → p ≡ Is v → b ≡ same_bytes (bytes text v) (codes "0") → not b ≡ flag_of text (piece_at starts ends k)
-  unfolding flag_of piece_of Pieces.is
+  pub flag_is : (v : Span) (b : Bool) → p ≡ Some v → b ≡ same_bytes (bytes text v) (codes "0") → not b ≡ flag_of text (piece_at starts ends k)
+  unfolding flag_of Pieces.is
   flag_is v b h f = rw (← e, h) (ap not (f ∙ sym (spells_as "0" (bytes text v))))
 
 pub ruleset said_laws = (value_absent, value-is, number_read, number-bad, said_in, number_absent, number_is, flag_absent, flag_is)

@@ -1,21 +1,12 @@
 // The values that were said so far, by key: two lists of numbers, where the last value of each key starts and where it ends.
-ghost use Rattle.std.specs.Prelude.{◌≡◌, ◌<◌, get_or};
-ghost use Rattle.std.proofs.Math.Option.{some};
+ghost use Rattle.std.specs.Prelude.{◌≡◌, ◌<◌, get_or, Some};
 ghost use Rattle.script.specs.Operations.{key_row};
 ghost use Rattle.script.specs.Contents.{number_of, flag_of};
 ghost use Rattle.script.specs.Inside.{In};
-ghost use Rattle.said.specs.Said.{piece_of, piece_at, SaidIn};
+ghost use Rattle.said.specs.Said.{piece_at, SaidIn};
 
 use script::roles::Key;
 use text::parts::Span;
-use values::number::Number;
-
-// A value that may be missing.
-#[derive(Clone, Copy)]
-pub enum Piece {
-    Absent,
-    Is(Span),
-}
 
 // The place of a key in both lists, which have 33 numbers: the keys are numbered from 1.
 pub fn key_number(k: Key) -> usize
@@ -69,28 +60,28 @@ fn number_at(s: &[usize], n: usize, other: usize) -> usize
 }
 
 // The last value of the key.
-pub fn value_of(starts: &[usize], ends: &[usize], k: Key) -> Piece
-    ensures { piece_of result ≡ piece_at starts.now ends.now k }
+pub fn value_of(starts: &[usize], ends: &[usize], k: Key) -> Option<Span>
+    ensures { result ≡ piece_at starts.now ends.now k }
 {
     let n = key_number(k);
     let start = number_at(starts, n, 1);
     let end = number_at(ends, n, 0);
     if end < start {
-        return Piece::Absent;
+        return None;
     }
-    Piece::Is(Span { start, end })
+    Some(Span { start, end })
 }
 
 // A number that cannot be read is 0.
 fn number_in(text: &[u8], v: Span) -> u64
     requires { In text.now v }
-    ensures { result ≡ number_of text.now (some v) }
+    ensures { result ≡ number_of text.now (Some v) }
 {
     let start = v.start;
     let end = v.end;
-    match values::number::parse_u64(&text[start..end]) {
-        Number::Value(n) => n,
-        Number::Bad => 0,
+    match values::number::parse_up_to(&text[start..end], u64::MAX) {
+        Some(n) => n,
+        None => 0,
     }
 }
 
@@ -100,8 +91,8 @@ pub fn number_of(text: &[u8], starts: &[usize], ends: &[usize], k: Key) -> u64
     ensures { result ≡ number_of text.now (piece_at starts.now ends.now k) }
 {
     match value_of(starts, ends, k) {
-        Piece::Absent => 0,
-        Piece::Is(v) => number_in(text, v),
+        None => 0,
+        Some(v) => number_in(text, v),
     }
 }
 
@@ -111,7 +102,7 @@ pub fn flag_of(text: &[u8], starts: &[usize], ends: &[usize], k: Key) -> bool
     ensures { result ≡ flag_of text.now (piece_at starts.now ends.now k) }
 {
     match value_of(starts, ends, k) {
-        Piece::Absent => false,
-        Piece::Is(v) => !pieces::pieces::is_word(text, v, b"0"),
+        None => false,
+        Some(v) => !pieces::pieces::is_word(text, v, b"0"),
     }
 }

@@ -8,13 +8,13 @@ use lists::items::items_at;
 use lists::list_rooms::joined_room;
 use sought::value::Value;
 use texts::text_at;
-use writing::room::{Room, less};
+use writing::room::less;
 
 // What is left of a room once a value stands there.
-pub fn value_room(v: Value, bytes: &[u8], lists: &[[usize; 2]], room: usize) -> Room
+pub fn value_room(v: Value, bytes: &[u8], lists: &[[usize; 2]], room: usize) -> Option<usize>
     ensures { result ≡ left room (length (value_text bytes.now lists.now v)) }
 {
-    let whole = Room::Left(room);
+    let whole = Some(room);
     match v {
         Value::Missing => whole,
         Value::Number(n) => less(whole, decimal_len(n)),

@@ -6,13 +6,12 @@ use Prim.Native.String.{String, ◌∷◌ as ◌∷ˢ◌}
 use mathlib.Core.Path.{◌≡◌, refl, sym, ap, ◌∙◌}
 use mathlib.Core.Bool.{Bool, true, false, not, true≢false, false≢true}
 use mathlib.Core.List.{List, [], ◌∷◌}
-use mathlib.Core.Option.{Option, none, some}
 use native.Mathlib.Omega.{arith}
 use native.Mathlib.Nat.{add-sub_cancel_left, sub_self}
 use lib.Dec.{eqb}
 use lib.ListN.{take, drop}
 use borrow.Author.Tests.{eqb-true}
-use Rattle.std.specs.Prelude.{if◌then◌else◌}
+use Rattle.std.specs.Prelude.{if◌then◌else◌, Err, None, Ok, Option, Some}
 use Rattle.text.specs.Base.{◌&◌, ◌or◌, BLANK}
 use Rattle.text.specs.Literal.{spells, begins_with}
 use Rattle.text.specs.Parts.{span, position_from, position}
@@ -22,19 +21,19 @@ use Rattle.wire.specs.Operations.{operation, first, named}
 use Rattle.version.specs.Version.{version}
 use Rattle.wire.specs.declared.ops.Op.{Op}
 use Rattle.version.specs.declared.ProtocolVersion.{ProtocolVersion}
-use Rattle.script.specs.Answers.{Answer, given, refused, ◌>>=◌, first_of}
+use Rattle.script.specs.Answers.{◌>>=◌, first_of, Answer}
 use Rattle.script.specs.Pieces.{bytes, is_empty, is, begins, behind, trim, Cut, cut_into, cut, cut_at, cut_or}
 use Rattle.script.specs.Operations.{form_of}
 use Rattle.script.specs.Values.{Rules}
-use Rattle.script.specs.Timestamps.{Stamped, stamped}
+use Rattle.script.specs.Timestamps.{stamped}
 use Rattle.script.specs.Expectations.{expectation}
 use Rattle.script.specs.Roles.{step, expecting, expect_role, saying, comment_role, version_role, protocol_role, word_role, preamble_expect, preamble_role, preamble_step, set_on, open_on, with_name, with_stamp, opening_role, after_opening, skipped, outside_step, entry_step, argument_line, saying_in, refusal_of, says_or, after_saying, argument_step, block_step, step_at, step_of}
 use Rattle.script.specs.Roles as Roles
 use Rattle.script.specs.Contents.{expectation_of}
 use Rattle.script.specs.Plain.{PlainLine, expects, opens, other, Standing, above, below, taking, PlainStep, plainly, trimmed_line, inward, expectation_line, plain_above, taken_by, taken_on, under, plain_below, has_key, remaining, plain_step, stated}
-use Rattle.script.specs.declared.records.Stamp.{Stamp}
 use Rattle.script.specs.declared.records.Expect.{Expect}
 use Rattle.script.specs.declared.records.Expectation.{Expectation}
+use Rattle.script.specs.declared.refusals.Reason.{Reason}
 use Rattle.script.specs.declared.roles.Key.{Key}
 use Rattle.script.specs.declared.roles.Takes.{Takes}
 use Rattle.script.specs.declared.roles.Takes.TheVariants.{NoLines, Options, Garbage, Verify, Texts, Store, Multiple, FirstData, FirstRaw}
@@ -45,6 +44,9 @@ use Rattle.script.specs.declared.roles.Saying.TheVariants.{Known, Pair, NoColon,
 use Rattle.script.specs.declared.roles.Role.{Role}
 use Rattle.script.specs.declared.roles.Role.TheVariants.{Nothing, Says, Expects, Opens, Bad}
 use Rattle.script.specs.declared.roles.Step.{Step}
+use Rattle.script.specs.declared.records.Time.{Time}
+use Rattle.script.specs.declared.refusals.Reason.TheVariants.{BraceNotClosed, UnexpectedPreambleLine, UnknownExpectation}
+use Rattle.script.specs.declared.roles.Stamped.{Stamped}
 
 -- where the plain judge stands when the reading stands at w
 abbrev pub standing : Where → Standing
@@ -120,7 +122,7 @@ at_start (suc k) [] rest x e = absurd (nothing_there e)
 at_start (suc k) (y ∷ l) rest x e = (l, (let f : y ≡ x = cc in ap (λ (n : ℕ). n ∷ l) f))
 
 -- the first b from a place on stands there or further on
-from_place : (b at n : ℕ) (s : List ℕ) → position_from b at s ≡ some n → at ≤ n
+from_place : (b at n : ℕ) (s : List ℕ) → position_from b at s ≡ Some n → at ≤ n
 unfolding position_from
 from_place b at n [] e = let q : ◌≡◌ {A = ℕ} 0 1 = cc in absurd (zero_one q)
   where
@@ -128,17 +130,17 @@ from_place b at n [] e = let q : ◌≡◌ {A = ℕ} 0 1 = cc in absurd (zero_on
     zero_one z = omega arith
 from_place b at n (x ∷ s) e = go (eqb x b) e (from_place b (at + 1) n s)
   where
-    go : (t : Bool) → (if t then some at else position_from b (at + 1) s) ≡ some n → (position_from b (at + 1) s ≡ some n → at + 1 ≤ n) → at ≤ n
+    go : (t : Bool) → (if t then Some at else position_from b (at + 1) s) ≡ Some n → (position_from b (at + 1) s ≡ Some n → at + 1 ≤ n) → at ≤ n
     go true e later = let f : at ≡ n = cc in omega arith
     go false e later = omega (arith, later e)
 
 -- a piece cut in two, or whole
 abbrev cut_or_whole : Span → Option Cut → Cut
-cut_or_whole p o = elim o [ none ↦ cut_into p (span p.end p.end) | some c ↦ c ]
+cut_or_whole p o = elim o [ None ↦ cut_into p (span p.end p.end) | Some c ↦ c ]
 
-module _ (text : List ℕ) (t : Span) (x : ℕ) (rest : List ℕ) (is_x : bytes text t ≡ x ∷ rest) (no_name : (more : List ℕ) → named (x ∷ more) ≡ none) where
+module _ (text : List ℕ) (t : Span) (x : ℕ) (rest : List ℕ) (is_x : bytes text t ≡ x ∷ rest) (no_name : (more : List ℕ) → named (x ∷ more) ≡ None) where
   -- the piece up to a blank that is not its first byte
-  name-none : (n : ℕ) → 1 ≤ n → named (bytes text (span t.start (t.start + n))) ≡ none
+  name-none : (n : ℕ) → 1 ≤ n → named (bytes text (span t.start (t.start + n))) ≡ None
   unfolding bytes
   name-none zero h = absurd (omega arith)
   name-none (suc m) h =
@@ -150,27 +152,27 @@ module _ (text : List ℕ) (t : Span) (x : ℕ) (rest : List ℕ) (is_x : bytes 
     unfolding position position_from
     first_blank = rw (is_x, no-blank)
 
-    cut-is : (o : Option ℕ) → position BLANK (bytes text t) ≡ o → cut_or text BLANK t ≡ cut_or_whole t (o >>= (λ n. some (cut_at t n)))
+    cut-is : (o : Option ℕ) → position BLANK (bytes text t) ≡ o → cut_or text BLANK t ≡ cut_or_whole t (o >>= (λ n. Some (cut_at t n)))
     unfolding cut_or cut
-    cut-is o e = ap (λ (q : Option ℕ). cut_or_whole t (q >>= (λ n. some (cut_at t n)))) e
+    cut-is o e = ap (λ (q : Option ℕ). cut_or_whole t (q >>= (λ n. Some (cut_at t n)))) e
 
-    before-none : named (bytes text (cut_or text BLANK t).before) ≡ none
+    before-none : named (bytes text (cut_or text BLANK t).before) ≡ None
     unfolding cut_at
     before-none = ap (λ (c : Cut). named (bytes text c.before)) (cut-is (position_from BLANK (0 + 1) rest) first_blank) ∙ go (position_from BLANK (0 + 1) rest) refl
       where
-        go : (o : Option ℕ) → position_from BLANK (0 + 1) rest ≡ o → named (bytes text (cut_or_whole t (o >>= (λ n. some (cut_at t n)))).before) ≡ none
-        go none e = rw is_x (no_name rest)
-        go (some n) e = name-none n (from_place BLANK (0 + 1) n rest e)
+        go : (o : Option ℕ) → position_from BLANK (0 + 1) rest ≡ o → named (bytes text (cut_or_whole t (o >>= (λ n. Some (cut_at t n)))).before) ≡ None
+        go None e = rw is_x (no_name rest)
+        go (Some n) e = name-none n (from_place BLANK (0 + 1) n rest e)
 
     opening-bad : begins_with "@" (x ∷ rest) ≡ false → is_bad (opening_role text t) ≡ true
     unfolding opening_role stamped behind begins with_stamp with_name
     opening-bad no_stamp = rw (is_x, no_stamp, stamped, before-none)
 
-hash_name : (more : List ℕ) → named (0x23 ∷ more) ≡ none
+hash_name : (more : List ℕ) → named (0x23 ∷ more) ≡ None
 unfolding named first spells operation
 hash_name more = refl
 
-small_e_name : (more : List ℕ) → named (0x65 ∷ more) ≡ none
+small_e_name : (more : List ℕ) → named (0x65 ∷ more) ≡ None
 unfolding named first spells operation
 small_e_name more = refl
 
@@ -254,35 +256,35 @@ module _ (text : List ℕ) (l : Line) where
   abbrev Opened : Role → Takes → Type 0
   Opened r takes = Agree text l (step r (after_opening r)) (plainly opens (under takes))
 
-  with_name_lem : (stamp : Stamp) (op : Option Op) (args : Span) → is_bad (with_name text stamp op args) ≡ false → Opened (with_name text stamp op args) (taken_by op)
+  with_name_lem : (stamp : Option Time) (op : Option Op) (args : Span) → is_bad (with_name text stamp op args) ≡ false → Opened (with_name text stamp op args) (taken_by op)
   unfolding with_name taken_by expectation_of
-  with_name_lem stamp none args ok = absurd (true≢false ok)
-  with_name_lem stamp (some op) args ok = go (open_on text (set_on text (form_of op).syntax args)) ok
+  with_name_lem stamp None args ok = absurd (true≢false ok)
+  with_name_lem stamp (Some op) args ok = go (open_on text (set_on text (form_of op).syntax args)) ok
     where
-      go : (b : Bool) → is_bad (if b then Bad 10 else Opens (Roles.opening stamp op args)) ≡ false
-          → Agree text l (step (if b then Bad 10 else Opens (Roles.opening stamp op args)) (after_opening (if b then Bad 10 else Opens (Roles.opening stamp op args)))) (plainly opens (under (form_of op).takes))
+      go : (b : Bool) → is_bad (if b then Bad BraceNotClosed else Opens (Roles.opening stamp op args)) ≡ false
+          → Agree text l (step (if b then Bad BraceNotClosed else Opens (Roles.opening stamp op args)) (after_opening (if b then Bad BraceNotClosed else Opens (Roles.opening stamp op args)))) (plainly opens (under (form_of op).takes))
       go true ok = absurd (true≢false ok)
       go false ok = record { mark = refl; next = standing_below (form_of op).takes; same = refl }
 
   opening_of : (a : Answer Stamped) → is_bad (with_stamp text a) ≡ false → Opened (with_stamp text a) (taken_on text a)
   unfolding with_stamp taken_on
-  opening_of (given s) ok = with_name_lem s.stamp _ _ ok
-  opening_of (refused n) ok = absurd (true≢false ok)
+  opening_of (Ok s) ok = with_name_lem s.stamp _ _ ok
+  opening_of (Err n) ok = absurd (true≢false ok)
 
   -- ---- expectation lines
 
   expecting-is : (a : Answer Expect) → is_bad (expecting a) ≡ false → plain_of l (expecting a) ≡ expects l
-  expecting-is (given e) ok = refl
-  expecting-is (refused n) ok = absurd (true≢false ok)
+  expecting-is (Ok e) ok = refl
+  expecting-is (Err n) ok = absurd (true≢false ok)
 
   expect_is : is_bad (expect_role text t) ≡ false → plain_of l (expect_role text t) ≡ expects l
   unfolding expect_role
   expect_is ok = go (behind text "expect" t) ok
     where
-      go : (o : Option Span) → is_bad (elim o [ none ↦ Bad 4 | some rest ↦ expecting (expectation text (trim text rest)) ]) ≡ false
-          → plain_of l (elim o [ none ↦ Bad 4 | some rest ↦ expecting (expectation text (trim text rest)) ]) ≡ expects l
-      go none ok = absurd (true≢false ok)
-      go (some rest) ok = expecting-is (expectation text (trim text rest)) ok
+      go : (o : Option Span) → is_bad (elim o [ None ↦ Bad UnknownExpectation | Some rest ↦ expecting (expectation text (trim text rest)) ]) ≡ false
+          → plain_of l (elim o [ None ↦ Bad UnknownExpectation | Some rest ↦ expecting (expectation text (trim text rest)) ]) ≡ expects l
+      go None ok = absurd (true≢false ok)
+      go (Some rest) ok = expecting-is (expectation text (trim text rest)) ok
 
   -- ---- below the `---` line
 
@@ -332,9 +334,9 @@ module _ (text : List ℕ) (l : Line) where
 
   -- ---- argument lines
 
-  says_is : (s : Saying) (o : Option ℕ) → plain_of l (says_or s o) ≡ other
-  says_is s none = refl
-  says_is s (some n) = refl
+  says_is : (s : Saying) (o : Option Reason) → plain_of l (says_or s o) ≡ other
+  says_is s None = refl
+  says_is s (Some n) = refl
 
   after_is : (takes : Takes) (list_open : Bool) → standing (after_saying takes (saying_in text takes list_open t)) ≡ remaining text takes t
   unfolding remaining saying_in
@@ -363,10 +365,10 @@ module _ (text : List ℕ) (l : Line) where
 
   said : (k₁ k₂ k₃ : Key) (a b c : Option Span) → plain_of l (first_of (saying text k₁ a ∷ saying text k₂ b ∷ saying text k₃ c ∷ []) Nothing) ≡ other
   unfolding first_of saying
-  said k₁ k₂ k₃ (some a) b c = refl
-  said k₁ k₂ k₃ none (some b) c = refl
-  said k₁ k₂ k₃ none none (some c) = refl
-  said k₁ k₂ k₃ none none none = refl
+  said k₁ k₂ k₃ (Some a) b c = refl
+  said k₁ k₂ k₃ None (Some b) c = refl
+  said k₁ k₂ k₃ None None (Some c) = refl
+  said k₁ k₂ k₃ None None None = refl
 
   comment_is : plain_of l (comment_role text t) ≡ other
   unfolding comment_role
@@ -374,21 +376,21 @@ module _ (text : List ℕ) (l : Line) where
 
   version-is : (v : Option ProtocolVersion) (p : Span) → plain_of l (version_role v p) ≡ other
   unfolding version_role
-  version-is none p = refl
-  version-is (some v) p = refl
+  version-is None p = refl
+  version-is (Some v) p = refl
 
-  words : (k : Key) (a b : Option Span) → plain_of l (first_of (protocol_role text a ∷ saying text k b ∷ []) (Bad 3)) ≡ other
+  words : (k : Key) (a b : Option Span) → plain_of l (first_of (protocol_role text a ∷ saying text k b ∷ []) (Bad UnexpectedPreambleLine)) ≡ other
   unfolding first_of saying protocol_role
-  words k (some a) b = version-is (version (bytes text (trim text a))) (trim text a)
-  words k none (some b) = refl
-  words k none none = refl
+  words k (Some a) b = version-is (version (bytes text (trim text a))) (trim text a)
+  words k None (Some b) = refl
+  words k None None = refl
 
   word_is : plain_of l (word_role text t) ≡ other
   unfolding word_role
   word_is = words _ _ _
 
-  preamble_expect_lem : (a : Bool) → is_bad (if a then expect_role text t else Bad 3) ≡ false
-      → (plain_of l (if a then expect_role text t else Bad 3) ≡ expects l) × (expectation_of l.number (if a then expect_role text t else Bad 3) ≡ stated text l)
+  preamble_expect_lem : (a : Bool) → is_bad (if a then expect_role text t else Bad UnexpectedPreambleLine) ≡ false
+      → (plain_of l (if a then expect_role text t else Bad UnexpectedPreambleLine) ≡ expects l) × (expectation_of l.number (if a then expect_role text t else Bad UnexpectedPreambleLine) ≡ stated text l)
   unfolding stated
   preamble_expect_lem true ok = (expect_is ok, refl)
   preamble_expect_lem false ok = absurd (true≢false ok)

@@ -2,13 +2,12 @@
 use mathlib.Core.Path.{◌≡◌, refl, sym, ap, ap₂, ◌∙◌, subst⁻¹}
 use mathlib.Core.Bool.{Bool, true, false, not, false≢true}
 use mathlib.Core.List.{List, [], ◌∷◌, ◌++◌, map}
-use mathlib.Core.Option.{Option, none, some}
 use Prim.Native.Nat.{ℕ, suc, ◌+◌, ◌≤◌}
 use native.Mathlib.Omega.{arith}
 use lib.ListN.{length}
 use lib.Dec.{eqb, ltb}
 use borrow.Author.Tests.{eq-eqb, ltb-false}
-use Rattle.std.specs.Prelude.{if◌then◌else◌}
+use Rattle.std.specs.Prelude.{if◌then◌else◌, Err, None, Ok, Option, Some}
 use Rattle.text.specs.Base.{LF, CR}
 use Rattle.text.specs.Utf8.{well_formed}
 use Rattle.text.specs.Lines.{line, lines_from, lines}
@@ -21,8 +20,9 @@ use Rattle.script.specs.declared.roles.Role.{Role}
 use Rattle.script.specs.declared.roles.Role.TheVariants.{Nothing, Says, Expects, Opens, Bad}
 use Rattle.script.specs.Contents.{ScriptContents, expectation_of, expectations, is_opening, lead, entry_of, entry_on, entries, preamble_of, contents}
 use Rattle.script.specs.Layout.{Reading, range, listed, tables_from, laid_preamble, laid_script}
-use Rattle.script.specs.Reading.{Parsed, refused_at, read, refusal, refused_by, first_refused, read_marked, read_by, parsed_by}
-use Rattle.script.specs.Plain.{PlainLine, expects, opens, other, Standing, above, plain_step, plain_from, plain_lines, opened, expectation_lines, stated, stated_on, leading, ranges_from}
+use Rattle.script.specs.Reading.{refused_by, first_refused, read_marked, read_by, parsed_by, Parsed}
+use Rattle.script.specs.Refusals.{refusal}
+use Rattle.script.specs.Plain.{PlainLine, expects, opens, other, Standing, above, plain_step, plain_from, plain_lines, opened, expectation_lines, stated_on, leading, ranges_from}
 use Rattle.script.specs.Bridge.{AsPlain, Few}
 use Rattle.script.specs.Inside.{AllIn}
 use Rattle.script.proofs.Inside.{all_in}
@@ -30,12 +30,13 @@ use Rattle.script.specs.declared.records.Items.{Items}
 use Rattle.script.specs.declared.records.Expectation.{Expectation}
 use Rattle.script.specs.declared.records.Refusal.{Refusal}
 use Rattle.script.proofs.Agreement.{standing, plain_of, is_bad, stated_in, agree}
+use Rattle.script.specs.declared.refusals.Reason.TheVariants.{NotUtf8, TextTooLong}
 
 zero_one : ◌≡◌ {A = ℕ} 0 1 → ⊥
 zero_one e = omega arith
 
 -- no refused line: the first is not, and no later one
-not_bad : (line : ℕ) (r : Role) (later : Option Refusal) → refused_by line r later ≡ none → (is_bad r ≡ false) × (later ≡ none)
+not_bad : (line : ℕ) (r : Role) (later : Option Refusal) → refused_by line r later ≡ None → (is_bad r ≡ false) × (later ≡ None)
 unfolding refused_by
 not_bad line Nothing later h = (refl, h)
 not_bad line (Says s) later h = (refl, h)
@@ -50,7 +51,7 @@ data Seen (text : List ℕ) : List Marked → List PlainLine → Type 0 where
       → Seen text (record { line = l.number; role = r } ∷ ms) (plain_of l r ∷ ps)
 
 -- the plain judge sees just these
-seen : (rules : Rules) (text : List ℕ) (w : Where) (ls : List Line) → first_refused (roles_from rules text w ls) ≡ none → Seen text (roles_from rules text w ls) (plain_from text (standing w) ls)
+seen : (rules : Rules) (text : List ℕ) (w : Where) (ls : List Line) → first_refused (roles_from rules text w ls) ≡ None → Seen text (roles_from rules text w ls) (plain_from text (standing w) ls)
 unfolding first_refused roles_from plain_from
 seen rules text w [] h = nil
 seen rules text w (l ∷ ls) h =
@@ -126,7 +127,7 @@ module _ (rules : Rules) where
   seen_ranges (cons l (Bad n) s e) i x b at h = seen_ranges s i x b at h
 
   -- what marked lines that are read hold
-  held : (text : List ℕ) → first_refused (roles rules text (lines text)) ≡ none → AsPlain text (laid_script (contents rules text (roles rules text (lines text))))
+  held : (text : List ℕ) → first_refused (roles rules text (lines text)) ≡ None → AsPlain text (laid_script (contents rules text (roles rules text (lines text))))
   unfolding laid_script contents laid_preamble preamble_of roles plain_lines listed
   held text h =
       let s = seen rules text InPreamble (lines text) h in
@@ -143,12 +144,12 @@ module _ (rules : Rules) where
   -- ---- from the reading to the marked lines
 
   marked-read : (text : List ℕ) (s : ScriptContents) (o : Option Refusal) → first_refused (roles rules text (lines text)) ≡ o
-      → elim o [ none ↦ read (contents rules text (roles rules text (lines text))) | some r ↦ refused_at r ] ≡ read s → AsPlain text (laid_script s)
-  marked-read text s none h e = let f : contents rules text (roles rules text (lines text)) ≡ s = cc in rw f at (held text h)
-  marked-read text s (some r) h e = let z : ◌≡◌ {A = ℕ} 0 1 = cc in absurd (zero_one z)
+      → ◌≡◌ {A = Parsed ScriptContents} (elim o [ None ↦ Ok (contents rules text (roles rules text (lines text))) | Some r ↦ Err r ]) (Ok s) → AsPlain text (laid_script s)
+  marked-read text s None h e = let f : contents rules text (roles rules text (lines text)) ≡ s = cc in rw f at (held text h)
+  marked-read text s (Some r) h e = let z : ◌≡◌ {A = ℕ} 0 1 = cc in absurd (zero_one z)
 
   text-read : (text : List ℕ) (s : ScriptContents) (long ill : Bool)
-      → (if long then refused_at (refusal 1 0) else if ill then refused_at (refusal 2 0) else read_marked rules text (roles rules text (lines text))) ≡ read s
+      → ◌≡◌ {A = Parsed ScriptContents} (if long then Err (refusal TextTooLong 0) else if ill then Err (refusal NotUtf8 0) else read_marked rules text (roles rules text (lines text))) (Ok s)
       → AsPlain text (laid_script s)
   unfolding read_marked
   text-read text s true ill e = let z : ◌≡◌ {A = ℕ} 0 1 = cc in absurd (zero_one z)
@@ -156,13 +157,13 @@ module _ (rules : Rules) where
   text-read text s false false e = marked-read text s (first_refused (roles rules text (lines text))) refl e
 
   laid-read : (text : List ℕ) (r : Reading) (p : Parsed ScriptContents) → read_by rules text ≡ p
-      → elim p [ refused_at q ↦ refused_at q | read s ↦ read (laid_script s) ] ≡ read r → AsPlain text r
+      → ◌≡◌ {A = Parsed Reading} (elim p [ Err q ↦ Err q | Ok s ↦ Ok (laid_script s) ]) (Ok r) → AsPlain text r
   unfolding read_by
-  laid-read text r (refused_at q) h e = let z : ◌≡◌ {A = ℕ} 0 1 = cc in absurd (zero_one z)
-  laid-read text r (read s) h e = let f : laid_script s ≡ r = cc in rw f at (text-read text s (ltb 0x8000 (length text)) (not (well_formed text)) h)
+  laid-read text r (Err q) h e = let z : ◌≡◌ {A = ℕ} 0 1 = cc in absurd (zero_one z)
+  laid-read text r (Ok s) h e = let f : laid_script s ≡ r = cc in rw f at (text-read text s (ltb 0x8000 (length text)) (not (well_formed text)) h)
 
   -- Every text that is read, by the rules of any edition, has its tables as the plain judge's lines ask for them.
-  pub as_plain : (text : List ℕ) (r : Reading) → parsed_by rules text ≡ read r → AsPlain text r
+  pub as_plain : (text : List ℕ) (r : Reading) → parsed_by rules text ≡ Ok r → AsPlain text r
   unfolding parsed_by
   as_plain text r h = laid-read text r (read_by rules text) refl h
 
@@ -221,20 +222,20 @@ few text h =
     }
 
 -- and a text that is read has no more bytes
-pub few_read : (rules : Rules) (text : List ℕ) (s : ScriptContents) → read_by rules text ≡ read s → length text ≤ 0x8000
+pub few_read : (rules : Rules) (text : List ℕ) (s : ScriptContents) → read_by rules text ≡ Ok s → length text ≤ 0x8000
 unfolding read_by
 few_read rules text s h = go (ltb 0x8000 (length text)) refl h
   where
     go : (b : Bool) → ltb 0x8000 (length text) ≡ b
-        → (if b then refused_at (refusal 1 0) else if not (well_formed text) then refused_at (refusal 2 0) else read_marked rules text (roles rules text (lines text))) ≡ read s
+        → (if b then Err (refusal TextTooLong 0) else if not (well_formed text) then Err (refusal NotUtf8 0) else read_marked rules text (roles rules text (lines text))) ≡ Ok s
         → length text ≤ 0x8000
     go true e f = let z : ◌≡◌ {A = ℕ} 0 1 = cc in absurd (zero_one z)
     go false e f = omega (arith, ltb-false)
 
-pub few_parsed : (rules : Rules) (text : List ℕ) (r : Reading) → parsed_by rules text ≡ read r → Few text
+pub few_parsed : (rules : Rules) (text : List ℕ) (r : Reading) → parsed_by rules text ≡ Ok r → Few text
 unfolding parsed_by
 few_parsed rules text r h = go (read_by rules text) refl h
   where
-    go : (p : Parsed ScriptContents) → read_by rules text ≡ p → elim p [ refused_at q ↦ refused_at q | read s ↦ read (laid_script s) ] ≡ read r → Few text
-    go (refused_at q) e f = let z : ◌≡◌ {A = ℕ} 0 1 = cc in absurd (zero_one z)
-    go (read s) e f = few text (few_read rules text s e)
+    go : (p : Parsed ScriptContents) → read_by rules text ≡ p → ◌≡◌ {A = Parsed Reading} (elim p [ Err q ↦ Err q | Ok s ↦ Ok (laid_script s) ]) (Ok r) → Few text
+    go (Err q) e f = let z : ◌≡◌ {A = ℕ} 0 1 = cc in absurd (zero_one z)
+    go (Ok s) e f = few text (few_read rules text s e)

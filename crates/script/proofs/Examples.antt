@@ -1,5 +1,6 @@
 -- Worked examples of the reading, as theorems that antt computes: the reading part of the table of document 01, and texts where a reading is likely to go
 -- wrong. What is wanted came from the Rust, not from the definition. Assumes nothing.
+use Rattle.std.specs.Prelude.{Err, None, Ok, Option, Some}
 use Prim.Native.Nat.{ℕ}
 use Prim.Native.String.{String}
 use mathlib.Core.Path.{◌≡◌, refl}
@@ -35,21 +36,21 @@ use Rattle.text.specs.Words as text-Words
 use Rattle.wire.specs.Operations as wire-Operations
 use Rattle.version.specs.Version as wire-Version
 use Rattle.script.specs.Layout.{Reading}
-use Rattle.script.specs.Reading.{Parsed, refused_at, read, refusal, parsed}
+use Rattle.script.specs.Reading.{parsed, Parsed}
+use Rattle.script.specs.Refusals.{refusal}
 use Rattle.script.specs.Plain.{PlainLine, plain_lines, opened, owners}
 use Rattle.wire.specs.declared.ops.Op.TheVariants.{the_data as Op}
 use Rattle.script.specs.declared.records.Place.{Place}
 use Rattle.script.specs.declared.records.Items.{Items}
-use Rattle.script.specs.declared.records.Maybe.{Maybe}
-use Rattle.script.specs.declared.records.MaybeItems.{MaybeItems}
 use Rattle.script.specs.declared.records.Matcher.{Matcher}
 use Rattle.script.specs.declared.records.Expect.{Expect}
 use Rattle.script.specs.declared.records.Expectation.{Expectation}
 use Rattle.script.specs.declared.records.FramedData.{FramedData}
-use Rattle.script.specs.declared.records.Stamp.{Stamp}
 use Rattle.script.specs.declared.records.OpCall.{OpCall}
 use Rattle.script.specs.declared.records.Entry.{Entry}
 use Rattle.script.specs.declared.records.Preamble.{Preamble}
+use Rattle.script.specs.declared.records.Time.{Time}
+use Rattle.script.specs.declared.refusals.Reason.TheVariants.{BraceNotClosed, DataUnknown, MatcherNumberUnreadable, NoF64, NotCarried, NotUtf8, UnexpectedPreambleLine, UnknownExpectation, UnknownOperation}
 
 -- the reading of a text, every definition open
 abbrev reading : List ℕ → Parsed Reading
@@ -62,11 +63,11 @@ at start len = record { start = start; len = len }
 abbrev items : ℕ → ℕ → Items
 items first count = record { first = first; count = count }
 
-abbrev entry : ℕ → Stamp → OpCall → Items → Entry
+abbrev entry : ℕ → Option Time → OpCall → Items → Entry
 entry line timestamp call expects = record { line = line; timestamp_ms = timestamp; op_call = call; expects = expects }
 
-abbrev stamp : Bool → ℕ → ℕ → Stamp
-stamp negative digits decimals = Stamp.At (record { negative = negative; digits = digits; decimals = pos decimals })
+abbrev stamp : Bool → ℕ → ℕ → Option Time
+stamp negative digits decimals = Some (record { negative = negative; digits = digits; decimals = pos decimals })
 
 abbrev expectation : ℕ → Expect → Expectation
 expectation line expect = record { line = line; expect = expect }
@@ -88,7 +89,7 @@ options a b c d e f g h i j k l overrides = OpCall.SetOptions (record {
   overrides = overrides;
 })
 
-abbrev preamble : ℕ → ℕ → Items → Items → Maybe → Maybe → MaybeItems → Preamble
+abbrev preamble : ℕ → ℕ → Items → Items → Option Place → Option Place → Option Items → Preamble
 preamble major minor client expects daemon trust server = record {
   protocol_version = record { major = major; minor = minor };
   client_features = client;
@@ -100,14 +101,14 @@ preamble major minor client expects daemon trust server = record {
 
 -- read: a preamble, entries, items, expectations and the store; the counts are the tables' lengths
 abbrev says : Preamble → List Entry → List Place → List Expectation → List ℕ → Parsed Reading
-says p es is xs bytes = read (record {
+says p es is xs bytes = Ok (record {
   script = record { preamble = p; counts = record { entries = length es; items = length is; expectations = length xs; store = length bytes } };
   tables = record { entries = es; items = is; expectations = xs; store = bytes };
 })
 
 -- the same where the preamble says nothing
 abbrev reads : List Entry → List Place → List Expectation → List ℕ → Parsed Reading
-reads es is xs bytes = says (preamble 1 38 (items 0 0) (items 0 0) Maybe.Absent Maybe.Absent MaybeItems.Absent) es is xs bytes
+reads es is xs bytes = says (preamble 1 38 (items 0 0) (items 0 0) None None None) es is xs bytes
 
 -- a case: a text, and its reading
 record Case : Type 0 where
@@ -125,19 +126,19 @@ table : List Case
 table =
     -- P1: unescaping is no single walk; P2 and P3: hex
     text "---\nAddTextToStore\n  text: \"a\\\\nb\""
-    (reads (entry 2 Stamp.Absent (OpCall.AddTextToStore (at 0 0) (at 0 4) (items 0 0)) (items 0 0) ∷ []) [] [] (97 ∷ 92 ∷ 10 ∷ 98 ∷ []))
+    (reads (entry 2 None (OpCall.AddTextToStore (at 0 0) (at 0 4) (items 0 0)) (items 0 0) ∷ []) [] [] (97 ∷ 92 ∷ 10 ∷ 98 ∷ []))
     ∷ text "---\nBuildDerivation\n  raw x\"+a1\""
-    (reads (entry 2 Stamp.Absent (OpCall.RawBytes Op.BuildDerivation (at 0 1)) (items 0 0) ∷ []) [] [] (10 ∷ []))
+    (reads (entry 2 None (OpCall.RawBytes Op.BuildDerivation (at 0 1)) (items 0 0) ∷ []) [] [] (10 ∷ []))
     ∷ text "---\nBuildDerivation\n  raw x\"zz0F\""
-    (reads (entry 2 Stamp.Absent (OpCall.RawBytes Op.BuildDerivation (at 0 1)) (items 0 0) ∷ []) [] [] (15 ∷ []))
+    (reads (entry 2 None (OpCall.RawBytes Op.BuildDerivation (at 0 1)) (items 0 0) ∷ []) [] [] (15 ∷ []))
     -- P4: a path set keeps empty items; P5: a feature set drops them
     ∷ text "---\nQueryMissing {a, ,b}"
-    (reads (entry 2 Stamp.Absent (OpCall.PathSet Op.QueryMissing (items 0 3)) (items 0 0) ∷ []) ((at 18 1) ∷ (at 0 0) ∷ (at 22 1) ∷ []) [] [])
+    (reads (entry 2 None (OpCall.PathSet Op.QueryMissing (items 0 3)) (items 0 0) ∷ []) ((at 18 1) ∷ (at 0 0) ∷ (at 22 1) ∷ []) [] [])
     ∷ text "features: {a, ,b}"
-    (says (preamble 1 38 (items 0 2) (items 0 0) Maybe.Absent Maybe.Absent MaybeItems.Absent) [] ((at 11 1) ∷ (at 15 1) ∷ []) [] [])
+    (says (preamble 1 38 (items 0 2) (items 0 0) None None None) [] ((at 11 1) ∷ (at 15 1) ∷ []) [] [])
     -- P6: `//` is a pattern, `/` is exact
     ∷ text "expect trust: //\nexpect daemon: /"
-    (says (preamble 1 38 (items 0 0) (items 0 2) Maybe.Absent Maybe.Absent MaybeItems.Absent) [] [] (expectation 1 (Expect.Trust (Matcher.Regex (at 0 0))) ∷ expectation 2 (Expect.Daemon (Matcher.Exact (at 32 1))) ∷ []) [])
+    (says (preamble 1 38 (items 0 0) (items 0 2) None None None) [] [] (expectation 1 (Expect.Trust (Matcher.Regex (at 0 0))) ∷ expectation 2 (Expect.Daemon (Matcher.Exact (at 32 1))) ∷ []) [])
     -- P9: the empty text; P10: a version that cannot be read
     ∷ text ""
     (reads [] [] [] [])
@@ -145,15 +146,15 @@ table =
     (reads [] [] [] [])
     -- P11 to P15
     ∷ text "---\n# nwscript v1"
-    (refused_at (refusal 9 2))
+    (Err (refusal UnknownOperation 2))
     ∷ text "---\n@1msSyncWithGC"
     (reads (entry 2 (stamp false 1 0) (OpCall.NoArgs Op.SyncWithGC) (items 0 0) ∷ []) [] [] [])
     ∷ text "---\nSetOptions\n  verbosity: 3\n  verbosity: x"
-    (reads (entry 2 Stamp.Absent (options 0 0 0 0 0 0 0 0 0 0 0 0 (items 0 0)) (items 0 0) ∷ []) [] [] [])
+    (reads (entry 2 None (options 0 0 0 0 0 0 0 0 0 0 0 0 (items 0 0)) (items 0 0) ∷ []) [] [] [])
     ∷ text "---\nQueryValidPaths /a substitute"
-    (reads (entry 2 Stamp.Absent (OpCall.PathSetFlag Op.QueryValidPaths (items 0 1) false) (items 0 0) ∷ []) ((at 20 13) ∷ []) [] [])
+    (reads (entry 2 None (OpCall.PathSetFlag Op.QueryValidPaths (items 0 1) false) (items 0 0) ∷ []) ((at 20 13) ∷ []) [] [])
     ∷ text "---\nSyncWithGC\n expect: Last"
-    (refused_at (refusal 9 3))
+    (Err (refusal UnknownOperation 3))
     ∷ []
 
 -- traps
@@ -161,84 +162,84 @@ traps : List Case
 traps =
     -- lines, white space
     text "---\nIsValidPath cafà\u{3000}\r\n"
-    (reads (entry 2 Stamp.Absent (OpCall.SinglePath Op.IsValidPath (at 16 5)) (items 0 0) ∷ []) [] [] [])
+    (reads (entry 2 None (OpCall.SinglePath Op.IsValidPath (at 16 5)) (items 0 0) ∷ []) [] [] [])
     ∷ text "\u{feff}# nwscript v1"
-    (refused_at (refusal 3 1))
+    (Err (refusal UnexpectedPreambleLine 1))
     ∷ text "---\nSyncWithGC\n \texpect: Last"
-    (refused_at (refusal 9 3))
+    (Err (refusal UnknownOperation 3))
     ∷ text "features: a\u{3000}b"
-    (says (preamble 1 38 (items 0 2) (items 0 0) Maybe.Absent Maybe.Absent MaybeItems.Absent) [] ((at 10 1) ∷ (at 14 1) ∷ []) [] [])
+    (says (preamble 1 38 (items 0 2) (items 0 0) None None None) [] ((at 10 1) ∷ (at 14 1) ∷ []) [] [])
     ∷ text "---\nIsValidPath\t/a"
-    (refused_at (refusal 9 2))
+    (Err (refusal UnknownOperation 2))
     -- numbers, hex, unquoting
     ∷ text "protocol: +1.+5\nprotocol: 1.38.1"
-    (says (preamble 1 5 (items 0 0) (items 0 0) Maybe.Absent Maybe.Absent MaybeItems.Absent) [] [] [] [])
+    (says (preamble 1 5 (items 0 0) (items 0 0) None None None) [] [] [] [])
     ∷ text "expect stderr.count: > -9223372036854775808"
-    (says (preamble 1 38 (items 0 0) (items 0 1) Maybe.Absent Maybe.Absent MaybeItems.Absent) [] [] (expectation 1 (Expect.StderrCount (Matcher.GreaterThan (negsuc 9223372036854775807))) ∷ []) [])
+    (says (preamble 1 38 (items 0 0) (items 0 1) None None None) [] [] (expectation 1 (Expect.StderrCount (Matcher.GreaterThan (negsuc 9223372036854775807))) ∷ []) [])
     ∷ text "---\nBuildDerivation\n  raw x\"0é12\""
-    (reads (entry 2 Stamp.Absent (OpCall.RawBytes Op.BuildDerivation (at 0 1)) (items 0 0) ∷ []) [] [] (18 ∷ []))
+    (reads (entry 2 None (OpCall.RawBytes Op.BuildDerivation (at 0 1)) (items 0 0) ∷ []) [] [] (18 ∷ []))
     ∷ text "---\nAddMultipleToStore\n  data: x\"ab\"cd\"\n  repair: 00"
-    (reads (entry 2 Stamp.Absent (OpCall.AddMultipleToStore true false (FramedData.Inline (at 0 1))) (items 0 0) ∷ []) [] [] (171 ∷ []))
+    (reads (entry 2 None (OpCall.AddMultipleToStore true false (FramedData.Inline (at 0 1))) (items 0 0) ∷ []) [] [] (171 ∷ []))
     ∷ text "---\nAddTextToStore\n  suffix: \"\\\\\"\""
-    (reads (entry 2 Stamp.Absent (OpCall.AddTextToStore (at 0 2) (at 0 0) (items 0 0)) (items 0 0) ∷ []) [] [] (92 ∷ 34 ∷ []))
+    (reads (entry 2 None (OpCall.AddTextToStore (at 0 2) (at 0 0) (items 0 0)) (items 0 0) ∷ []) [] [] (92 ∷ 34 ∷ []))
     -- the preamble
     ∷ text "expectresult: 1"
-    (refused_at (refusal 3 1))
+    (Err (refusal UnexpectedPreambleLine 1))
     ∷ text "##daemon:\n# server_features: a\nfeatures: b"
-    (says (preamble 1 38 (items 0 1) (items 0 0) (Maybe.At (at 0 0)) Maybe.Absent (MaybeItems.Are (items 1 1))) [] ((at 41 1) ∷ (at 29 1) ∷ []) [] [])
+    (says (preamble 1 38 (items 0 1) (items 0 0) (Some (at 0 0)) None (Some (items 1 1))) [] ((at 41 1) ∷ (at 29 1) ∷ []) [] [])
     ∷ text "features: {a}b}"
-    (says (preamble 1 38 (items 0 1) (items 0 0) Maybe.Absent Maybe.Absent MaybeItems.Absent) [] ((at 11 3) ∷ []) [] [])
+    (says (preamble 1 38 (items 0 1) (items 0 0) None None None) [] ((at 11 3) ∷ []) [] [])
     -- entries and arguments
     ∷ text "---\nQueryMissing {,}\nQueryMissing { }"
-    (reads (entry 2 Stamp.Absent (OpCall.PathSet Op.QueryMissing (items 0 2)) (items 0 0) ∷ entry 3 Stamp.Absent (OpCall.PathSet Op.QueryMissing (items 0 0)) (items 0 0) ∷ []) ((at 0 0) ∷ (at 0 0) ∷ []) [] [])
+    (reads (entry 2 None (OpCall.PathSet Op.QueryMissing (items 0 2)) (items 0 0) ∷ entry 3 None (OpCall.PathSet Op.QueryMissing (items 0 0)) (items 0 0) ∷ []) ((at 0 0) ∷ (at 0 0) ∷ []) [] [])
     ∷ text "---\nSyncWithGC\n  IsValidPath /a\n  expect: Last"
-    (reads (entry 2 Stamp.Absent (OpCall.NoArgs Op.SyncWithGC) (items 0 0) ∷ entry 3 Stamp.Absent (OpCall.SinglePath Op.IsValidPath (at 29 2)) (items 0 1) ∷ []) [] (expectation 4 (Expect.Terminal (at 42 4)) ∷ []) [])
+    (reads (entry 2 None (OpCall.NoArgs Op.SyncWithGC) (items 0 0) ∷ entry 3 None (OpCall.SinglePath Op.IsValidPath (at 29 2)) (items 0 1) ∷ []) [] (expectation 4 (Expect.Terminal (at 42 4)) ∷ []) [])
     ∷ text "---\nVerifyStore\n  \n  repair: 1"
-    (refused_at (refusal 9 4))
+    (Err (refusal UnknownOperation 4))
     ∷ text "---\nSyncWithGC\n  # nwscript v1\n\texpectresult : 1"
-    (reads (entry 2 Stamp.Absent (OpCall.NoArgs Op.SyncWithGC) (items 0 1) ∷ []) [] (expectation 4 (Expect.Result (Matcher.Exact (at 47 1))) ∷ []) [])
+    (reads (entry 2 None (OpCall.NoArgs Op.SyncWithGC) (items 0 1) ∷ []) [] (expectation 4 (Expect.Result (Matcher.Exact (at 47 1))) ∷ []) [])
     ∷ text "---\nAddBuildLog /a\n  data: x\"00\"\n  data: x\"01\""
-    (refused_at (refusal 9 4))
+    (Err (refusal UnknownOperation 4))
     ∷ text "---\nBuildDerivation\n  raw  x\"00\""
-    (reads (entry 2 Stamp.Absent (OpCall.RawBytes Op.BuildDerivation (at 0 0)) (items 0 0) ∷ []) [] [] [])
+    (reads (entry 2 None (OpCall.RawBytes Op.BuildDerivation (at 0 0)) (items 0 0) ∷ []) [] [] [])
     ∷ text "---\nCollectGarbage\n  paths: {a\n  paths: {b}"
-    (refused_at (refusal 10 3))
+    (Err (refusal BraceNotClosed 3))
     ∷ text "---\nAddToStore\n  data: x\"00\"\n  data: @file: p\n  name: n"
-    (reads (entry 2 Stamp.Absent (OpCall.AddToStore (at 0 1) (at 0 0) (items 0 0) false (FramedData.FileRef (at 43 2))) (items 0 0) ∷ []) [] [] (110 ∷ []))
+    (reads (entry 2 None (OpCall.AddToStore (at 0 1) (at 0 0) (items 0 0) false (FramedData.FileRef (at 43 2))) (items 0 0) ∷ []) [] [] (110 ∷ []))
     ∷ text "---\nAddTextToStore\n  text: t\n  suffix: s\n  refs: {r}"
-    (reads (entry 2 Stamp.Absent (OpCall.AddTextToStore (at 0 1) (at 1 1) (items 0 1)) (items 0 0) ∷ []) ((at 50 1) ∷ []) [] (115 ∷ 116 ∷ []))
+    (reads (entry 2 None (OpCall.AddTextToStore (at 0 1) (at 1 1) (items 0 1)) (items 0 0) ∷ []) ((at 50 1) ∷ []) [] (115 ∷ 116 ∷ []))
     ∷ text "---\nAddMultipleToStore\n  data:"
-    (refused_at (refusal 11 3))
+    (Err (refusal DataUnknown 3))
     ∷ text "---\nSetOptions\n  overrides:\n  \"a: b\" = \"c\"\n  foo\n  \"d\" = \"e\"\n  verbosity : +3"
-    (reads (entry 2 Stamp.Absent (options 0 0 0 3 0 0 0 0 0 0 0 0 (items 0 2)) (items 0 0) ∷ []) ((at 31 4) ∷ (at 40 1) ∷ []) [] [])
+    (reads (entry 2 None (options 0 0 0 3 0 0 0 0 0 0 0 0 (items 0 2)) (items 0 0) ∷ []) ((at 31 4) ∷ (at 40 1) ∷ []) [] [])
     ∷ text "---\nAddPermRoot /a  /b"
-    (reads (entry 2 Stamp.Absent (OpCall.AddPermRoot (at 16 2) (at 19 3)) (items 0 0) ∷ []) [] [] [])
+    (reads (entry 2 None (OpCall.AddPermRoot (at 16 2) (at 19 3)) (items 0 0) ∷ []) [] [] [])
     ∷ text "---\nAddSignatures {a b}"
-    (reads (entry 2 Stamp.Absent (OpCall.AddSignatures (at 18 2) (items 0 1)) (items 0 0) ∷ []) ((at 21 2) ∷ []) [] [])
+    (reads (entry 2 None (OpCall.AddSignatures (at 18 2) (items 0 1)) (items 0 0) ∷ []) ((at 21 2) ∷ []) [] [])
     ∷ text "---\nQueryValidPaths {/a}substitute"
-    (reads (entry 2 Stamp.Absent (OpCall.PathSetFlag Op.QueryValidPaths (items 0 1) true) (items 0 0) ∷ []) ((at 21 2) ∷ []) [] [])
+    (reads (entry 2 None (OpCall.PathSetFlag Op.QueryValidPaths (items 0 1) true) (items 0 0) ∷ []) ((at 21 2) ∷ []) [] [])
     ∷ text "---\nBuildPaths {a} normal\nBuildPathsWithResults"
-    (reads (entry 2 Stamp.Absent (OpCall.PathSetMode Op.BuildPaths (items 0 1) (at 19 6)) (items 0 0) ∷ entry 3 Stamp.Absent (OpCall.PathSetMode Op.BuildPathsWithResults (items 0 0) (at 0 0)) (items 0 0) ∷ []) ((at 16 1) ∷ []) [] [])
+    (reads (entry 2 None (OpCall.PathSetMode Op.BuildPaths (items 0 1) (at 19 6)) (items 0 0) ∷ entry 3 None (OpCall.PathSetMode Op.BuildPathsWithResults (items 0 0) (at 0 0)) (items 0 0) ∷ []) ((at 16 1) ∷ []) [] [])
     -- timestamps
     ∷ text "---\n@5 AddTempRoot /n/items"
-    (refused_at (refusal 7 2))
+    (Err (refusal NoF64 2))
     ∷ text "---\n@-0.500ms SyncWithGC"
     (reads (entry 2 (stamp true 500 3) (OpCall.NoArgs Op.SyncWithGC) (items 0 0) ∷ []) [] [] [])
     ∷ text "---\n@1e3ms SyncWithGC"
-    (refused_at (refusal 8 2))
+    (Err (refusal NotCarried 2))
     ∷ text "---\n@x Bad {ms"
-    (refused_at (refusal 7 2))
+    (Err (refusal NoF64 2))
     ∷ text "---\n@1234567890123456789ms SyncWithGC"
-    (refused_at (refusal 8 2))
+    (Err (refusal NotCarried 2))
     -- expectations
     ∷ text "---\nFindRoots\n  expect result.: x\n  expect result .a.b : <= 7\n  expect: /x/\n  expect error: / a /"
-    (reads (entry 2 Stamp.Absent (OpCall.NoArgs Op.FindRoots) (items 0 4) ∷ []) [] (expectation 3 (Expect.ResultField (at 0 0) (Matcher.Exact (at 32 1))) ∷ expectation 4 (Expect.ResultField (at 51 3) (Matcher.LessOrEqual (pos 7))) ∷ expectation 5 (Expect.Terminal (at 72 3)) ∷ expectation 6 (Expect.Error (Matcher.Regex (at 93 3))) ∷ []) [])
+    (reads (entry 2 None (OpCall.NoArgs Op.FindRoots) (items 0 4) ∷ []) [] (expectation 3 (Expect.ResultField (at 0 0) (Matcher.Exact (at 32 1))) ∷ expectation 4 (Expect.ResultField (at 51 3) (Matcher.LessOrEqual (pos 7))) ∷ expectation 5 (Expect.Terminal (at 72 3)) ∷ expectation 6 (Expect.Error (Matcher.Regex (at 93 3))) ∷ []) [])
     ∷ text "---\nFindRoots\n  expect error : x"
-    (refused_at (refusal 4 3))
+    (Err (refusal UnknownExpectation 3))
     ∷ text "expect trust: > = 5"
-    (refused_at (refusal 5 1))
+    (Err (refusal MatcherNumberUnreadable 1))
     -- no UTF-8: this comes before a refused line
-    ∷ bytes (0x7A ∷ LF ∷ 0xC0 ∷ 0x80 ∷ []) (refused_at (refusal 2 0))
+    ∷ bytes (0x7A ∷ LF ∷ 0xC0 ∷ 0x80 ∷ []) (Err (refusal NotUtf8 0))
     ∷ []
 
 -- each text has its reading

@@ -5,14 +5,13 @@ use Prim.Native.String.{String, [] as []ˢ, ◌∷◌ as ◌∷ˢ◌}
 use mathlib.Core.Path.{◌≡◌, refl, sym}
 use mathlib.Core.Bool.{Bool, true, false}
 use mathlib.Core.List.{List, [], ◌∷◌, ◌++◌}
-use mathlib.Core.Option.{Option, none, some}
 use native.Mathlib.Omega.{arith}
 use lib.Dec.{eqb, ltb}
 use lib.IntN.{ℤ}
 use lib.ListN.{length, length-drop, drop}
 use lib.Seq.{length-take-le}
 use borrow.Author.Tests.{ltb-true}
-use Rattle.std.specs.Prelude.{if◌then◌else◌}
+use Rattle.std.specs.Prelude.{if◌then◌else◌, Err, None, Ok, Option, Some}
 use Rattle.text.specs.Base.{◌&◌, ◌or◌, LF, CR}
 use Rattle.text.specs.Literal.{begins_with, word_length}
 use Rattle.values.specs.Numbers.{signed}
@@ -22,7 +21,7 @@ use Rattle.text.specs.declared.parts.Span.{Span}
 use Rattle.text.specs.declared.lines.Line.{Line}
 use Rattle.text.proofs.Scan.{both, never, by_cases}
 use Rattle.text.proofs.TrimLaws.{trim-inside}
-use Rattle.script.specs.Answers.{Answer, given, refused, ◌>>=◌, first_of}
+use Rattle.script.specs.Answers.{◌>>=◌, first_of, Answer}
 use Rattle.script.specs.Pieces.{place_of, place, bytes, is_empty, is, begins, ends, behind, trim, inner, Cut, cut, cut_at}
 use Rattle.script.specs.Inside.{In, PlaceIn, MatcherIn, ExpectIn, AllIn}
 use Rattle.script.specs.Expectations.{COLON, SLASH, numbered, about, pattern, comparison, matcher, matching, terminal, field, result, expectation}
@@ -36,6 +35,7 @@ use Rattle.script.specs.declared.records.Expect.TheVariants.{Result, ResultField
 use Rattle.script.specs.declared.records.Expectation.{Expectation}
 use Rattle.script.specs.declared.roles.Role.{Role}
 use Rattle.script.specs.declared.roles.Role.TheVariants.{Nothing, Says, Expects, Opens, Bad}
+use Rattle.script.specs.declared.refusals.Reason.TheVariants.{UnknownExpectation}
 
 -- ---- pieces of pieces
 
@@ -61,24 +61,24 @@ word_fits (c ∷ˢ w) (x ∷ s) e = go (eqb (code c) x) e (word_fits w s)
 
 -- what holds of something that may be missing, if it is there
 abbrev pub Opt : {A : Type 0} → (A → Type 0) → Option A → Type 0
-Opt P none = Unit {0}
-Opt P (some a) = P a
+Opt P None = Unit {0}
+Opt P (Some a) = P a
 
 pub behind_in : (text : List ℕ) (w : String) (p : Span) → In text p → Opt (In text) (behind text w p)
 unfolding behind begins
 behind_in text w p i = go (begins_with w (bytes text p)) (word_fits w (bytes text p))
   where
-    go : (b : Bool) → (b ≡ true → word_length w ≤ length (bytes text p)) → Opt (In text) (if b then some (span (p.start + word_length w) p.end) else none)
+    go : (b : Bool) → (b ≡ true → word_length w ≤ length (bytes text p)) → Opt (In text) (if b then Some (span (p.start + word_length w) p.end) else None)
     go true f = record { forward = omega (arith, f refl, length-bytes text p i, i.forward); inside = i.inside }
     go false f = tt
 
 -- the first b stands inside
-pub position_in : (b at n : ℕ) (s : List ℕ) → position_from b at s ≡ some n → n < at + length s
+pub position_in : (b at n : ℕ) (s : List ℕ) → position_from b at s ≡ Some n → n < at + length s
 unfolding position_from
 position_in b at n [] e = let z : ◌≡◌ {A = Bool} true false = cc in never z
 position_in b at n (x ∷ s) e = go (eqb x b) e (position_in b (at + 1) n s)
   where
-    go : (t : Bool) → (if t then some at else position_from b (at + 1) s) ≡ some n → (position_from b (at + 1) s ≡ some n → n < at + 1 + length s) → n < at + suc (length s)
+    go : (t : Bool) → (if t then Some at else position_from b (at + 1) s) ≡ Some n → (position_from b (at + 1) s ≡ Some n → n < at + 1 + length s) → n < at + suc (length s)
     go true e later = let f : at ≡ n = cc in omega arith
     go false e later = omega (arith, later e)
 
@@ -89,9 +89,9 @@ pub cut_in : (text : List ℕ) (b : ℕ) (p : Span) → In text p → Opt (CutIn
 unfolding cut cut_at position
 cut_in text b p i = go (position_from b 0 (bytes text p)) refl
   where
-    go : (o : Option ℕ) → position_from b 0 (bytes text p) ≡ o → Opt (CutIn text) (o >>= (λ n. some (cut_at p n)))
-    go none e = tt
-    go (some n) e =
+    go : (o : Option ℕ) → position_from b 0 (bytes text p) ≡ o → Opt (CutIn text) (o >>= (λ n. Some (cut_at p n)))
+    go None e = tt
+    go (Some n) e =
         let h = position_in b 0 n (bytes text p) e in
         let l = length-bytes text p i in
         (record { forward = omega arith; inside = omega (arith, i.forward, i.inside) }, record { forward = omega (arith, i.forward); inside = i.inside })
@@ -117,25 +117,25 @@ All P (o ∷ os) = Opt P o × All P os
 pub first_in : {A : Type 0} (P : A → Type 0) (os : List (Option A)) (last : A) → All P os → P last → P (first_of os last)
 unfolding first_of
 first_in P [] last h k = k
-first_in P (some a ∷ os) last h k = h.0
-first_in P (none ∷ os) last h k = first_in P os last h.1 k
+first_in P (Some a ∷ os) last h k = h.0
+first_in P (None ∷ os) last h k = first_in P os last h.1 k
 
 -- ---- matchers and expectations
 
 module _ (text : List ℕ) where
   abbrev MatcherGiven : Answer Matcher → Type 0
-  MatcherGiven (given m) = MatcherIn (length text) m
-  MatcherGiven (refused n) = Unit {0}
+  MatcherGiven (Ok m) = MatcherIn (length text) m
+  MatcherGiven (Err n) = Unit {0}
 
   abbrev ExpectGiven : Answer Expect → Type 0
-  ExpectGiven (given e) = ExpectIn (length text) e
-  ExpectGiven (refused n) = Unit {0}
+  ExpectGiven (Ok e) = ExpectIn (length text) e
+  ExpectGiven (Err n) = Unit {0}
 
   pattern_in : (s : Span) → In text s → Opt MatcherGiven (pattern text s)
   unfolding pattern
   pattern_in s i = go (begins text "/" s & ends text s SLASH & ltb 1 (s.end - s.start)) refl
     where
-      go : (b : Bool) → begins text "/" s & ends text s SLASH & ltb 1 (s.end - s.start) ≡ b → Opt MatcherGiven (if b then some (given (Regex (place (inner s)))) else none)
+      go : (b : Bool) → begins text "/" s & ends text s SLASH & ltb 1 (s.end - s.start) ≡ b → Opt MatcherGiven (if b then Some (Ok (Regex (place (inner s)))) else None)
       go true e =
           let f = both (ends text s SLASH) (ltb 1 (s.end - s.start)) (both (begins text "/" s) (ends text s SLASH & ltb 1 (s.end - s.start)) e).1 in
           place_in_lem text (inner s) (inner_in text s (ltb-true 1 (s.end - s.start) f.1) i)
@@ -144,12 +144,12 @@ module _ (text : List ℕ) where
   -- a comparison has a number, which is no place
   comparison_in : (case : ℤ → Matcher) → ((n : ℤ) → MatcherIn (length text) (case n)) → (o : Option Span) → Opt MatcherGiven (comparison text case o)
   unfolding comparison numbered
-  comparison_in case c none = tt
-  comparison_in case c (some rest) = go (signed (bytes text (trim text rest)))
+  comparison_in case c None = tt
+  comparison_in case c (Some rest) = go (signed (bytes text (trim text rest)))
     where
       go : (o : Option ℤ) → MatcherGiven (numbered case o)
-      go none = tt
-      go (some n) = c n
+      go None = tt
+      go (Some n) = c n
 
   matcher_in_lem : (s : Span) → In text s → MatcherGiven (matcher text s)
   unfolding matcher
@@ -171,41 +171,41 @@ module _ (text : List ℕ) where
 
   about_in : (case : Matcher → Expect) → ((m : Matcher) → MatcherIn (length text) m → ExpectIn (length text) (case m)) → (a : Answer Matcher) → MatcherGiven a → ExpectGiven (about case a)
   unfolding about
-  about_in case c (given m) h = c m h
-  about_in case c (refused n) h = tt
+  about_in case c (Ok m) h = c m h
+  about_in case c (Err n) h = tt
 
   matching_in : (case : Matcher → Expect) → ((m : Matcher) → MatcherIn (length text) m → ExpectIn (length text) (case m)) → (o : Option Span) → Opt (In text) o → Opt ExpectGiven (matching text case o)
   unfolding matching
-  matching_in case c none h = tt
-  matching_in case c (some rest) h = about_in case c (matcher text (trim text rest)) (matcher_in_lem (trim text rest) (trim_in text rest h))
+  matching_in case c None h = tt
+  matching_in case c (Some rest) h = about_in case c (matcher text (trim text rest)) (matcher_in_lem (trim text rest) (trim_in text rest h))
 
   terminal_in : (o : Option Span) → Opt (In text) o → Opt ExpectGiven (terminal text o)
   unfolding terminal
-  terminal_in none h = tt
-  terminal_in (some rest) h = place_in_lem text (trim text rest) (trim_in text rest h)
+  terminal_in None h = tt
+  terminal_in (Some rest) h = place_in_lem text (trim text rest) (trim_in text rest h)
 
   field_in : (o : Option Span) → Opt (In text) o → Opt ExpectGiven (field text o)
   unfolding field
-  field_in none h = tt
-  field_in (some rest) h = go (cut text COLON rest) (cut_in text COLON rest h)
+  field_in None h = tt
+  field_in (Some rest) h = go (cut text COLON rest) (cut_in text COLON rest h)
     where
-      go : (o : Option Cut) → Opt (CutIn text) o → Opt ExpectGiven (o >>= (λ c. matching text (ResultField (place (trim text c.before))) (some c.after)))
-      go none h = tt
-      go (some c) h =
-          matching_in (ResultField (place (trim text c.before))) (λ m k. (place_in_lem text (trim text c.before) (trim_in text c.before h.0), k)) (some c.after) h.1
+      go : (o : Option Cut) → Opt (CutIn text) o → Opt ExpectGiven (o >>= (λ c. matching text (ResultField (place (trim text c.before))) (Some c.after)))
+      go None h = tt
+      go (Some c) h =
+          matching_in (ResultField (place (trim text c.before))) (λ m k. (place_in_lem text (trim text c.before) (trim_in text c.before h.0), k)) (Some c.after) h.1
 
   result_in : (o : Option Span) → Opt (In text) o → Opt ExpectGiven (result text o)
   unfolding result
-  result_in none h = tt
-  result_in (some rest) h =
+  result_in None h = tt
+  result_in (Some rest) h =
       let i = trim_in text rest h in
       go (matching text Result (behind text ":" (trim text rest))) (matching_in Result (λ m k. k) (behind text ":" (trim text rest)) (behind_in text ":" (trim text rest) i))
       (field_in (behind text "." (trim text rest)) (behind_in text "." (trim text rest) i))
     where
       go : (a : Option (Answer Expect)) → Opt ExpectGiven a → Opt ExpectGiven (field text (behind text "." (trim text rest)))
-          → Opt ExpectGiven (elim a [ none ↦ field text (behind text "." (trim text rest)) | some e ↦ some e ])
-      go none h k = k
-      go (some e) h k = h
+          → Opt ExpectGiven (elim a [ None ↦ field text (behind text "." (trim text rest)) | Some e ↦ Some e ])
+      go None h k = k
+      go (Some e) h k = h
 
   expectation_in : (r : Span) → In text r → ExpectGiven (expectation text r)
   unfolding expectation
@@ -241,16 +241,16 @@ module _ (text : List ℕ) where
   RoleIn (Bad n) = Unit {0}
 
   expecting_in : (a : Answer Expect) → ExpectGiven a → RoleIn (expecting a)
-  expecting_in (given e) h = h
-  expecting_in (refused n) h = tt
+  expecting_in (Ok e) h = h
+  expecting_in (Err n) h = tt
 
   role_in : (t : Span) → In text t → RoleIn (expect_role text t)
   unfolding expect_role
   role_in t i = go (behind text "expect" t) (behind_in text "expect" t i)
     where
-      go : (o : Option Span) → Opt (In text) o → RoleIn (elim o [ none ↦ Bad 4 | some rest ↦ expecting (expectation text (trim text rest)) ])
-      go none h = tt
-      go (some rest) h = expecting_in (expectation text (trim text rest)) (expectation_in (trim text rest) (trim_in text rest h))
+      go : (o : Option Span) → Opt (In text) o → RoleIn (elim o [ None ↦ Bad UnknownExpectation | Some rest ↦ expecting (expectation text (trim text rest)) ])
+      go None h = tt
+      go (Some rest) h = expecting_in (expectation text (trim text rest)) (expectation_in (trim text rest) (trim_in text rest h))
 
   stated_of : (line : ℕ) (r : Role) → RoleIn r → AllIn (length text) (expectation_of line r)
   unfolding expectation_of

@@ -4,11 +4,10 @@ use Prim.Native.Nat.{ℕ, suc, ◌+◌, ◌-◌, ◌≤◌, ◌<◌}
 use mathlib.Core.Path.{◌≡◌, refl, sym}
 use mathlib.Core.Bool.{Bool, true, false}
 use mathlib.Core.List.{List, [], ◌∷◌}
-use mathlib.Core.Option.{Option, none, some}
 use native.Mathlib.Omega.{arith}
 use lib.Dec.{eqb}
 use lib.ListN.{length}
-use Rattle.std.specs.Prelude.{if◌then◌else◌}
+use Rattle.std.specs.Prelude.{if◌then◌else◌, Err, None, Ok, Option, Some}
 use Rattle.text.specs.Base.{◌&◌, ◌or◌, BLANK, QUOTE}
 use Rattle.text.specs.Lines.{indented}
 use Rattle.text.specs.Parts.{span, starts_with, pair_position_from, pair_position}
@@ -19,20 +18,18 @@ use Rattle.wire.specs.Operations.{named}
 use Rattle.version.specs.Version.{version}
 use Rattle.wire.specs.declared.ops.Op.{Op}
 use Rattle.version.specs.declared.ProtocolVersion.{ProtocolVersion}
-use Rattle.script.specs.Answers.{Answer, given, refused, ◌>>=◌}
+use Rattle.script.specs.Answers.{◌>>=◌, Answer}
 use Rattle.script.specs.Pieces.{Cut, cut_into, bytes, is_empty, is, begins, behind, trim, cut, cut_or}
 use Rattle.script.specs.Operations.{keys_of, key_in, form_of}
 use Rattle.script.specs.Values.{Rules}
-use Rattle.script.specs.Timestamps.{Stamped, stamped_as, with_time, stamped_at, stamped}
+use Rattle.script.specs.Timestamps.{stamped_as, with_time, stamped_at, stamped}
 use Rattle.script.specs.Expectations.{COLON, expectation}
 use Rattle.script.specs.Roles.{line_span, opening, expecting, expect_role, says_or, behind_signs, version_role, saying, comment_role, protocol_role, word_role, preamble_expect, preamble_role, preamble_step, set_on, open_on, with_name, with_stamp, opening_role, skipped, outside_step, entry_step, argument_line, pair_in, keyed, key_saying, raw_saying, option_saying, saying_in, refusal_of, argument_step, block_step, step_at, step_of}
 use Rattle.script.specs.Inside.{In, SayingIn, RoleIn}
-use Rattle.script.specs.declared.records.Stamp.{Stamp}
-use Rattle.script.specs.declared.records.Stamp.TheVariants.{Absent}
 use Rattle.script.specs.declared.records.Time.{Time}
 use Rattle.script.specs.declared.records.Expect.{Expect}
+use Rattle.script.specs.declared.refusals.Reason.{Reason}
 use Rattle.script.specs.declared.roles.Key.{Key}
-use Rattle.script.specs.declared.roles.Key.TheVariants as Key
 use Rattle.script.specs.declared.roles.Takes.{Takes}
 use Rattle.script.specs.declared.roles.Takes.TheVariants.{NoLines, Options, Garbage, Verify, Texts, Store, Multiple, FirstData, FirstRaw}
 use Rattle.script.specs.declared.roles.Where.{Where}
@@ -42,6 +39,8 @@ use Rattle.script.specs.declared.roles.Saying.TheVariants.{Known, Pair, NoColon,
 use Rattle.script.specs.declared.roles.Role.TheVariants.{Nothing, Opens, Bad}
 use Rattle.script.specs.declared.roles.Step.{Step}
 use Rattle.script.proofs.Inside.{length-bytes, trim_in, Opt, behind_in, CutIn, cut_in, first_in}
+use Rattle.script.specs.declared.refusals.Reason.TheVariants.{BraceNotClosed, UnexpectedPreambleLine, UnknownExpectation}
+use Rattle.script.specs.declared.roles.Stamped.{Stamped}
 
 -- ---- cuts
 
@@ -49,27 +48,27 @@ pub cut_or_in : (text : List ℕ) (b : ℕ) (p : Span) → In text p → CutIn t
 unfolding cut_or
 cut_or_in text b p i = go (cut text b p) (cut_in text b p i)
   where
-    go : (o : Option Cut) → Opt (CutIn text) o → CutIn text (elim o [ none ↦ cut_into p (span p.end p.end) | some c ↦ c ])
-    go none h = (i, record { forward = omega arith; inside = i.inside })
-    go (some c) h = h
+    go : (o : Option Cut) → Opt (CutIn text) o → CutIn text (elim o [ None ↦ cut_into p (span p.end p.end) | Some c ↦ c ])
+    go None h = (i, record { forward = omega arith; inside = i.inside })
+    go (Some c) h = h
 
 two : (a b x : ℕ) (s : List ℕ) → starts_with (a ∷ b ∷ []) (x ∷ s) ≡ true → 1 ≤ length s
 unfolding starts_with
 two a b x [] t = never (sym (both (eqb x a) false t).1)
 two a b x (y ∷ s) t = omega arith
 
-pair_from : (a b : ℕ) (s : List ℕ) (at n : ℕ) → pair_position_from a b at s ≡ some n → n + 1 < at + length s
+pair_from : (a b : ℕ) (s : List ℕ) (at n : ℕ) → pair_position_from a b at s ≡ Some n → n + 1 < at + length s
 unfolding pair_position_from
 pair_from a b [] at n = λ e. let z : ◌≡◌ {A = ℕ} 0 1 = cc in omega arith
 pair_from a b (x ∷ s) at n = go (starts_with (a ∷ b ∷ []) (x ∷ s)) refl (pair_from a b s (at + 1) n)
   where
-    go : (t : Bool) → starts_with (a ∷ b ∷ []) (x ∷ s) ≡ t → (pair_position_from a b (at + 1) s ≡ some n → n + 1 < at + 1 + length s)
-        → (if t then some at else pair_position_from a b (at + 1) s) ≡ some n → n + 1 < at + length (x ∷ s)
+    go : (t : Bool) → starts_with (a ∷ b ∷ []) (x ∷ s) ≡ t → (pair_position_from a b (at + 1) s ≡ Some n → n + 1 < at + 1 + length s)
+        → (if t then Some at else pair_position_from a b (at + 1) s) ≡ Some n → n + 1 < at + length (x ∷ s)
     go true q ih e = let z : at ≡ n = cc in omega (arith, two a b x s q)
     go false q ih e = omega (arith, ih e)
 
 -- the first pair stands inside
-pub pair_inside : (a b : ℕ) (s : List ℕ) (n : ℕ) → pair_position a b s ≡ some n → n + 1 < length s
+pub pair_inside : (a b : ℕ) (s : List ℕ) (n : ℕ) → pair_position a b s ≡ Some n → n + 1 < length s
 unfolding pair_position
 pair_inside a b s n e = omega (arith, pair_from a b s 0 n e)
 
@@ -77,18 +76,18 @@ module _ (text : List ℕ) where
   -- ---- opening lines
 
   abbrev StampedIn : Answer Stamped → Type 0
-  StampedIn (given s) = In text s.rest
-  StampedIn (refused n) = Unit {0}
+  StampedIn (Ok s) = In text s.rest
+  StampedIn (Err n) = Unit {0}
 
   with_time_in : (a : Answer Time) (q : Span) → In text q → StampedIn (with_time a q)
   unfolding with_time
-  with_time_in (given t) q i = i
-  with_time_in (refused n) q i = tt
+  with_time_in (Ok t) q i = i
+  with_time_in (Err n) q i = tt
 
   stamped_at_in : (r : Span) → In text r → (o : Option ℕ) → pair_position 0x6D 0x73 (bytes text r) ≡ o → StampedIn (stamped_at text r o)
   unfolding stamped_at
-  stamped_at_in r i none e = tt
-  stamped_at_in r i (some n) e =
+  stamped_at_in r i None e = tt
+  stamped_at_in r i (Some n) e =
       let h : n + 1 < r.end - r.start = omega (arith, pair_inside 0x6D 0x73 (bytes text r) n e, length-bytes text r i) in
       with_time_in _ _ (trim_in text (span (r.start + n + 2) r.end) (record { forward = omega (arith, i.forward); inside = i.inside }))
 
@@ -96,19 +95,19 @@ module _ (text : List ℕ) where
   unfolding stamped
   stamped_in p i = go (behind text "@" p) (behind_in text "@" p i)
     where
-      go : (o : Option Span) → Opt (In text) o → StampedIn (elim o [ none ↦ given (stamped_as Absent p) | some r ↦ stamped_at text r (pair_position 0x6D 0x73 (bytes text r)) ])
-      go none h = i
-      go (some r) h = stamped_at_in r h _ refl
+      go : (o : Option Span) → Opt (In text) o → StampedIn (elim o [ None ↦ Ok (stamped_as None p) | Some r ↦ stamped_at text r (pair_position 0x6D 0x73 (bytes text r)) ])
+      go None h = i
+      go (Some r) h = stamped_at_in r h _ refl
 
-  with_name_in : (stamp : Stamp) (o : Option Op) (args : Span) → In text args → RoleIn text (with_name text stamp o args)
+  with_name_in : (stamp : Option Time) (o : Option Op) (args : Span) → In text args → RoleIn text (with_name text stamp o args)
   unfolding with_name RoleIn
-  with_name_in stamp none args i = tt
-  with_name_in stamp (some op) args i = by_cases (RoleIn text) (open_on text (set_on text (form_of op).syntax args)) (Bad 10) (Opens (opening stamp op args)) tt i
+  with_name_in stamp None args i = tt
+  with_name_in stamp (Some op) args i = by_cases (RoleIn text) (open_on text (set_on text (form_of op).syntax args)) (Bad BraceNotClosed) (Opens (opening stamp op args)) tt i
 
   with_stamp_in : (a : Answer Stamped) → StampedIn a → RoleIn text (with_stamp text a)
   unfolding with_stamp RoleIn
-  with_stamp_in (refused n) i = tt
-  with_stamp_in (given s) i =
+  with_stamp_in (Err n) i = tt
+  with_stamp_in (Ok s) i =
       let c : Cut = cut_or text BLANK s.rest in
       with_name_in s.stamp (named (bytes text c.before)) (trim text c.after) (trim_in text c.after (cut_or_in text BLANK s.rest i).1)
 
@@ -120,23 +119,23 @@ module _ (text : List ℕ) where
 
   expecting_in : (a : Answer Expect) → RoleIn text (expecting a)
   unfolding RoleIn
-  expecting_in (given e) = tt
-  expecting_in (refused n) = tt
+  expecting_in (Ok e) = tt
+  expecting_in (Err n) = tt
 
   expect_in_lem : (t : Span) → RoleIn text (expect_role text t)
   unfolding expect_role RoleIn
   expect_in_lem t = go (behind text "expect" t)
     where
-      go : (o : Option Span) → RoleIn text (elim o [ none ↦ Bad 4 | some rest ↦ expecting (expectation text (trim text rest)) ])
-      go none = tt
-      go (some rest) = expecting_in (expectation text (trim text rest))
+      go : (o : Option Span) → RoleIn text (elim o [ None ↦ Bad UnknownExpectation | Some rest ↦ expecting (expectation text (trim text rest)) ])
+      go None = tt
+      go (Some rest) = expecting_in (expectation text (trim text rest))
 
   -- ---- the preamble
 
   saying_role_in : (k : Key) (o : Option Span) → Opt (In text) o → Opt (RoleIn text) (saying text k o)
   unfolding saying RoleIn SayingIn
-  saying_role_in k none h = tt
-  saying_role_in k (some rest) h = trim_in text rest h
+  saying_role_in k None h = tt
+  saying_role_in k (Some rest) h = trim_in text rest h
 
   signs_in : (at : ℕ) (s : List ℕ) → (at ≤ behind_signs at s) × (behind_signs at s ≤ at + length s)
   unfolding behind_signs
@@ -156,18 +155,18 @@ module _ (text : List ℕ) where
 
   version_in : (o : Option ProtocolVersion) (p : Span) → In text p → RoleIn text (version_role o p)
   unfolding version_role RoleIn SayingIn
-  version_in none p i = tt
-  version_in (some v) p i = i
+  version_in None p i = tt
+  version_in (Some v) p i = i
 
   protocol_in : (o : Option Span) → Opt (In text) o → Opt (RoleIn text) (protocol_role text o)
   unfolding protocol_role
-  protocol_in none h = tt
-  protocol_in (some rest) h = version_in (version (bytes text (trim text rest))) (trim text rest) (trim_in text rest h)
+  protocol_in None h = tt
+  protocol_in (Some rest) h = version_in (version (bytes text (trim text rest))) (trim text rest) (trim_in text rest h)
 
   word_in : (t : Span) → In text t → RoleIn text (word_role text t)
   unfolding word_role RoleIn
   word_in t i =
-      first_in (RoleIn text) _ (Bad 3)
+      first_in (RoleIn text) _ (Bad UnexpectedPreambleLine)
       (protocol_in _ (behind_in text "protocol:" t i), (saying_role_in Key.Features _ (behind_in text "features:" t i), tt))
       tt
 
@@ -178,7 +177,7 @@ module _ (text : List ℕ) where
       (by_cases (RoleIn text) (is_empty t) Nothing _ tt
       (by_cases (RoleIn text) (begins text "#" t) _ _ (comment_in_lem t i)
       (by_cases (RoleIn text) (begins text "expect" t) _ _
-      (by_cases (RoleIn text) (begins text "expect " t or begins text "expect:" t) _ (Bad 3) (expect_in_lem t) tt)
+      (by_cases (RoleIn text) (begins text "expect " t or begins text "expect:" t) _ (Bad UnexpectedPreambleLine) (expect_in_lem t) tt)
       (word_in t i))))
 
   -- ---- below the `---` line
@@ -199,63 +198,63 @@ module _ (text : List ℕ) where
   unfolding pair_in SayingIn
   pair_in_lem t i = go (behind text "\"" t) (behind_in text "\"" t i)
     where
-      last : (name : Span) → In text name → (o : Option Cut) → Opt (CutIn text) o → Opt (SayingIn text) (o >>= λ value. some (Pair name value.before))
-      last name j none h = tt
-      last name j (some value) h = (j, h.0)
+      last : (name : Span) → In text name → (o : Option Cut) → Opt (CutIn text) o → Opt (SayingIn text) (o >>= λ value. Some (Pair name value.before))
+      last name j None h = tt
+      last name j (Some value) h = (j, h.0)
 
       quoted : (name : Span) → In text name → (o : Option Span) → Opt (In text) o
-          → Opt (SayingIn text) (o >>= λ c. cut text QUOTE c >>= λ value. some (Pair name value.before))
-      quoted name j none h = tt
-      quoted name j (some c) h = last name j (cut text QUOTE c) (cut_in text QUOTE c h)
+          → Opt (SayingIn text) (o >>= λ c. cut text QUOTE c >>= λ value. Some (Pair name value.before))
+      quoted name j None h = tt
+      quoted name j (Some c) h = last name j (cut text QUOTE c) (cut_in text QUOTE c h)
 
       equals : (name : Span) → In text name → (o : Option Span) → Opt (In text) o
-          → Opt (SayingIn text) (o >>= λ b. behind text "\"" (trim text b) >>= λ c. cut text QUOTE c >>= λ value. some (Pair name value.before))
-      equals name j none h = tt
-      equals name j (some b) h = quoted name j (behind text "\"" (trim text b)) (behind_in text "\"" (trim text b) (trim_in text b h))
+          → Opt (SayingIn text) (o >>= λ b. behind text "\"" (trim text b) >>= λ c. cut text QUOTE c >>= λ value. Some (Pair name value.before))
+      equals name j None h = tt
+      equals name j (Some b) h = quoted name j (behind text "\"" (trim text b)) (behind_in text "\"" (trim text b) (trim_in text b h))
 
       named_in : (o : Option Cut) → Opt (CutIn text) o
           → Opt (SayingIn text)
-          (o >>= λ name. behind text "=" (trim text name.after) >>= λ b. behind text "\"" (trim text b) >>= λ c. cut text QUOTE c >>= λ value. some (Pair name.before value.before))
-      named_in none h = tt
-      named_in (some name) h = equals name.before h.0 (behind text "=" (trim text name.after)) (behind_in text "=" (trim text name.after) (trim_in text name.after h.1))
+          (o >>= λ name. behind text "=" (trim text name.after) >>= λ b. behind text "\"" (trim text b) >>= λ c. cut text QUOTE c >>= λ value. Some (Pair name.before value.before))
+      named_in None h = tt
+      named_in (Some name) h = equals name.before h.0 (behind text "=" (trim text name.after)) (behind_in text "=" (trim text name.after) (trim_in text name.after h.1))
 
       go : (o : Option Span) → Opt (In text) o
           → Opt (SayingIn text)
-          (o >>= λ a. cut text QUOTE a >>= λ name. behind text "=" (trim text name.after) >>= λ b. behind text "\"" (trim text b) >>= λ c. cut text QUOTE c >>= λ value. some (Pair name.before value.before))
-      go none h = tt
-      go (some a) h = named_in (cut text QUOTE a) (cut_in text QUOTE a h)
+          (o >>= λ a. cut text QUOTE a >>= λ name. behind text "=" (trim text name.after) >>= λ b. behind text "\"" (trim text b) >>= λ c. cut text QUOTE c >>= λ value. Some (Pair name.before value.before))
+      go None h = tt
+      go (Some a) h = named_in (cut text QUOTE a) (cut_in text QUOTE a h)
 
   keyed_in : (keys : List Key) (c : Cut) → CutIn text c → SayingIn text (keyed text keys c)
   unfolding keyed SayingIn
   keyed_in keys c h = go (key_in keys (bytes text (trim text c.before)))
     where
-      go : (o : Option Key) → SayingIn text (elim o [ none ↦ Unknown (trim text c.before) (trim text c.after) | some k ↦ Known k (trim text c.after) ])
-      go none = (trim_in text c.before h.0, trim_in text c.after h.1)
-      go (some k) = trim_in text c.after h.1
+      go : (o : Option Key) → SayingIn text (elim o [ None ↦ Unknown (trim text c.before) (trim text c.after) | Some k ↦ Known k (trim text c.after) ])
+      go None = (trim_in text c.before h.0, trim_in text c.after h.1)
+      go (Some k) = trim_in text c.after h.1
 
   key_in_lem : (keys : List Key) (t : Span) → In text t → SayingIn text (key_saying text keys t)
   unfolding key_saying SayingIn
   key_in_lem keys t i = go (cut text COLON t) (cut_in text COLON t i)
     where
-      go : (o : Option Cut) → Opt (CutIn text) o → SayingIn text (elim o [ none ↦ NoColon | some c ↦ keyed text keys c ])
-      go none h = tt
-      go (some c) h = keyed_in keys c h
+      go : (o : Option Cut) → Opt (CutIn text) o → SayingIn text (elim o [ None ↦ NoColon | Some c ↦ keyed text keys c ])
+      go None h = tt
+      go (Some c) h = keyed_in keys c h
 
   raw_in : (t : Span) → In text t → SayingIn text (raw_saying text t)
   unfolding raw_saying SayingIn
   raw_in t i = go (behind text "raw x\"" t) (behind_in text "raw x\"" t i)
     where
-      go : (o : Option Span) → Opt (In text) o → SayingIn text (elim o [ none ↦ NoRaw | some hex ↦ Known Key.Raw hex ])
-      go none h = tt
-      go (some hex) h = h
+      go : (o : Option Span) → Opt (In text) o → SayingIn text (elim o [ None ↦ NoRaw | Some hex ↦ Known Key.Raw hex ])
+      go None h = tt
+      go (Some hex) h = h
 
   option_in : (list_open : Bool) (t : Span) → In text t → SayingIn text (option_saying text list_open t)
   unfolding option_saying SayingIn
   option_in list_open t i = by_cases (SayingIn text) (list_open & begins text "\"" t) _ _ (go (pair_in text t) (pair_in_lem t i)) (key_in_lem (keys_of Options) t i)
     where
-      go : (o : Option Saying) → Opt (SayingIn text) o → SayingIn text (elim o [ none ↦ NoPair | some p ↦ p ])
-      go none h = tt
-      go (some p) h = h
+      go : (o : Option Saying) → Opt (SayingIn text) o → SayingIn text (elim o [ None ↦ NoPair | Some p ↦ p ])
+      go None h = tt
+      go (Some p) h = h
 
   said_in : (takes : Takes) (list_open : Bool) (t : Span) → In text t → SayingIn text (saying_in text takes list_open t)
   unfolding saying_in SayingIn
@@ -269,10 +268,10 @@ module _ (text : List ℕ) where
   said_in FirstData list_open t i = key_in_lem (keys_of FirstData) t i
   said_in FirstRaw list_open t i = raw_in t i
 
-  says_or_in : (s : Saying) (o : Option ℕ) → SayingIn text s → RoleIn text (says_or s o)
+  says_or_in : (s : Saying) (o : Option Reason) → SayingIn text s → RoleIn text (says_or s o)
   unfolding RoleIn
-  says_or_in s none i = i
-  says_or_in s (some n) i = tt
+  says_or_in s None i = i
+  says_or_in s (Some n) i = tt
 
   -- ---- every line
 

@@ -1,28 +1,26 @@
 -- Document 01, "The script": what a script holds, the Rust's own `Script`, read off what its lines are. A value that is a part of the text is a piece of
 -- it; a value that goes into the store is its bytes. Assumes nothing.
-use Rattle.std.specs.Prelude.{ℕ, ◌^◌, Bool, true, false, not, List, [], ◌∷◌, ◌++◌, if◌then◌else◌}
-use Rattle.std.proofs.Math.Option.{Option, none, some}
+use Rattle.std.specs.Prelude.{ℕ, ◌^◌, Bool, true, false, not, List, [], ◌∷◌, ◌++◌, if◌then◌else◌, Err, None, Ok, Option, Some}
 use Rattle.text.specs.Base.{BLANK}
 use Rattle.values.specs.Numbers.{number}
 use Rattle.text.specs.declared.parts.Span.{Span}
 use Rattle.version.specs.Version.{version, default_version}
 use Rattle.wire.specs.declared.ops.Op.{Op}
 use Rattle.version.specs.declared.ProtocolVersion.{ProtocolVersion}
-use Rattle.script.specs.Answers.{Answer, given, refused, ◌>>=◌}
+use Rattle.script.specs.Answers.{◌>>=◌, Answer}
 use Rattle.script.specs.Pieces.{bytes, is, trim, cut_or}
 use Rattle.script.specs.Operations.{same_key, Shape, single_path, single_string, path_set, path_set_flag, path_set_mode, no_args, set_options, collect_garbage, verify_store, add_perm_root, add_signatures, add_text_to_store, add_to_store, add_multiple_to_store, add_build_log, register_drv_output, query_realisation, query_substitutable_path_info, query_substitutable_path_infos, raw_bytes, form_of}
 use Rattle.script.specs.Values.{Rules, Framed, inline, framed}
 use Rattle.script.specs.Sets as Sets
 use Rattle.script.specs.Roles.{Marked}
-use Rattle.script.specs.declared.records.Stamp.{Stamp}
 use Rattle.script.specs.declared.records.Expectation.{Expectation}
 use Rattle.script.specs.declared.roles.Key.{Key}
-use Rattle.script.specs.declared.roles.Key.TheVariants as Key
 use Rattle.script.specs.declared.roles.Saying.{Saying}
 use Rattle.script.specs.declared.roles.Saying.TheVariants.{Known, Pair, NoColon, Unknown, NoPair, NoRaw}
 use Rattle.script.specs.declared.roles.Opening.{Opening}
 use Rattle.script.specs.declared.roles.Role.{Role}
 use Rattle.script.specs.declared.roles.Role.TheVariants.{Nothing, Says, Expects, Opens, Bad}
+use Rattle.script.specs.declared.records.Time.{Time}
 
 -- ---- what a script holds
 
@@ -67,7 +65,7 @@ pub data Call : Type 0 where
 
 pub record EntryContents : Type 0 where
   pub line : ℕ
-  pub timestamp : Stamp
+  pub timestamp : Option Time
   pub call : Call
   pub expects : List Expectation
 
@@ -110,7 +108,7 @@ expectations (m ∷ ms) = expectation_of m.line m.role ++ expectations ms
 -- ---- the value of a key: the last line with the key decides
 
 unfoldable pub value_or : Key → Saying → Option Span → Option Span
-value_or k (Known k' v) so_far = if same_key k k' then some v else so_far
+value_or k (Known k' v) so_far = if same_key k k' then Some v else so_far
 value_or k (Pair a b) so_far = so_far
 value_or k NoColon so_far = so_far
 value_or k (Unknown a b) so_far = so_far
@@ -122,7 +120,7 @@ last_of k so_far [] = so_far
 last_of k so_far (s ∷ ss) = last_of k (value_or k s so_far) ss
 
 unfoldable pub value_of : Key → List Saying → Option Span
-value_of k ss = last_of k none ss
+value_of k ss = last_of k None ss
 
 -- override pairs add up
 unfoldable pub pair_of : Saying → List Span
@@ -139,59 +137,59 @@ pairs (s ∷ ss) = pair_of s ++ pairs ss
 
 -- what the value rules give; a line that they refuse was refused
 unfoldable pub given_bytes : Answer (List ℕ) → List ℕ
-given_bytes (given bytes) = bytes
-given_bytes (refused n) = []
+given_bytes (Ok bytes) = bytes
+given_bytes (Err n) = []
 
 -- absent data is inline and empty
 unfoldable pub given_data : Answer Framed → Framed
-given_data (given d) = d
-given_data (refused n) = inline []
+given_data (Ok d) = d
+given_data (Err n) = inline []
 
 module _ (text : List ℕ) where
   -- a number that cannot be read is 0, and so is one that is absent
   unfoldable pub number_of : Option Span → ℕ
-  number_of none = 0
-  number_of (some v) = elim (number (2 ^ 64) (bytes text v)) [ none ↦ 0 | some n ↦ n ]
+  number_of None = 0
+  number_of (Some v) = elim (number (2 ^ 64) (bytes text v)) [ None ↦ 0 | Some n ↦ n ]
 
   -- a flag given is on unless its value is exactly `0`, and off if absent
   unfoldable pub flag_of : Option Span → Bool
-  flag_of none = false
-  flag_of (some v) = not (is text "0" v)
+  flag_of None = false
+  flag_of (Some v) = not (is text "0" v)
 
   -- the items of a path set, and what stands behind it, trimmed; its brace is closed, or its line was refused
   unfoldable pub items_in : Span → List Span
-  items_in p = elim (Sets.path_set text p) [ none ↦ [] | some s ↦ s.items ]
+  items_in p = elim (Sets.path_set text p) [ None ↦ [] | Some s ↦ s.items ]
 
   unfoldable pub rest_of : Span → Span
-  rest_of p = elim (Sets.path_set text p) [ none ↦ p | some s ↦ trim text s.rest ]
+  rest_of p = elim (Sets.path_set text p) [ None ↦ p | Some s ↦ trim text s.rest ]
 
   unfoldable pub set_of : Option Span → List Span
-  set_of none = []
-  set_of (some v) = items_in v
+  set_of None = []
+  set_of (Some v) = items_in v
 
   unfoldable pub version_in : Option Span → ProtocolVersion
-  version_in none = default_version
-  version_in (some v) = elim (version (bytes text v)) [ none ↦ default_version | some w ↦ w ]
+  version_in None = default_version
+  version_in (Some v) = elim (version (bytes text v)) [ None ↦ default_version | Some w ↦ w ]
 
   unfoldable pub features_in : Option Span → Option (List Span)
   features_in said = do
     v ← said
-    some (Sets.features text v)
+    Some (Sets.features text v)
 
 module _ (rules : Rules) (text : List ℕ) where
   -- ---- values
 
   unfoldable pub unquoted_of : Option Span → List ℕ
-  unquoted_of none = []
-  unquoted_of (some v) = given_bytes (rules.unquote (bytes text v))
+  unquoted_of None = []
+  unquoted_of (Some v) = given_bytes (rules.unquote (bytes text v))
 
   unfoldable pub hex_of : Option Span → List ℕ
-  hex_of none = []
-  hex_of (some v) = given_bytes (rules.hex (bytes text v))
+  hex_of None = []
+  hex_of (Some v) = given_bytes (rules.hex (bytes text v))
 
   unfoldable pub data_of : Option Span → Framed
-  data_of none = inline []
-  data_of (some v) = given_data (framed rules text v)
+  data_of None = inline []
+  data_of (Some v) = given_data (framed rules text v)
 
   -- ---- an operation with its arguments: `args` is what stands behind its name, `ss` what its argument lines say
 
@@ -257,8 +255,8 @@ lead [] = []
 lead (m ∷ ms) = let more = m ∷ lead ms in if is_opening m.role then [] else more
 
 unfoldable pub or_none : Option (List Span) → List Span
-or_none none = []
-or_none (some ps) = ps
+or_none None = []
+or_none (Some ps) = ps
 
 module _ (rules : Rules) (text : List ℕ) where
   unfoldable pub entry_on : (line : ℕ) → Role → (below : List Marked) → List EntryContents

@@ -1,15 +1,12 @@
 -- Document 01, "The script": how what a script holds stands in the lent tables. Order: preamble, then entries; inside each, the field
 -- order. Only lists take items. An empty value, and an empty range, has start 0 and length 0. Assumes nothing.
-use Rattle.std.specs.Prelude.{ℕ, zero, suc, ◌+◌, List, [], ◌∷◌, ◌++◌, map, length}
-use Rattle.std.proofs.Math.Option.{Option, none, some}
+use Rattle.std.specs.Prelude.{ℕ, zero, suc, ◌+◌, List, [], ◌∷◌, ◌++◌, map, length, None, Option, Some}
 use Rattle.text.specs.declared.parts.Span.{Span}
 use Rattle.script.specs.Pieces.{place_of, place}
 use Rattle.script.specs.Values.{Framed, inline, file_ref}
 use Rattle.script.specs.Contents.{Call, SinglePath, SingleString, PathSet, PathSetFlag, PathSetMode, NoArgs, SetOptions, CollectGarbage, VerifyStore, AddPermRoot, AddSignatures, AddTextToStore, AddToStore, AddMultipleToStore, AddBuildLog, RegisterDrvOutput, QueryRealisation, QuerySubstitutablePathInfo, QuerySubstitutablePathInfos, RawBytes, EntryContents, PreambleContents, ScriptContents, or_none}
 use Rattle.script.specs.declared.records.Place.{Place}
 use Rattle.script.specs.declared.records.Items.{Items}
-use Rattle.script.specs.declared.records.Maybe.{Maybe}
-use Rattle.script.specs.declared.records.MaybeItems.{MaybeItems}
 use Rattle.script.specs.declared.records.FramedData.{FramedData}
 use Rattle.script.specs.declared.records.OpCall.{OpCall}
 use Rattle.script.specs.declared.records.Expectation.{Expectation}
@@ -114,13 +111,13 @@ tables_from i x b (e ∷ es) =
     }
 
 -- a value that may be missing
-unfoldable pub maybe : Option Span → Maybe
-maybe none = Maybe.Absent
-maybe (some p) = Maybe.At (place p)
+unfoldable pub maybe : Option Span → Option Place
+maybe None = None
+maybe (Some p) = Some (place p)
 
-unfoldable pub maybe_items : (before : ℕ) → Option (List Span) → MaybeItems
-maybe_items before none = MaybeItems.Absent
-maybe_items before (some ps) = MaybeItems.Are (listed before ps)
+unfoldable pub maybe_items : (before : ℕ) → Option (List Span) → Option Items
+maybe_items before None = None
+maybe_items before (Some ps) = Some (listed before ps)
 
 unfoldable pub laid_preamble : PreambleContents → Preamble
 laid_preamble p = record {

@@ -8,6 +8,7 @@ pub mod Operations
 pub mod Pieces
 pub mod Plain
 pub mod Reading
+pub mod Refusals
 pub mod Roles
 pub mod Sets
 pub mod Timestamps

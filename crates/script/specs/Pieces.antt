@@ -1,8 +1,7 @@
 -- Pieces of a text. A piece is a span of places; its bytes are those that the text has there, so a piece cannot say anything that the text does not.
 -- Assumes nothing.
-use Rattle.std.specs.Prelude.{ℕ, zero, suc, ◌+◌, ◌-◌, Bool, List, map, eqb, if◌then◌else◌}
+use Rattle.std.specs.Prelude.{ℕ, zero, suc, ◌+◌, ◌-◌, Bool, List, map, eqb, if◌then◌else◌, None, Option, Some}
 use Prim.Native.String.{String}
-use Rattle.std.proofs.Math.Option.{Option, none, some}
 use Rattle.text.specs.Base.{part}
 use Rattle.text.specs.Literal.{spells, begins_with, word_length}
 use Rattle.text.specs.Trim.{trim_place}
@@ -58,7 +57,7 @@ module _ (text : List ℕ) where
 
   -- what stands behind the word, where the piece begins with it
   unfoldable pub behind : String → Span → Option Span
-  behind word p = if begins word p then some (span (p.start + word_length word) p.end) else none
+  behind word p = if begins word p then Some (span (p.start + word_length word) p.end) else None
 
   -- the piece without the White_Space at both ends
   unfoldable pub trim : Span → Span
@@ -70,11 +69,11 @@ module _ (text : List ℕ) where
   unfoldable pub cut : (b : ℕ) → Span → Option Cut
   cut b p = do
     n ← position b (bytes p)
-    some (cut_at p n)
+    Some (cut_at p n)
 
   -- The same where there need be no b: then all stands before it.
   unfoldable pub cut_or : (b : ℕ) → Span → Cut
-  cut_or b p = elim (cut b p) [ none ↦ cut_into p (span p.end p.end) | some c ↦ c ]
+  cut_or b p = elim (cut b p) [ None ↦ cut_into p (span p.end p.end) | Some c ↦ c ]
 
   -- the pieces between the bytes b, and those between White_Space
   unfoldable pub split : (b : ℕ) → Span → List Span

@@ -1,16 +1,14 @@
 -- Document 01, "Verdicts": the lines as the plain judge sees them, from the text alone. Assumes nothing.
-use Rattle.std.specs.Prelude.{ℕ, suc, Bool, true, false, List, [], ◌∷◌, ◌++◌, if◌then◌else◌}
-use Rattle.std.proofs.Math.Option.{Option, none, some}
+use Rattle.std.specs.Prelude.{ℕ, suc, Bool, true, false, List, [], ◌∷◌, ◌++◌, if◌then◌else◌, Err, None, Ok, Option, Some}
 use Rattle.text.specs.Base.{◌or◌, BLANK}
 use Rattle.text.specs.Lines.{lines, indented}
 use Rattle.text.specs.declared.parts.Span.{Span}
 use Rattle.text.specs.declared.lines.Line.{Line}
 use Rattle.wire.specs.Operations.{named}
 use Rattle.wire.specs.declared.ops.Op.{Op}
-use Rattle.script.specs.Answers.{Answer, given, refused}
 use Rattle.script.specs.Pieces.{bytes, is_empty, is, begins, trim, cut_or}
 use Rattle.script.specs.Operations.{form_of}
-use Rattle.script.specs.Timestamps.{Stamped, stamped}
+use Rattle.script.specs.Timestamps.{stamped}
 use Rattle.script.specs.Roles.{line_span, argument_line, saying_in, expect_role}
 use Rattle.script.specs.Contents.{expectation_of}
 use Rattle.script.specs.Layout.{range}
@@ -20,6 +18,8 @@ use Rattle.script.specs.declared.roles.Takes.{Takes}
 use Rattle.script.specs.declared.roles.Takes.TheVariants.{NoLines, Options, Garbage, Verify, Texts, Store, Multiple, FirstData, FirstRaw}
 use Rattle.script.specs.declared.roles.Saying.{Saying}
 use Rattle.script.specs.declared.roles.Saying.TheVariants.{Known, Pair, NoColon, Unknown, NoPair, NoRaw}
+use Rattle.script.specs.Answers.{Answer}
+use Rattle.script.specs.declared.roles.Stamped.{Stamped}
 
 -- a line of the text: an expectation line; a line that opens an entry; any other
 pub data PlainLine : Type 0 where
@@ -52,8 +52,8 @@ under FirstRaw = taking FirstRaw
 
 -- the argument lines that the operation named on a line takes
 unfoldable pub taken_by : Option Op → Takes
-taken_by none = NoLines
-taken_by (some op) = (form_of op).takes
+taken_by None = NoLines
+taken_by (Some op) = (form_of op).takes
 
 -- the line has a key of its operation
 unfoldable pub has_key : Saying → Bool
@@ -80,8 +80,8 @@ module _ (text : List ℕ) where
   plain_above l = if expectation_line l then expects l else other
 
   unfoldable pub taken_on : Answer Stamped → Takes
-  taken_on (refused n) = NoLines
-  taken_on (given s) = taken_by (named (bytes text (cut_or text BLANK s.rest).before))
+  taken_on (Err n) = NoLines
+  taken_on (Ok s) = taken_by (named (bytes text (cut_or text BLANK s.rest).before))
 
   -- A line opens an entry if it stands below the `---` line, is not blank, begins, trimmed, with neither `#` nor `expect`, and is no argument line.
   unfoldable pub plain_below : Line → PlainStep

@@ -1,7 +1,6 @@
 -- Document 01, "The script": what each line of a text is. One line after another, and all that is carried from line to line is where the line stands.
 -- Assumes nothing.
-use Rattle.std.specs.Prelude.{ℕ, ◌+◌, Bool, true, false, not, List, [], ◌∷◌, eqb, if◌then◌else◌}
-use Rattle.std.proofs.Math.Option.{Option, none, some}
+use Rattle.std.specs.Prelude.{ℕ, ◌+◌, Bool, true, false, not, List, [], ◌∷◌, eqb, if◌then◌else◌, Err, None, Ok, Option, Some}
 use Rattle.text.specs.Base.{◌&◌, ◌or◌, BLANK, QUOTE}
 use Rattle.text.specs.Parts.{span}
 use Rattle.text.specs.Lines.{indented}
@@ -11,17 +10,15 @@ use Rattle.wire.specs.Operations.{named}
 use Rattle.version.specs.Version.{version}
 use Rattle.wire.specs.declared.ops.Op.{Op}
 use Rattle.version.specs.declared.ProtocolVersion.{ProtocolVersion}
-use Rattle.script.specs.Answers.{Answer, given, refused, ◌>>=◌, first_of}
+use Rattle.script.specs.Answers.{◌>>=◌, first_of, Answer}
 use Rattle.script.specs.Pieces.{Cut, bytes, is_empty, is, begins, behind, trim, cut, cut_or}
 use Rattle.script.specs.Operations.{Kind, a_number, a_flag, a_quoted, a_set, some_data, a_list, a_hex, a_version, a_feature_set, a_text, key_row, keys_of, key_in, Syntax, ignored, one_text, one_set, path_then_set, path_then_text, form_of}
 use Rattle.script.specs.Values.{Rules, framed}
 use Rattle.script.specs.Sets.{path_set}
-use Rattle.script.specs.Timestamps.{Stamped, stamped}
+use Rattle.script.specs.Timestamps.{stamped}
 use Rattle.script.specs.Expectations.{COLON, expectation}
-use Rattle.script.specs.declared.records.Stamp.{Stamp}
 use Rattle.script.specs.declared.records.Expect.{Expect}
 use Rattle.script.specs.declared.roles.Key.{Key}
-use Rattle.script.specs.declared.roles.Key.TheVariants as Key
 use Rattle.script.specs.declared.roles.Takes.{Takes}
 use Rattle.script.specs.declared.roles.Takes.TheVariants.{NoLines, Options, Garbage, Verify, Texts, Store, Multiple, FirstData, FirstRaw}
 use Rattle.script.specs.declared.roles.Where.{Where}
@@ -32,11 +29,15 @@ use Rattle.script.specs.declared.roles.Opening.{Opening}
 use Rattle.script.specs.declared.roles.Role.{Role}
 use Rattle.script.specs.declared.roles.Role.TheVariants.{Nothing, Says, Expects, Opens, Bad}
 use Rattle.script.specs.declared.roles.Step.{Step}
+use Rattle.script.specs.declared.refusals.Reason.{Reason}
+use Rattle.script.specs.declared.records.Time.{Time}
+use Rattle.script.specs.declared.refusals.Reason.TheVariants.{BraceNotClosed, UnexpectedPreambleLine, UnknownExpectation, UnknownOperation}
+use Rattle.script.specs.declared.roles.Stamped.{Stamped}
 
 abbrev pub step : Role → Where → Step
 step role next = record { role = role; next = next }
 
-abbrev pub opening : Stamp → Op → Span → Opening
+abbrev pub opening : Option Time → Op → Span → Opening
 opening stamp op args = record { stamp = stamp; op = op; args = args }
 
 -- the piece of the text that a line is
@@ -46,8 +47,8 @@ line_span l = span l.start l.end
 -- ---- expectation lines
 
 abbrev pub expecting : Answer Expect → Role
-expecting (given e) = Expects e
-expecting (refused n) = Bad n
+expecting (Ok e) = Expects e
+expecting (Err n) = Bad n
 
 -- ---- argument lines and their values
 
@@ -105,13 +106,13 @@ after_opening (Opens o) = below (form_of o.op).takes
 after_opening (Bad n) = Outside
 
 -- the refusal of a value
-unfoldable pub refusal_in : {A : Type 0} → Answer A → Option ℕ
-refusal_in (given a) = none
-refusal_in (refused n) = some n
+unfoldable pub refusal_in : {A : Type 0} → Answer A → Option Reason
+refusal_in (Ok a) = None
+refusal_in (Err n) = Some n
 
-abbrev pub says_or : Saying → Option ℕ → Role
-says_or s none = Says s
-says_or s (some n) = Bad n
+abbrev pub says_or : Saying → Option Reason → Role
+says_or s None = Says s
+says_or s (Some n) = Bad n
 
 -- where a comment begins behind the signs `#` at its front
 unfoldable pub behind_signs : (at : ℕ) → List ℕ → ℕ
@@ -120,8 +121,8 @@ behind_signs at (x ∷ xs) = let more = behind_signs (at + 1) xs in if eqb x 0x2
 
 -- a version that cannot be read leaves the version so far
 unfoldable pub version_role : Option ProtocolVersion → Span → Role
-version_role none p = Nothing
-version_role (some v) p = Says (Known Key.Protocol p)
+version_role None p = Nothing
+version_role (Some v) p = Says (Known Key.Protocol p)
 
 -- a line's number and what the line is
 pub record Marked : Type 0 where
@@ -136,7 +137,7 @@ module _ (text : List ℕ) where
 
   -- a line that begins with `expect`: what follows it, trimmed, is an expectation
   unfoldable pub expect_role : Span → Role
-  expect_role t = elim (behind text "expect" t) [ none ↦ Bad 4 | some rest ↦ expecting (expectation text (trim text rest)) ]
+  expect_role t = elim (behind text "expect" t) [ None ↦ Bad UnknownExpectation | Some rest ↦ expecting (expectation text (trim text rest)) ]
 
   -- ---- the preamble
 
@@ -144,7 +145,7 @@ module _ (text : List ℕ) where
   unfoldable pub saying : Key → Option Span → Option Role
   saying k behind_colon = do
     rest ← behind_colon
-    some (Says (Known k (trim text rest)))
+    Some (Says (Known k (trim text rest)))
 
   -- a comment says something where it begins with one of three words
   unfoldable pub comment_role : Span → Role
@@ -161,7 +162,7 @@ module _ (text : List ℕ) where
   protocol_role behind_colon = do
     rest ← behind_colon
     let v = trim text rest
-    some (version_role (version (bytes text v)) v)
+    Some (version_role (version (bytes text v)) v)
 
   -- 3: a preamble line of no known form
   unfoldable pub word_role : Span → Role
@@ -170,11 +171,11 @@ module _ (text : List ℕ) where
       (protocol_role (behind text "protocol:" t)
       ∷ saying Key.Features (behind text "features:" t)
       ∷ [])
-      (Bad 3)
+      (Bad UnexpectedPreambleLine)
 
   -- in the preamble a blank or a colon follows `expect`
   unfoldable pub preamble_expect : Span → Role
-  preamble_expect t = let role = expect_role t in if begins text "expect " t or begins text "expect:" t then role else Bad 3
+  preamble_expect t = let role = expect_role t in if begins text "expect " t or begins text "expect:" t then role else Bad UnexpectedPreambleLine
 
   unfoldable pub preamble_role : Span → Role
   preamble_role t =
@@ -194,29 +195,29 @@ module _ (text : List ℕ) where
 
   -- the path set that stands behind the operation's name, if its operation has one there
   unfoldable pub set_on : Syntax → Span → Option Span
-  set_on ignored args = none
-  set_on one_text args = none
-  set_on one_set args = some args
-  set_on path_then_set args = some (cut_or text BLANK args).after
-  set_on path_then_text args = none
+  set_on ignored args = None
+  set_on one_text args = None
+  set_on one_set args = Some args
+  set_on path_then_set args = Some (cut_or text BLANK args).after
+  set_on path_then_text args = None
 
   -- 10: brace not closed
   unfoldable pub not_closed : Span → Bool
-  not_closed p = elim (path_set text p) [ none ↦ true | some s ↦ false ]
+  not_closed p = elim (path_set text p) [ None ↦ true | Some s ↦ false ]
 
   unfoldable pub open_on : Option Span → Bool
-  open_on none = false
-  open_on (some p) = not_closed p
+  open_on None = false
+  open_on (Some p) = not_closed p
 
   -- 9: unknown operation
-  unfoldable pub with_name : Stamp → Option Op → (args : Span) → Role
-  with_name stamp none args = Bad 9
-  with_name stamp (some op) args = if open_on (set_on (form_of op).syntax args) then Bad 10 else Opens (opening stamp op args)
+  unfoldable pub with_name : Option Time → Option Op → (args : Span) → Role
+  with_name stamp None args = Bad UnknownOperation
+  with_name stamp (Some op) args = if open_on (set_on (form_of op).syntax args) then Bad BraceNotClosed else Opens (opening stamp op args)
 
   -- The operation's name ends at the first blank; what follows is trimmed.
   unfoldable pub with_stamp : Answer Stamped → Role
-  with_stamp (refused n) = Bad n
-  with_stamp (given s) = let c = cut_or text BLANK s.rest in with_name s.stamp (named (bytes text c.before)) (trim text c.after)
+  with_stamp (Err n) = Bad n
+  with_stamp (Ok s) = let c = cut_or text BLANK s.rest in with_name s.stamp (named (bytes text c.before)) (trim text c.after)
 
   unfoldable pub opening_role : Span → Role
   opening_role t = with_stamp (stamped text t)
@@ -256,25 +257,25 @@ module _ (text : List ℕ) where
     b ← behind text "=" (trim text name.after)
     c ← behind text "\"" (trim text b)
     value ← cut text QUOTE c
-    some (Pair name.before value.before)
+    Some (Pair name.before value.before)
 
   -- key, colon, value
   unfoldable pub keyed : List Key → Cut → Saying
   keyed keys c =
       let key = trim text c.before in
       let value = trim text c.after in
-      elim (key_in keys (bytes text key)) [ none ↦ Unknown key value | some k ↦ Known k value ]
+      elim (key_in keys (bytes text key)) [ None ↦ Unknown key value | Some k ↦ Known k value ]
 
   unfoldable pub key_saying : List Key → Span → Saying
-  key_saying keys t = elim (cut text COLON t) [ none ↦ NoColon | some c ↦ keyed keys c ]
+  key_saying keys t = elim (cut text COLON t) [ None ↦ NoColon | Some c ↦ keyed keys c ]
 
   unfoldable pub raw_saying : Span → Saying
-  raw_saying t = elim (behind text "raw x\"" t) [ none ↦ NoRaw | some hex ↦ Known Key.Raw hex ]
+  raw_saying t = elim (behind text "raw x\"" t) [ None ↦ NoRaw | Some hex ↦ Known Key.Raw hex ]
 
   -- in an open override list a line that begins with `"` is a pair or nothing
   unfoldable pub option_saying : (list_open : Bool) → Span → Saying
   option_saying list_open t =
-      let in_list : Saying = elim (pair_in t) [ none ↦ NoPair | some p ↦ p ] in
+      let in_list : Saying = elim (pair_in t) [ None ↦ NoPair | Some p ↦ p ] in
       let other = key_saying (keys_of Options) t in
       if list_open & begins text "\"" t then in_list else other
 
@@ -292,25 +293,25 @@ module _ (text : List ℕ) where
 
 module _ (rules : Rules) (text : List ℕ) where
   -- the refusal of a value, kept or not
-  unfoldable pub refusal_of_kind : Kind → Span → Option ℕ
-  refusal_of_kind a_number v = none
-  refusal_of_kind a_flag v = none
+  unfoldable pub refusal_of_kind : Kind → Span → Option Reason
+  refusal_of_kind a_number v = None
+  refusal_of_kind a_flag v = None
   refusal_of_kind a_quoted v = refusal_in (rules.unquote (bytes text v))
-  refusal_of_kind a_set v = if not_closed text v then some 10 else none
+  refusal_of_kind a_set v = if not_closed text v then Some BraceNotClosed else None
   refusal_of_kind some_data v = refusal_in (framed rules text v)
-  refusal_of_kind a_list v = none
+  refusal_of_kind a_list v = None
   refusal_of_kind a_hex v = refusal_in (rules.hex (bytes text v))
-  refusal_of_kind a_version v = none
-  refusal_of_kind a_feature_set v = none
-  refusal_of_kind a_text v = none
+  refusal_of_kind a_version v = None
+  refusal_of_kind a_feature_set v = None
+  refusal_of_kind a_text v = None
 
-  unfoldable pub refusal_of : Saying → Option ℕ
+  unfoldable pub refusal_of : Saying → Option Reason
   refusal_of (Known k v) = refusal_of_kind (key_row k).kind v
-  refusal_of (Pair a b) = none
-  refusal_of NoColon = none
-  refusal_of (Unknown k v) = none
-  refusal_of NoPair = none
-  refusal_of NoRaw = none
+  refusal_of (Pair a b) = None
+  refusal_of NoColon = None
+  refusal_of (Unknown k v) = None
+  refusal_of NoPair = None
+  refusal_of NoRaw = None
 
   unfoldable pub argument_step : Takes → (list_open : Bool) → (t : Span) → Step
   argument_step takes list_open t = let s = saying_in text takes list_open t in step (says_or s (refusal_of s)) (after_saying takes s)

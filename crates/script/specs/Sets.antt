@@ -1,6 +1,5 @@
 -- Document 01, "The script": path sets and feature sets. Assumes nothing.
-use Rattle.std.specs.Prelude.{ℕ, List, [], ◌∷◌, map, if◌then◌else◌}
-use Rattle.std.proofs.Math.Option.{Option, none, some}
+use Rattle.std.specs.Prelude.{ℕ, List, [], ◌∷◌, map, if◌then◌else◌, None, Option, Some}
 use Rattle.text.specs.Base.{◌&◌}
 use Rattle.text.specs.Parts.{span}
 use Rattle.text.specs.declared.parts.Span.{Span}
@@ -36,14 +35,14 @@ module _ (text : List ℕ) where
   unfoldable pub braced_set : Span → Option PathSet
   braced_set p = do
     c ← cut text CLOSING-BRACE p
-    some (record { items = path_items (trim text c.before); rest = c.after })
+    Some (record { items = path_items (trim text c.before); rest = c.after })
 
   -- without braces a path set is one item, blanks included, none if empty
   unfoldable pub plain_set : Span → PathSet
   plain_set p = record { items = if is_empty p then [] else (p ∷ []); rest = span p.end p.end }
 
   unfoldable pub path_set : Span → Option PathSet
-  path_set p = let q = trim text p in elim (behind text "{" q) [ none ↦ some (plain_set q) | some r ↦ braced_set r ]
+  path_set p = let q = trim text p in elim (behind text "{" q) [ None ↦ Some (plain_set q) | Some r ↦ braced_set r ]
 
   -- A feature set in braces drops empty items; without braces it is split at white space.
   unfoldable pub features : Span → List Span

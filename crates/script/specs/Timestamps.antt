@@ -1,17 +1,16 @@
 -- Document 01, "The script": timestamps. Assumes nothing.
-use Rattle.std.specs.Prelude.{ℕ, ◌+◌, Bool, false, List, [], ◌∷◌, ◌++◌, map, length, eqb, leb, pos, if◌then◌else◌}
-use Rattle.std.proofs.Math.Option.{Option, none, some}
+use Rattle.std.specs.Prelude.{ℕ, ◌+◌, Bool, false, List, [], ◌∷◌, ◌++◌, map, length, eqb, leb, pos, if◌then◌else◌, Err, None, Ok, Option, Some}
 use Rattle.text.specs.Base.{◌&◌, ◌or◌, within, PLUS, MINUS}
 use Rattle.text.specs.Literal.{spells}
 use Rattle.text.specs.Parts.{span, pair_position}
 use Rattle.values.specs.Numbers.{all_digits, decimal_from}
 use Rattle.text.specs.declared.parts.Span.{Span}
 use Rattle.version.specs.Version.{DOT}
-use Rattle.script.specs.Answers.{Answer, given, refused}
 use Rattle.script.specs.Pieces.{bytes, behind, trim}
 use Rattle.script.specs.declared.records.Time.{Time}
-use Rattle.script.specs.declared.records.Stamp.{Stamp}
-use Rattle.script.specs.declared.records.Stamp.TheVariants.{Absent, At}
+use Rattle.script.specs.declared.roles.Stamped.{Stamped}
+use Rattle.script.specs.declared.refusals.Reason.TheVariants.{NoF64, NotCarried, TimestampWithoutMs}
+use Rattle.script.specs.Answers.{Answer}
 
 -- ---- the number between `@` and `ms`
 
@@ -71,37 +70,33 @@ carried negative whole decimals rest =
     let digits = whole ++ decimals in
     let count = length digits in
     let time = time_of negative (decimal_from 0 digits) (length decimals) in
-    if eqb count 0 then refused 7
-    else if eqb (length rest) 0 then (if leb count 18 then given time else refused 8)
-    else if exponent rest then refused 8
-    else refused 7
+    if eqb count 0 then Err NoF64
+    else if eqb (length rest) 0 then (if leb count 18 then Ok time else Err NotCarried)
+    else if exponent rest then Err NotCarried
+    else Err NoF64
 
 unfoldable pub time : List ℕ → Answer Time
 time xs =
     let u = unsigned xs in
     let whole = digit_run u in
     let decimals = fraction whole.rest in
-    if no_finite u then refused 8 else carried (negative xs) whole.digits decimals.digits decimals.rest
+    if no_finite u then Err NotCarried else carried (negative xs) whole.digits decimals.digits decimals.rest
 
 -- ---- a line that begins with `@`
 
 -- a line's timestamp, and what follows it
-pub record Stamped : Type 0 where
-  pub stamp : Stamp
-  pub rest : Span
-
-abbrev pub stamped_as : Stamp → Span → Stamped
+abbrev pub stamped_as : Option Time → Span → Stamped
 stamped_as stamp rest = record { stamp = stamp; rest = rest }
 
 unfoldable pub with_time : Answer Time → Span → Answer Stamped
-with_time (refused n) rest = refused n
-with_time (given t) rest = given (stamped_as (At t) rest)
+with_time (Err n) rest = Err n
+with_time (Ok t) rest = Ok (stamped_as (Some t) rest)
 
 module _ (text : List ℕ) where
   -- A timestamp stands between `@` and the first `ms`; what follows is trimmed. 6: there is no `ms`.
   unfoldable pub stamped_at : Span → Option ℕ → Answer Stamped
-  stamped_at p none = refused 6
-  stamped_at p (some n) = with_time (time (bytes text (span p.start (p.start + n)))) (trim text (span (p.start + n + 2) p.end))
+  stamped_at p None = Err TimestampWithoutMs
+  stamped_at p (Some n) = with_time (time (bytes text (span p.start (p.start + n)))) (trim text (span (p.start + n + 2) p.end))
 
   unfoldable pub stamped : Span → Answer Stamped
-  stamped p = elim (behind text "@" p) [ none ↦ given (stamped_as Absent p) | some r ↦ stamped_at r (pair_position 0x6D 0x73 (bytes text r)) ]
+  stamped p = elim (behind text "@" p) [ None ↦ Ok (stamped_as None p) | Some r ↦ stamped_at r (pair_position 0x6D 0x73 (bytes text r)) ]

@@ -1,12 +1,12 @@
 -- Document 01, "Lines and words" and "The script": the values that stand in the store, and data. Assumes nothing.
-use Rattle.std.specs.Prelude.{ℕ, List, [], ◌∷◌, eqb, if◌then◌else◌}
-use Rattle.std.proofs.Math.Option.{some}
+use Rattle.std.specs.Prelude.{ℕ, List, [], ◌∷◌, eqb, if◌then◌else◌, Err, Ok, Some}
 use Rattle.text.specs.Base.{QUOTE}
 use Rattle.values.specs.Hex.{hex_decoded}
 use Rattle.values.specs.Unquote.{unquoted}
 use Rattle.text.specs.declared.parts.Span.{Span}
-use Rattle.script.specs.Answers.{Answer, given, refused, ◌>>=◌, first_of}
+use Rattle.script.specs.Answers.{◌>>=◌, first_of, Answer}
 use Rattle.script.specs.Pieces.{bytes, behind}
+use Rattle.script.specs.declared.refusals.Reason.TheVariants.{DataUnknown}
 
 -- The value rules of an edition: what becomes of a value that is unquoted, and of what follows `x"`. Editions differ in nothing else.
 pub record Rules : Type 0 where
@@ -23,7 +23,7 @@ without_quotes (x ∷ s) =
 
 -- the rules of document 01, which refuse nothing
 abbrev pub plain_rules : Rules
-plain_rules = record { unquote = λ s. given (unquoted s); hex = λ s. given (hex_decoded (without_quotes s)) }
+plain_rules = record { unquote = λ s. Ok (unquoted s); hex = λ s. Ok (hex_decoded (without_quotes s)) }
 
 -- data as a script has it: the bytes themselves, or the name of a file
 pub data Framed : Type 0 where
@@ -31,8 +31,8 @@ pub data Framed : Type 0 where
   file_ref : Span → Framed
 
 unfoldable pub inline_of : Answer (List ℕ) → Answer Framed
-inline_of (given bytes) = given (inline bytes)
-inline_of (refused n) = refused n
+inline_of (Ok bytes) = Ok (inline bytes)
+inline_of (Err n) = Err n
 
 -- Data is hex behind `x"`, or a file's name behind `@file:`. 11: it is neither.
 unfoldable pub framed : Rules → (text : List ℕ) → Span → Answer Framed
@@ -40,9 +40,9 @@ framed rules text value =
     first_of
     ((do
       hex ← behind text "x\"" value
-      some (inline_of (rules.hex (bytes text hex))))
+      Some (inline_of (rules.hex (bytes text hex))))
     ∷ (do
       name ← behind text "@file:" value
-      some (given (file_ref name)))
+      Some (Ok (file_ref name)))
     ∷ [])
-    (refused 11)
+    (Err DataUnknown)

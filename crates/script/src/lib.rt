@@ -2,5 +2,6 @@
 #![tactic(auto)]
 
 pub mod records;
+pub mod refusals;
 pub mod response;
 pub mod roles;

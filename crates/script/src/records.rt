@@ -1,4 +1,8 @@
 // The records of a script, as reading leaves them. A value that is a part of the text or of the store is a place; a list is a range of a table.
+ghost use Rattle.std.specs.Prelude.{◌≡◌};
+ghost use Rattle.script.specs.Refusals.{refusal};
+
+use crate::refusals::Reason;
 use version::ProtocolVersion;
 use wire::ops::Op;
 
@@ -14,20 +18,6 @@ pub struct Place {
 pub struct Items {
     pub first: usize,
     pub count: usize,
-}
-
-// A value that may be missing: present and empty is not absent.
-#[derive(Clone, Copy)]
-pub enum Maybe {
-    Absent,
-    At(Place),
-}
-
-// A list that may be missing.
-#[derive(Clone, Copy)]
-pub enum MaybeItems {
-    Absent,
-    Are(Items),
 }
 
 // How an expectation compares a value.
@@ -74,12 +64,6 @@ pub struct Time {
     pub negative: bool,
     pub digits: u64,
     pub decimals: i64,
-}
-
-#[derive(Clone, Copy)]
-pub enum Stamp {
-    Absent,
-    At(Time),
 }
 
 // The arguments of SetOptions.
@@ -190,7 +174,7 @@ pub enum OpCall {
 #[derive(Clone, Copy)]
 pub struct Entry {
     pub line: usize,
-    pub timestamp_ms: Stamp,
+    pub timestamp_ms: Option<Time>,
     pub op_call: OpCall,
     pub expects: Items,
 }
@@ -200,9 +184,9 @@ pub struct Preamble {
     pub protocol_version: ProtocolVersion,
     pub client_features: Items,
     pub expects: Items,
-    pub daemon_version: Maybe,
-    pub trust: Maybe,
-    pub server_features: MaybeItems,
+    pub daemon_version: Option<Place>,
+    pub trust: Option<Place>,
+    pub server_features: Option<Items>,
 }
 
 // How many records and bytes a script takes.
@@ -220,9 +204,18 @@ pub struct Script {
     pub counts: Counts,
 }
 
-// A refusal: its number in document 01, and the line.
-#[derive(Clone, Copy)]
+// A refusal: why, and the line.
+#[derive(Clone, Copy, PartialEq, Eq)]
 pub struct Refusal {
-    pub number: u64,
+    pub reason: Reason,
     pub line: usize,
+}
+
+// A refusal that is of no line has line 0.
+impl From<Reason> for Refusal {
+    ghost from_gives = { λ reason r. r ≡ refusal reason 0 };
+
+    fn from(reason: Reason) -> Refusal {
+        Refusal { reason, line: 0 }
+    }
 }

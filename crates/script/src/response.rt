@@ -1,22 +1,15 @@
 // What judging is handed: a response of the daemon, and what the handshake told. Texts are places in bytes that are lent beside them, lists are
 // ranges of a table of such places.
-use crate::records::{Items, Maybe, MaybeItems, Place};
+use crate::records::{Items, Place};
 use version::ProtocolVersion;
-
-// A number that may be missing.
-#[derive(Clone, Copy)]
-pub enum MaybeNumber {
-    Absent,
-    Is(u64),
-}
 
 #[derive(Clone, Copy)]
 pub struct PathInfoResult {
     pub valid: bool,
-    pub deriver: Maybe,
-    pub nar_hash: Maybe,
-    pub references: MaybeItems,
-    pub nar_size: MaybeNumber,
+    pub deriver: Option<Place>,
+    pub nar_hash: Option<Place>,
+    pub references: Option<Items>,
+    pub nar_size: Option<u64>,
 }
 
 // What an operation gave back. StringMap, None, Framed and Raw keep nothing, since no answer depends on what they hold.
@@ -34,8 +27,8 @@ pub enum ResultData {
     },
     SubstitutablePathInfo {
         valid: bool,
-        download_size: MaybeNumber,
-        nar_size: MaybeNumber,
+        download_size: Option<u64>,
+        nar_size: Option<u64>,
     },
     Missing {
         download_size: u64,
@@ -51,7 +44,7 @@ pub struct DaemonResponse {
     pub terminal: Place,
     pub stderr_count: u64,
     pub result: ResultData,
-    pub error: Maybe,
+    pub error: Option<Place>,
 }
 
 // What the handshake told.
@@ -62,6 +55,6 @@ pub struct HandshakeInfo {
     pub negotiated_version: ProtocolVersion,
     pub client_features: Items,
     pub server_features: Items,
-    pub daemon_nix_version: Maybe,
-    pub trust_status: MaybeNumber,
+    pub daemon_nix_version: Option<Place>,
+    pub trust_status: Option<u64>,
 }

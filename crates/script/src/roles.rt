@@ -1,5 +1,6 @@
 // What each line of a text is. These are the words in which the definition of reading speaks and in which the code answers; a piece of the text is a span.
-use crate::records::{Expect, Stamp};
+use crate::records::{Expect, Options, Time};
+use crate::refusals::Reason;
 use text::parts::Span;
 use wire::ops::Op;
 
@@ -80,19 +81,26 @@ pub enum Saying {
 // The line that opens an entry: its timestamp, its operation, and what stands behind the operation's name.
 #[derive(Clone, Copy)]
 pub struct Opening {
-    pub stamp: Stamp,
+    pub stamp: Option<Time>,
     pub op: Op,
     pub args: Span,
 }
 
-// What a line is: nothing that is kept; something said; an expectation; an opening line; refused, with a number of document 01.
+// A line that opens an entry, as far as its timestamp: that, if it has one, and what follows it.
+#[derive(Clone, Copy)]
+pub struct Stamped {
+    pub stamp: Option<Time>,
+    pub rest: Span,
+}
+
+// What a line is: nothing that is kept; something said; an expectation; an opening line; refused.
 #[derive(Clone, Copy)]
 pub enum Role {
     Nothing,
     Says(Saying),
     Expects(Expect),
     Opens(Opening),
-    Bad(u64),
+    Bad(Reason),
 }
 
 // What a line is, and where the next one stands.

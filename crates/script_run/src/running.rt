@@ -10,8 +10,8 @@ ghost use Rattle.judging.specs.Runs.{plain_scratch};
 ghost use Rattle.ran.specs.Ran.{plain_left, ran_of, if_done};
 
 use asking::asks_more;
-use ran::Ran;
-use read::reading::Answer;
+use judge::tally::Tally;
+use ran::RunError;
 use runs::calling::run_calls;
 use script::records::{Entry, Expectation};
 
@@ -29,7 +29,7 @@ pub fn run_script(
     verdicts: &mut [u8],
     scratch: &mut [u8],
     answers: &mut [u64],
-) -> Ran
+) -> Result<Tally, RunError>
     ensures value { result ≡ ran_of (length answers.old) (length scratch.old) calls.now (script_or (read_into (lent_of entries.old items.old expectations.old store.old) text.now)) (plain_left text.now verdicts.old (calls_of bytes.now lists.now calls.now)) }
     ensures entries_after { entries.new ≡ if_done result (written_at 0 (tables_or (read_into (lent_of entries.old items.old expectations.old store.old) text.now)).entries entries.old) entries.old }
     ensures after { items.new ≡ if_done result (written_at 0 (map item_of (tables_or (read_into (lent_of entries.old items.old expectations.old store.old) text.now)).items) items.old) items.old }
@@ -40,25 +40,22 @@ pub fn run_script(
     ensures answers_after { answers.new ≡ if_done result (written_at 0 (map answer_code (plain_run text.now (length verdicts.old) (calls_of bytes.now lists.now calls.now)).0) answers.old) answers.old }
 {
     if answers.len() < calls.len() {
-        return Ran::FewAnswers;
+        return Err(RunError::FewAnswers);
     }
     if asks_more(calls, scratch.len()) {
-        return Ran::MuchScratch;
+        return Err(RunError::MuchScratch);
     }
-    let read = read::reading::read(text, entries, items, expectations, store);
-    match read {
-        Answer::Refused(r) => Ran::Refused(r),
-        Answer::Read(script) => Ran::Done(run_calls(
-            text,
-            script,
-            entries,
-            expectations,
-            calls,
-            bytes,
-            lists,
-            verdicts,
-            scratch,
-            answers,
-        )),
-    }
+    let script = read::reading::read(text, entries, items, expectations, store)?;
+    Ok(run_calls(
+        text,
+        script,
+        entries,
+        expectations,
+        calls,
+        bytes,
+        lists,
+        verdicts,
+        scratch,
+        answers,
+    ))
 }

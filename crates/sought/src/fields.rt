@@ -1,11 +1,11 @@
 // The value of a field of a result, by the field's name.
 ghost use Rattle.sought.specs.Values.{Means};
-ghost use Rattle.verdicts.specs.Held.{path_info_of, number_given, result_of};
+ghost use Rattle.verdicts.specs.Held.{path_info_of, result_of};
 ghost use Rattle.verdicts.specs.Lookup.{fields, value_in};
 ghost use Rattle.verdicts.specs.Told as told;
 
 use crate::value::{Value, flag_value, list_value, number_value, text_value};
-use script::response::{MaybeNumber, PathInfoResult, ResultData};
+use script::response::{PathInfoResult, ResultData};
 use text::parts::same;
 
 fn path_info_value(p: PathInfoResult, field: &[u8]) -> Value
@@ -44,11 +44,11 @@ fn collect_garbage_value(bytes_freed: u64, field: &[u8]) -> Value
 
 fn substitutable_value(
     valid: bool,
-    download_size: MaybeNumber,
-    nar_size: MaybeNumber,
+    download_size: Option<u64>,
+    nar_size: Option<u64>,
     field: &[u8],
 ) -> Value
-    ensures { Means result (λ bytes lists. value_in (fields (told.substitutable_path_info valid (number_given download_size) (number_given nar_size))) field.now) }
+    ensures { Means result (λ bytes lists. value_in (fields (told.substitutable_path_info valid download_size nar_size)) field.now) }
 {
     if same(field, b"valid") {
         return flag_value(valid);

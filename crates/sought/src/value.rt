@@ -1,12 +1,12 @@
 // Values without their bytes.
+ghost use Rattle.std.specs.Prelude.{option_map};
 ghost use Rattle.sought.specs.Values.{Means};
-ghost use Rattle.std.proofs.Math.Option.{some, map};
 ghost use Rattle.values.specs.Decimal.{decimal};
-ghost use Rattle.verdicts.specs.Held.{text_given, texts_given, number_given, result_of};
+ghost use Rattle.verdicts.specs.Held.{text_given, texts_given, result_of};
 ghost use Rattle.verdicts.specs.Lookup.{flag, bracketed, whole_value};
 
-use script::records::{Items, Maybe, MaybeItems, Place};
-use script::response::{MaybeNumber, ResultData};
+use script::records::{Items, Place};
+use script::response::ResultData;
 
 // A text is a place in the response's bytes, lists are ranges of the table of places.
 #[derive(Clone, Copy)]
@@ -23,7 +23,7 @@ pub enum Value {
 
 // A flag is the number 1 or 0.
 pub fn flag_value(b: bool) -> Value
-    ensures { Means result (λ bytes lists. some (flag b)) }
+    ensures { Means result (λ bytes lists. Some (flag b)) }
 {
     if b {
         return Value::Number(1);
@@ -31,31 +31,25 @@ pub fn flag_value(b: bool) -> Value
     Value::Number(0)
 }
 
-pub fn text_value(m: Maybe) -> Value
+#[tactic(auto, unfolding(crate::specs::Values::value_bytes, verdicts::specs::Held::text_given))]
+pub fn text_value(m: Option<Place>) -> Value
     ensures { Means result (λ bytes lists. text_given bytes m) }
 {
-    match m {
-        Maybe::Absent => Value::Missing,
-        Maybe::At(p) => Value::Text(p),
-    }
+    m.map_or(Value::Missing, Value::Text)
 }
 
-pub fn number_value(m: MaybeNumber) -> Value
-    ensures { Means result (λ bytes lists. map decimal (number_given m)) }
+#[tactic(auto, unfolding(crate::specs::Values::value_bytes))]
+pub fn number_value(m: Option<u64>) -> Value
+    ensures { Means result (λ bytes lists. option_map decimal m) }
 {
-    match m {
-        MaybeNumber::Absent => Value::Missing,
-        MaybeNumber::Is(n) => Value::Number(n),
-    }
+    m.map_or(Value::Missing, Value::Number)
 }
 
-pub fn list_value(m: MaybeItems) -> Value
-    ensures { Means result (λ bytes lists. map bracketed (texts_given bytes lists m)) }
+#[tactic(auto, unfolding(crate::specs::Values::value_bytes, verdicts::specs::Held::texts_given))]
+pub fn list_value(m: Option<Items>) -> Value
+    ensures { Means result (λ bytes lists. option_map bracketed (texts_given bytes lists m)) }
 {
-    match m {
-        MaybeItems::Absent => Value::Missing,
-        MaybeItems::Are(r) => Value::List(r),
-    }
+    m.map_or(Value::Missing, Value::List)
 }
 
 // The value of a result where no field is named.

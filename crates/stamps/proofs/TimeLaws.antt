@@ -1,18 +1,29 @@
 -- Timestamps: from places in the text, where digits begin and end, to the definition's runs of digits. Assumes nothing.
 use Prim.Native.Nat.{ℕ, suc, ◌+◌, ◌-◌, ◌*◌, ◌^◌, ◌≤◌, ◌<◌}
 use mathlib.Core.Path.{◌≡◌, refl, sym, ap, ◌∙◌}
-use mathlib.Core.Bool.{Bool, true, false}
+use mathlib.Core.Bool.{Bool, true, false, ◌&&◌}
 use mathlib.Core.List.{List, [], ◌∷◌}
 use native.Mathlib.Omega.{arith}
 use native.Mathlib.Nat.{mul-le-mul_right, mul-le-mul_left, one-le-pow, pow-suc, mul_assoc, mul_comm, le_trans, le_of_eq, pow-le-pow_right, one-mul, zero-add}
-use lib.Dec.{eqb}
-use lib.ListN.{length, get_or, drop}
+use lib.Dec.{eqb, leb}
+use lib.ListN.{length, get_or, drop, length-drop}
 use borrow.Author.Tests.{ne_eqb}
 use Rattle.std.specs.Prelude.{if◌then◌else◌}
+use Rattle.std.specs.Char.{is_ascii_digit}
+use Rattle.std.proofs.lemmas.Bool.Decides.{nat_tests}
 use Rattle.text.specs.Base.{◌&◌, within}
 use Rattle.values.specs.Numbers.{all_digits, decimal_from}
-use Rattle.text.proofs.Scan.{rest_more, rest-none, within-true, within_low, within_high, inside}
-use Rattle.script.specs.Timestamps.{Run, run, digit_run}
+use Rattle.text.proofs.Scan.{rest_more, rest-none, inside}
+use Rattle.script.specs.Timestamps.{Run, run, digit_run, some_digits}
+
+-- a digit, as the library tests it
+digit_is : (x : ℕ) → within 0x30 0x39 x ≡ is_ascii_digit x
+unfolding within
+digit_is x = go (leb 0x30 x) (leb x 0x39)
+  where
+    go : (a b : Bool) → a & b ≡ (a && b)
+    go true b = refl
+    go false b = refl
 
 -- ---- where digits end
 
@@ -25,18 +36,14 @@ module _ (s : List ℕ) (i : ℕ) where
   unfolding digit_run
   run_over h = rw (rest-none s i h)
 
-  pub run_low : i < length s → get_or s i 0 < 0x30 → Stopped
+  pub run_none : i < length s → false ≡ is_ascii_digit (get_or s i 0) → Stopped
   unfolding digit_run
-  run_low h x = rw (rest_more s i h, within_low 0x30 0x39 (get_or s i 0) x)
+  run_none h x = rw (rest_more s i h, digit_is (get_or s i 0), ← x)
 
-  pub run_high : i < length s → 0x39 < get_or s i 0 → Stopped
-  unfolding digit_run
-  run_high h x = rw (rest_more s i h, within_high 0x30 0x39 (get_or s i 0) x)
-
-  pub run_more : i < length s → 0x30 ≤ get_or s i 0 → get_or s i 0 ≤ 0x39
+  pub run_more : i < length s → true ≡ is_ascii_digit (get_or s i 0)
       → digit_run (drop i s) ≡ run (get_or s i 0 ∷ (digit_run (drop (i + 1) s)).digits) (digit_run (drop (i + 1) s)).rest
   unfolding digit_run
-  run_more h a b = rw (rest_more s i h, within-true 0x30 0x39 (get_or s i 0) a b)
+  run_more h x = rw (rest_more s i h, digit_is (get_or s i 0), ← x)
 
 -- what follows digits begins with none
 pub run-rest : (xs : List ℕ) → digit_run (digit_run xs).rest ≡ run [] (digit_run xs).rest
@@ -104,3 +111,31 @@ all_digits_lem (x ∷ xs) = go (within 0x30 0x39 x) (all_digits_lem xs)
         → b & all_digits xs ≡ eqb (length (if b then run (x ∷ more.digits) more.rest else run [] (x ∷ xs)).rest) 0
     go true ih = ih
     go false ih = sym (ne_eqb (suc (length xs)) 0 (λ e. absurd (omega arith)))
+
+run_length : (xs : List ℕ) → length (digit_run xs).digits + length (digit_run xs).rest ≡ length xs
+unfolding digit_run
+run_length [] = refl
+run_length (x ∷ xs) = go (within 0x30 0x39 x) (run_length xs)
+  where
+    more : Run
+    more = digit_run xs
+
+    go : (b : Bool) → length more.digits + length more.rest ≡ length xs
+        → length (if b then run (x ∷ more.digits) more.rest else run [] (x ∷ xs)).digits + length (if b then run (x ∷ more.digits) more.rest else run [] (x ∷ xs)).rest
+        ≡ suc (length xs)
+    go true ih = omega arith
+    go false ih = omega arith
+
+-- where an exponent's digits are to stand: up to the end, and at least one
+module _ (s : List ℕ) (from : ℕ) where
+  pub no_digits : length s ≤ from → some_digits (drop from s) ≡ false
+  unfolding some_digits
+  no_digits h = rw (rest-none s from h)
+
+  pub digits_end : (end : ℕ) → from < length s → end ≡ from + length (digit_run (drop from s)).digits → some_digits (drop from s) ≡ eqb end (length s)
+  unfolding some_digits
+  digits_end end h e =
+      let l = run_length (drop from s) in
+      let d = length-drop from s in
+      let all : some_digits (drop from s) ≡ eqb (length (digit_run (drop from s)).rest) 0 = rw (rest_more s from h) (all_digits_lem (get_or s from 0 ∷ drop (from + 1) s)) in
+      all ∙ grind (arith, nat_tests, e, l, d)

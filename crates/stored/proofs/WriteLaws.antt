@@ -1,8 +1,8 @@
 -- Laws of what is written of an entry and of the preamble: what the code's answers come to. For `search` to use. Assumes nothing.
+use Rattle.std.specs.Prelude.{None, Option, Some}
 use Prim.Native.Nat.{ℕ, ◌+◌, ◌≤◌}
 use mathlib.Core.Path.{◌≡◌, refl, sym, ap, ◌∙◌}
 use mathlib.Core.List.{List, [], ◌∷◌, ◌++◌, append-nil}
-use mathlib.Core.Option.{Option, none, some}
 use native.Mathlib.Omega.{arith}
 use types.Run.{OneOf, miss}
 use denote.Enum.Declared.{tag_of}
@@ -30,11 +30,9 @@ use Rattle.openings.specs.declared.SetPlace.TheVariants.{NoSet, AllOf, BehindBla
 use Rattle.written.specs.Written.{written_at}
 use Rattle.tables.specs.Items.{item_of, items_for, items_of, features_of}
 use Rattle.written.proofs.WrittenLaws.{written_none, written_length, written_twice}
-use Rattle.said.specs.Said.{piece_at, piece_of}
+use Rattle.said.specs.Said.{piece_at}
 use Rattle.records.specs.Records.{sizes, record_of}
 use Rattle.records.specs.declared.calls.Sizes.{Sizes}
-use Rattle.said.specs.declared.said.Piece.{Piece}
-use Rattle.said.specs.declared.said.Piece.TheVariants.{Absent, Is}
 use Rattle.stored.specs.Closing.{entry_record, set_items, first_stored, second_stored, third_stored, stored, sizes_for, front_of}
 use Rattle.stored.specs.ClosingRead.{line_set, set_by, first_by, second_by, third_by, stored_by, sizes_by}
 
@@ -70,50 +68,48 @@ pub ruleset item_laws = (items-none, items-room, items_count, items_same)
 
 -- ---- the value of a key: p is the answer of `value_of`
 
-module _ (text starts ends : List ℕ) (k : Key) (p : Piece) (e : piece_of p ≡ piece_at starts ends k) where
-  not_said : p ≡ Absent → piece_at starts ends k ≡ none
-  unfolding piece_of
-  not_said h = sym e ∙ ap piece_of h
+module _ (text starts ends : List ℕ) (k : Key) (p : Option Span) (e : p ≡ piece_at starts ends k) where
+  not_said : p ≡ None → piece_at starts ends k ≡ None
+  not_said h = sym e ∙ h
 
-  was_said : (v : Span) → p ≡ Is v → piece_at starts ends k ≡ some v
-  unfolding piece_of
-  was_said v h = sym e ∙ ap piece_of h
+  was_said : (v : Span) → p ≡ Some v → piece_at starts ends k ≡ Some v
+  was_said v h = sym e ∙ h
 
-  pub set_absent : p ≡ Absent → set_of text (piece_at starts ends k) ≡ []
+  pub set_absent : p ≡ None → set_of text (piece_at starts ends k) ≡ []
   unfolding set_of
   set_absent h = rw (not_said h)
 
-  pub set_is : (v : Span) → p ≡ Is v → items_for (set_of text (piece_at starts ends k)) ≡ items_of text v
+  pub set_is : (v : Span) → p ≡ Some v → items_for (set_of text (piece_at starts ends k)) ≡ items_of text v
   unfolding set_of items_of
   set_is v h = rw (was_said v h)
 
-  pub features_absent : p ≡ Absent → or_none (features_in text (piece_at starts ends k)) ≡ []
+  pub features_absent : p ≡ None → or_none (features_in text (piece_at starts ends k)) ≡ []
   unfolding features_in or_none
   features_absent h = rw (not_said h)
 
-  pub features-is : (v : Span) → p ≡ Is v → items_for (or_none (features_in text (piece_at starts ends k))) ≡ features_of text v
+  pub features-is : (v : Span) → p ≡ Some v → items_for (or_none (features_in text (piece_at starts ends k))) ≡ features_of text v
   unfolding features_in or_none features_of
   features-is v h = rw (was_said v h)
 
-  pub unquoted_absent : p ≡ Absent → unquoted_of plain_rules text (piece_at starts ends k) ≡ []
+  pub unquoted_absent : p ≡ None → unquoted_of plain_rules text (piece_at starts ends k) ≡ []
   unfolding unquoted_of
   unquoted_absent h = rw (not_said h)
 
-  pub unquoted-is : (v : Span) → p ≡ Is v → unquoted_of plain_rules text (piece_at starts ends k) ≡ unquoted_of plain_rules text (some v)
+  pub unquoted-is : (v : Span) → p ≡ Some v → unquoted_of plain_rules text (piece_at starts ends k) ≡ unquoted_of plain_rules text (Some v)
   unquoted-is v h = ap (unquoted_of plain_rules text) (was_said v h)
 
-  pub data_absent : p ≡ Absent → stored_of (data_of plain_rules text (piece_at starts ends k)) ≡ []
+  pub data_absent : p ≡ None → stored_of (data_of plain_rules text (piece_at starts ends k)) ≡ []
   unfolding data_of stored_of
   data_absent h = rw (not_said h)
 
-  pub data_is : (v : Span) → p ≡ Is v → stored_of (data_of plain_rules text (piece_at starts ends k)) ≡ stored_of (data_of plain_rules text (some v))
+  pub data_is : (v : Span) → p ≡ Some v → stored_of (data_of plain_rules text (piece_at starts ends k)) ≡ stored_of (data_of plain_rules text (Some v))
   data_is v h = ap (λ (o : Option Span). stored_of (data_of plain_rules text o)) (was_said v h)
 
-  pub raw_absent : p ≡ Absent → hex_of plain_rules text (piece_at starts ends k) ≡ []
+  pub raw_absent : p ≡ None → hex_of plain_rules text (piece_at starts ends k) ≡ []
   unfolding hex_of
   raw_absent h = rw (not_said h)
 
-  pub raw-is : (v : Span) → p ≡ Is v → hex_of plain_rules text (piece_at starts ends k) ≡ hex_of plain_rules text (some v)
+  pub raw-is : (v : Span) → p ≡ Some v → hex_of plain_rules text (piece_at starts ends k) ≡ hex_of plain_rules text (Some v)
   raw-is v h = ap (hex_of plain_rules text) (was_said v h)
 
 pub ruleset said_laws = (set_absent, set_is, features_absent, features-is, unquoted_absent, unquoted-is, data_absent, data_is, raw_absent, raw-is)

@@ -1,7 +1,6 @@
 -- What is written into the lent tables when the last line of an entry has been read, by the case of `OpCall` that keeps its operation, and the record that
 -- is then made; what is written behind the last line of the preamble. `ClosingLaws` shows that this is what the reading lays out. Assumes nothing.
-use Rattle.std.specs.Prelude.{ℕ, ◌+◌, List, [], ◌++◌, length}
-use Rattle.std.proofs.Math.Option.{Option}
+use Rattle.std.specs.Prelude.{ℕ, ◌+◌, List, [], ◌++◌, length, Option}
 use Rattle.text.specs.Base.{BLANK}
 use Rattle.text.specs.declared.parts.Span.{Span}
 use Rattle.script.specs.Pieces.{cut_or}

@@ -16,7 +16,6 @@ ghost use Rattle.stored.specs.ClosingRead.{line_set, stored_by, sizes_by};
 
 use openings::SetPlace;
 use records::calls::Sizes;
-use said::said::Piece;
 use script::roles::{Key, Takes};
 use text::parts::Span;
 use wire::ops::Op;
@@ -36,8 +35,8 @@ fn put_set_of(
     ensures after { items.new ≡ written_at at (items_for (set_of text.now (piece_at starts.now ends.now k))) items.old }
 {
     match said::said::value_of(starts, ends, k) {
-        Piece::Absent => 0,
-        Piece::Is(v) => item_sets::put_set(text, v, items, at),
+        None => 0,
+        Some(v) => item_sets::put_set(text, v, items, at),
     }
 }
 
@@ -98,8 +97,8 @@ fn put_unquoted_of(
     ensures store_after { store.new ≡ written_at at (unquoted_of plain_rules text.now (piece_at starts.now ends.now k)) store.old }
 {
     match said::said::value_of(starts, ends, k) {
-        Piece::Absent => 0,
-        Piece::Is(v) => storing::put_unquoted(text, v, store, at),
+        None => 0,
+        Some(v) => storing::put_unquoted(text, v, store, at),
     }
 }
 
@@ -111,8 +110,8 @@ fn put_data_of(text: &[u8], starts: &[usize], ends: &[usize], store: &mut [u8], 
     ensures store_after { store.new ≡ written_at at (stored_of (data_of plain_rules text.now (piece_at starts.now ends.now Key.Data))) store.old }
 {
     match said::said::value_of(starts, ends, Key::Data) {
-        Piece::Absent => 0,
-        Piece::Is(v) => storing::put_data(text, v, store, at),
+        None => 0,
+        Some(v) => storing::put_data(text, v, store, at),
     }
 }
 
@@ -124,8 +123,8 @@ fn put_raw_of(text: &[u8], starts: &[usize], ends: &[usize], store: &mut [u8], a
     ensures store_after { store.new ≡ written_at at (hex_of plain_rules text.now (piece_at starts.now ends.now Key.Raw)) store.old }
 {
     match said::said::value_of(starts, ends, Key::Raw) {
-        Piece::Absent => 0,
-        Piece::Is(v) => storing::put_hex(text, v, store, at),
+        None => 0,
+        Some(v) => storing::put_hex(text, v, store, at),
     }
 }
 

@@ -3,11 +3,10 @@ use Prim.Native.Nat.{ℕ, suc, ◌+◌}
 use mathlib.Core.Path.{◌≡◌, refl, sym, ap, ◌∙◌}
 use mathlib.Core.Bool.{Bool, true, false}
 use mathlib.Core.List.{List, [], ◌∷◌, ◌++◌}
-use mathlib.Core.Option.{Option, none, some}
 use lib.Dec.{eqb}
 use lib.ListN.{replicate}
 use borrow.Author.Tests.{eqb-true}
-use Rattle.std.specs.Prelude.{if◌then◌else◌}
+use Rattle.std.specs.Prelude.{if◌then◌else◌, None, Option, Some}
 use Rattle.text.specs.Base.{QUOTE}
 use Rattle.values.specs.Hex.{hex_decoded}
 use Rattle.values.specs.Unquote.{unquoted}
@@ -59,29 +58,29 @@ no_quotes s = ap hex_decoded (tail s).same ∙ trailing_quotes (tail s).many (wi
 
 module _ (text : List ℕ) (v : Span) where
   -- a value that is unquoted
-  pub unquoted-is : unquoted_of plain_rules text (some v) ≡ unquoted (bytes text v)
+  pub unquoted-is : unquoted_of plain_rules text (Some v) ≡ unquoted (bytes text v)
   unfolding unquoted_of given_bytes
   unquoted-is = refl
 
   -- what follows `x"`, with the quotes at its end
-  pub hex-is : hex_of plain_rules text (some v) ≡ hex_decoded (bytes text v)
+  pub hex-is : hex_of plain_rules text (Some v) ≡ hex_decoded (bytes text v)
   unfolding hex_of given_bytes
   hex-is = sym (no_quotes (bytes text v))
 
   -- b is the answer of `pieces::begins`
   module _ (b : Bool) (e : b ≡ starts_with (codes "x\"") (bytes text v)) where
     -- data is hex, or nothing that stands in the store
-    pub data_hex : b ≡ true → stored_of (data_of plain_rules text (some v)) ≡ hex_of plain_rules text (some (span (v.start + 2) v.end))
+    pub data_hex : b ≡ true → stored_of (data_of plain_rules text (Some v)) ≡ hex_of plain_rules text (Some (span (v.start + 2) v.end))
     unfolding data_of given_data stored_of framed first_of inline_of hex_of given_bytes
     data_hex t = simp (behind-some text v "x\"" b e t)
 
-    pub data_none : b ≡ false → stored_of (data_of plain_rules text (some v)) ≡ []
+    pub data_none : b ≡ false → stored_of (data_of plain_rules text (Some v)) ≡ []
     unfolding data_of given_data stored_of framed first_of inline_of
     data_none f = go (behind text "@file:" v) refl
       where
-        go : (o : Option Span) → behind text "@file:" v ≡ o → stored_of (data_of plain_rules text (some v)) ≡ []
-        go none q = simp (behind-none text v "x\"" b e f, q)
-        go (some r) q = simp (behind-none text v "x\"" b e f, q)
+        go : (o : Option Span) → behind text "@file:" v ≡ o → stored_of (data_of plain_rules text (Some v)) ≡ []
+        go None q = simp (behind-none text v "x\"" b e f, q)
+        go (Some r) q = simp (behind-none text v "x\"" b e f, q)
 
     -- what stands behind `x"` lies inside the text
     pub data_in : In text v → b ≡ true → In text (span (v.start + 2) v.end)

@@ -1,8 +1,7 @@
 // Values that stand in the store.
 #![tactic(auto)]
 
-ghost use Rattle.std.specs.Prelude.{◌≡◌, ◌+◌, ◌≤◌, length};
-ghost use Rattle.std.proofs.Math.Option.{some};
+ghost use Rattle.std.specs.Prelude.{◌≡◌, ◌+◌, ◌≤◌, length, Some};
 ghost use Rattle.script.specs.Contents.{unquoted_of, hex_of, data_of};
 ghost use Rattle.script.specs.Inside.{In};
 ghost use Rattle.script.specs.Layout.{stored_of};
@@ -14,9 +13,9 @@ use text::parts::Span;
 // Writes a value that is unquoted, and says how many bytes that are.
 pub fn put_unquoted(text: &[u8], v: Span, store: &mut [u8], at: usize) -> usize
     requires fact { In text.now v }
-    requires v_in_bounds { at + length (unquoted_of plain_rules text.now (some v)) ≤ length store.old }
-    ensures value { result ≡ length (unquoted_of plain_rules text.now (some v)) }
-    ensures store_after { store.new ≡ written_at at (unquoted_of plain_rules text.now (some v)) store.old }
+    requires v_in_bounds { at + length (unquoted_of plain_rules text.now (Some v)) ≤ length store.old }
+    ensures value { result ≡ length (unquoted_of plain_rules text.now (Some v)) }
+    ensures store_after { store.new ≡ written_at at (unquoted_of plain_rules text.now (Some v)) store.old }
 {
     let start = v.start;
     let end = v.end;
@@ -26,9 +25,9 @@ pub fn put_unquoted(text: &[u8], v: Span, store: &mut [u8], at: usize) -> usize
 // Writes the bytes of what follows `x"`. Quotes at its end are no hex digits, so they write nothing.
 pub fn put_hex(text: &[u8], v: Span, store: &mut [u8], at: usize) -> usize
     requires fact { In text.now v }
-    requires v_in_bounds { at + length (hex_of plain_rules text.now (some v)) ≤ length store.old }
-    ensures value { result ≡ length (hex_of plain_rules text.now (some v)) }
-    ensures store_after { store.new ≡ written_at at (hex_of plain_rules text.now (some v)) store.old }
+    requires v_in_bounds { at + length (hex_of plain_rules text.now (Some v)) ≤ length store.old }
+    ensures value { result ≡ length (hex_of plain_rules text.now (Some v)) }
+    ensures store_after { store.new ≡ written_at at (hex_of plain_rules text.now (Some v)) store.old }
 {
     let start = v.start;
     let end = v.end;
@@ -38,9 +37,9 @@ pub fn put_hex(text: &[u8], v: Span, store: &mut [u8], at: usize) -> usize
 // Writes the bytes of data; a file's name does not stand in the store.
 pub fn put_data(text: &[u8], v: Span, store: &mut [u8], at: usize) -> usize
     requires fact { In text.now v }
-    requires v_in_bounds { at + length (stored_of (data_of plain_rules text.now (some v))) ≤ length store.old }
-    ensures value { result ≡ length (stored_of (data_of plain_rules text.now (some v))) }
-    ensures store_after { store.new ≡ written_at at (stored_of (data_of plain_rules text.now (some v))) store.old }
+    requires v_in_bounds { at + length (stored_of (data_of plain_rules text.now (Some v))) ≤ length store.old }
+    ensures value { result ≡ length (stored_of (data_of plain_rules text.now (Some v))) }
+    ensures store_after { store.new ≡ written_at at (stored_of (data_of plain_rules text.now (Some v))) store.old }
 {
     if pieces::pieces::begins(text, v, b"x\"") {
         return put_hex(

@@ -13,7 +13,6 @@ use scratch::rooms::value_room;
 use script::records::Expectation;
 use verdicts::Verdict;
 use verdicts::handed::Handed;
-use writing::room::Room;
 
 // Every part of it lies inside a text of n bytes.
 pub fn reaches(x: Expectation, n: usize) -> bool
@@ -35,10 +34,7 @@ pub fn value_fits(
     ensures { result ≡ fits room (looked (held_by bytes.now lists.now h) (expected_of text.now x.expect)) }
 {
     let e = x.expect;
-    match value_room(looked_value(e, text, h), bytes, lists, room) {
-        Room::Left(_) => true,
-        Room::Short => false,
-    }
+    value_room(looked_value(e, text, h), bytes, lists, room).is_some()
 }
 
 // Its verdict; a present value is left in the scratch.

@@ -1,10 +1,10 @@
 -- The table of document 01, "Proved in a single table", as one theorem: `table`, at the end of this file. Assumes nothing.
+use Rattle.std.specs.Prelude.{Err, None, Ok, Option, Result, Some}
 use Prim.Native.Nat.{ℕ}
 use Prim.Native.String.{String}
 use mathlib.Core.Path.{◌≡◌, refl}
 use mathlib.Core.Bool.{true, false}
 use mathlib.Core.List.{List, [], ◌∷◌, map}
-use mathlib.Core.Option.{Option, none, some}
 use lib.IntN.{pos}
 use Rattle.text.specs.Literal.{utf8}
 use Rattle.text.specs.Base as text-Base
@@ -45,10 +45,13 @@ use Rattle.values.proofs.ValueExamples as values
 use Rattle.version.specs.declared.ProtocolVersion.{ProtocolVersion}
 use Rattle.wire.specs.declared.ops.Op.TheVariants as Op
 use Rattle.script.specs.Layout.{Reading}
-use Rattle.script.specs.Reading.{Parsed, refused_at, read, refusal, parsed}
+use Rattle.script.specs.Reading.{parsed, Parsed}
 use Rattle.script.specs.declared.records.Counts.{Counts}
 use Rattle.script.specs.declared.records.OpCall.{OpCall}
 use Rattle.script.specs.declared.response.HandshakeInfo.{HandshakeInfo}
+use Rattle.script.specs.Refusals.{refusal}
+use Rattle.script.specs.declared.records.Refusal.{Refusal}
+use Rattle.script.specs.declared.refusals.Reason.TheVariants.{UnknownOperation}
 use Rattle.verdicts.specs.Expected.{Expected, exact, regex, greater_or_equal, result, trust, server_features}
 use Rattle.verdicts.specs.Told.{Subject, greeting}
 use Rattle.verdicts.specs.Lookup.{looked}
@@ -73,8 +76,8 @@ reading s = parsed (utf8 s)
 
 -- a part of it, unless the text is refused
 abbrev pub given : {A : Type 0} → (Reading → A) → Parsed Reading → Parsed A
-given part (refused_at q) = refused_at q
-given part (read r) = read (part r)
+given part (Err q) = Err q
+given part (Ok r) = Ok (part r)
 
 -- its counts
 abbrev pub counts : String → Parsed Counts
@@ -95,7 +98,7 @@ says s = given (λ r. said (utf8 s) r.tables.expectations) (reading s)
 
 -- so many entries and items, and nothing else
 abbrev pub taking : (entries items : ℕ) → Parsed Counts
-taking entries items = read (record { entries = entries; items = items; expectations = 0; store = 0 })
+taking entries items = Ok (record { entries = entries; items = items; expectations = 0; store = 0 })
 
 -- SetOptions with that verbosity, all else 0
 abbrev pub options : (verbosity : ℕ) → OpCall
@@ -119,7 +122,7 @@ options verbosity = OpCall.SetOptions (record {
 
 -- a handshake that told no features, and that trust
 abbrev pub told : Option ℕ → Subject
-told status = greeting (record { server_features = []; daemon_nix_version = none; trust_status = status })
+told status = greeting (record { server_features = []; daemon_nix_version = None; trust_status = status })
 
 -- the value looked up, every definition open
 abbrev pub value : Subject → Expected → Option (List ℕ)
@@ -131,7 +134,7 @@ abbrev pub in_full : HandshakeInfo → (bytes : List ℕ) → (lists : List (Lis
 in_full i bytes lists scratch = judge (record { number = 0; handed = Info i; bytes = bytes; lists = lists; scratch = scratch }) ∷ close ∷ []
 
 -- what the plain judge answers, every definition open
-abbrev pub answers : (text : String) → List Call → List Answer
+abbrev pub answers : (text : String) → List Call → List (Result Answer Refusal)
 unfolding text-Literal.utf8 text-Lines.lines_from text-Lines.lines script-Plain.plain_from script-Plain.plain_lines script-Plain.opened script-Plain.expectation_lines script-Plain.owners judge-Tally.added_all judge-Tally.outcome_of judge-Calls.wrong_number judge-Calls.part_outside judge-Calls.too_long judge-Answers.refused_if judge-Answers.first_refusal judge-Calls.judged_or judge-Answers.closed_or judge-Calls.run plain-PlainJudge.owned plain-PlainJudge.belonging plain-PlainJudge.entry_count plain-PlainJudge.owned_lines plain-PlainJudge.filled plain-PlainJudge.plain_start plain-PlainJudge.plain_refusal plain-PlainJudge.plain_judged plain-PlainJudge.plain_closing plain-PlainJudge.plain_call plain-PlainJudge.plain_run
 answers text calls = (plain_run (utf8 text) 0 calls).0
 
@@ -156,31 +159,31 @@ Rows =
     -- P5 the same as features: two.
     × (counts "features: {a, ,b}" ≡ taking 0 2)
     -- P6 matcher `//` passes on any value, `/` is exact.
-    × ((says "expect result: //" ≡ read (result (regex []) ∷ [])) × ((v : List ℕ) → decides (regex []) v ≡ Passed)
-    × (says "expect result: /" ≡ read (result (exact (utf8 "/")) ∷ [])))
+    × ((says "expect result: //" ≡ Ok (result (regex []) ∷ [])) × ((v : List ℕ) → decides (regex []) v ≡ Passed)
+    × (says "expect result: /" ≡ Ok (result (exact (utf8 "/")) ∷ [])))
     -- P7 `>= 9223372036854775807` on 9223372036854775808 fails.
-    × ((says "expect result: >= 9223372036854775807" ≡ read (result (greater_or_equal (pos 9223372036854775807)) ∷ []))
+    × ((says "expect result: >= 9223372036854775807" ≡ Ok (result (greater_or_equal (pos 9223372036854775807)) ∷ []))
     × (decides (greater_or_equal (pos 9223372036854775807)) (utf8 "9223372036854775808") ≡ Failed))
     -- P8 `{}` against no features fails, the value being `{  }`.
-    × ((says "expect server_features: {}" ≡ read (server_features (exact (utf8 "{}")) ∷ []))
-    × (verdict (told none) (server_features (exact (utf8 "{}"))) ≡ Failed) × (value (told none) (server_features (exact (utf8 "{}"))) ≡ some (utf8 "{  }")))
+    × ((says "expect server_features: {}" ≡ Ok (server_features (exact (utf8 "{}")) ∷ []))
+    × (verdict (told None) (server_features (exact (utf8 "{}"))) ≡ Failed) × (value (told None) (server_features (exact (utf8 "{}"))) ≡ Some (utf8 "{  }")))
     -- P9 empty text: 1.38, nothing checked. (By the plain judge, whatever the handshake told, if its parts lie inside its bytes: else 32.)
-    × ((version "" ≡ read (record { major = 1; minor = 38 })) × ((i : HandshakeInfo) (bytes : List ℕ) (lists : List (List ℕ)) (scratch : ℕ)
-    → parts_in bytes lists (Info i) ≡ true → answers "" (in_full i bytes lists scratch) ≡ Judged ∷ Closed NothingChecked ∷ []))
+    × ((version "" ≡ Ok (record { major = 1; minor = 38 })) × ((i : HandshakeInfo) (bytes : List ℕ) (lists : List (List ℕ)) (scratch : ℕ)
+    → parts_in bytes lists (Info i) ≡ true → answers "" (in_full i bytes lists scratch) ≡ Ok Judged ∷ Ok (Closed NothingChecked) ∷ []))
     -- P10 `protocol: 1.256` leaves 1.38.
-    × (version "protocol: 1.256" ≡ read (record { major = 1; minor = 38 }))
+    × (version "protocol: 1.256" ≡ Ok (record { major = 1; minor = 38 }))
     -- P11 `# nwscript v1` below `---`: 9.
-    × (counts "---\n# nwscript v1" ≡ refused_at (refusal 9 2))
+    × (counts "---\n# nwscript v1" ≡ Err (refusal UnknownOperation 2))
     -- P12 `@1msSyncWithGC` is read.
-    × (calls "---\n@1msSyncWithGC" ≡ read (OpCall.NoArgs Op.SyncWithGC ∷ []))
+    × (calls "---\n@1msSyncWithGC" ≡ Ok (OpCall.NoArgs Op.SyncWithGC ∷ []))
     -- P13 `verbosity: 3`, then `verbosity: x`: 0.
-    × ((calls "---\nSetOptions\n  verbosity: 3" ≡ read (options 3 ∷ [])) × (calls "---\nSetOptions\n  verbosity: 3\n  verbosity: x" ≡ read (options 0 ∷ [])))
+    × ((calls "---\nSetOptions\n  verbosity: 3" ≡ Ok (options 3 ∷ [])) × (calls "---\nSetOptions\n  verbosity: 3\n  verbosity: x" ≡ Ok (options 0 ∷ [])))
     -- P14 `QueryValidPaths /a substitute`: one path, flag off.
-    × (calls "---\nQueryValidPaths /a substitute" ≡ read (OpCall.PathSetFlag Op.QueryValidPaths (record { first = 0; count = 1 }) false ∷ []))
+    × (calls "---\nQueryValidPaths /a substitute" ≡ Ok (OpCall.PathSetFlag Op.QueryValidPaths (record { first = 0; count = 1 }) false ∷ []))
     -- P15 ` expect: Last` with one space below an entry: 9.
-    × (counts "---\nSyncWithGC\n expect: Last" ≡ refused_at (refusal 9 3))
+    × (counts "---\nSyncWithGC\n expect: Last" ≡ Err (refusal UnknownOperation 3))
     -- P16 trust 3 is `unknown`.
-    × (value (told (some 3)) (trust (exact (utf8 "unknown"))) ≡ some (utf8 "unknown"))
+    × (value (told (Some 3)) (trust (exact (utf8 "unknown"))) ≡ Some (utf8 "unknown"))
 
 pub table : Rows
 unfolding reading says value answers

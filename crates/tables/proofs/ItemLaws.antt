@@ -3,18 +3,15 @@ use Prim.Native.Nat.{ℕ, ◌+◌, ◌-◌, ◌*◌, ◌^◌, ◌≤◌, ◌<◌
 use mathlib.Core.Path.{◌≡◌, refl, sym, ap, ◌∙◌}
 use mathlib.Core.Bool.{Bool, true, false, not}
 use mathlib.Core.List.{List, [], ◌∷◌, map}
-use mathlib.Core.Option.{Option, none, some}
 use native.Mathlib.Omega.{arith}
 use lib.Dec.{eqb}
 use lib.ListN.{length, set}
 use borrow.Author.Tests.{eq-eqb, ne_eqb, not-true, not-false, eqb-true}
-use Rattle.std.specs.Prelude.{if◌then◌else◌}
+use Rattle.std.specs.Prelude.{if◌then◌else◌, None, Option, Some}
 use Rattle.text.specs.Base.{◌&◌, ◌or◌}
-use Rattle.text.specs.Parts.{span, starts_with, ends_with, position, found_of, split, part_at}
+use Rattle.text.specs.Parts.{span, starts_with, ends_with, position, split, part_at}
 use Rattle.text.specs.Words.{words_from, word_at}
 use Rattle.text.specs.Words as Words
-use Rattle.text.specs.declared.parts.Found.{Found}
-use Rattle.text.specs.declared.parts.Found.TheVariants.{At, Nothing}
 use Rattle.text.specs.declared.parts.Part.{Part}
 use Rattle.text.specs.declared.parts.Span.{Span}
 use Rattle.text.proofs.LiteralLaws.{codes, begins_as}
@@ -252,38 +249,38 @@ module _ (text : List ℕ) (p : Span) where
   path_parts n = rw (ne_eqb p.start p.end n)
 
 -- f is the answer of `pieces::find_in` behind the opening brace
-module _ (text : List ℕ) (p : Span) (f : Found) (e : found_of f ≡ position CLOSING-BRACE (bytes text p)) where
+module _ (text : List ℕ) (p : Span) (f : Option ℕ) (e : f ≡ position CLOSING-BRACE (bytes text p)) where
   -- no closing brace; the first one
-  pub braced-none : f ≡ Nothing → items_for (braced_items text p) ≡ []
+  pub braced-none : f ≡ None → items_for (braced_items text p) ≡ []
   unfolding braced_items items_or braced_set items_for
   braced-none h = rw (cut-none text p.start p.end CLOSING-BRACE f e h)
 
-  pub braced_path : (n : ℕ) (q : Span) → f ≡ At n → q ≡ trim text (span p.start (p.start + n)) → items_for (braced_items text p) ≡ items_for (path_items text q)
+  pub braced_path : (n : ℕ) (q : Span) → f ≡ Some n → q ≡ trim text (span p.start (p.start + n)) → items_for (braced_items text p) ≡ items_for (path_items text q)
   unfolding braced_items items_or braced_set cut_at
   braced_path n q h z = rw (cut-some text p.start p.end CLOSING-BRACE f e n h, ← z)
 
 -- by what stands behind the opening brace
 module _ (text : List ℕ) (v : Span) where
-  in_braces : (r : Span) → behind text "{" (trim text v) ≡ some r → (o : Option PathSet) → braced_set text r ≡ o → items_in text v ≡ items_or o
+  in_braces : (r : Span) → behind text "{" (trim text v) ≡ Some r → (o : Option PathSet) → braced_set text r ≡ o → items_in text v ≡ items_or o
   unfolding items_in path_set items_or
-  in_braces r e none h = rw (e, path_set, h, items_in)
-  in_braces r e (some s) h = rw (e, path_set, h, items_in)
+  in_braces r e None h = rw (e, path_set, h, items_in)
+  in_braces r e (Some s) h = rw (e, path_set, h, items_in)
 
   pub items_by_lem : (o : Option Span) → behind text "{" (trim text v) ≡ o → items_in text v ≡ items_by text (trim text v) o
   unfolding items_in path_set items_by braced_items items_or
-  items_by_lem none e = rw (e, path_set, items_in)
-  items_by_lem (some r) e = in_braces r e (braced_set text r) refl
+  items_by_lem None e = rw (e, path_set, items_in)
+  items_by_lem (Some r) e = in_braces r e (braced_set text r) refl
 
   -- q is the value trimmed, b whether it begins with a brace
   module _ (q : Span) (z : q ≡ trim text v) (b : Bool) (e : b ≡ starts_with (codes "{") (bytes text q)) where
     -- a value in braces
     pub set-braced : b ≡ true → items_of text v ≡ items_for (braced_items text (span (q.start + 1) q.end))
     unfolding items_of items_by
-    set-braced t = ap items_for (items_by_lem (some (span (q.start + 1) q.end)) (rw (← z) (behind-some text q "{" b e t)))
+    set-braced t = ap items_for (items_by_lem (Some (span (q.start + 1) q.end)) (rw (← z) (behind-some text q "{" b e t)))
 
     set-plain : b ≡ false → items_of text v ≡ items_for (if is_empty q then [] else (q ∷ []))
     unfolding items_of items_by plain_set
-    set-plain f = rw z (ap items_for (items_by_lem none (rw (← z) (behind-none text q "{" b e f))))
+    set-plain f = rw z (ap items_for (items_by_lem None (rw (← z) (behind-none text q "{" b e f))))
 
     -- without braces: an empty value, and another
     pub set-none : b ≡ false → q.start ≡ q.end → items_of text v ≡ []

@@ -1,6 +1,5 @@
 -- What the code writes on its way to the items of a set. Assumes nothing.
-use Rattle.std.specs.Prelude.{ℕ, Bool, true, false, List, []}
-use Rattle.std.proofs.Math.Option.{Option, none, some}
+use Rattle.std.specs.Prelude.{ℕ, Bool, true, false, List, [], None, Option, Some}
 use Rattle.text.specs.declared.parts.Span.{Span}
 use Rattle.script.specs.Sets.{PathSet, non_empty, braced_set, plain_set}
 
@@ -10,8 +9,8 @@ taken true ps = ps
 taken false ps = non_empty ps
 
 unfoldable pub items_or : Option PathSet → List Span
-items_or none = []
-items_or (some s) = s.items
+items_or None = []
+items_or (Some s) = s.items
 
 -- the items of a path set behind its opening brace; none where it is not closed
 unfoldable pub braced_items : (text : List ℕ) → Span → List Span
@@ -19,5 +18,5 @@ braced_items text p = items_or (braced_set text p)
 
 -- the items of a path set, by what stands behind its opening brace, if it has one
 unfoldable pub items_by : (text : List ℕ) → (q : Span) → Option Span → List Span
-items_by text q none = (plain_set text q).items
-items_by text q (some r) = braced_items text r
+items_by text q None = (plain_set text q).items
+items_by text q (Some r) = braced_items text r

@@ -46,7 +46,7 @@ count_most Passed c = (omega arith, omega arith, omega arith)
 count_most Failed c = (omega arith, omega arith, omega arith)
 count_most Undecided c = (omega arith, omega arith, omega arith)
 
--- ---- 36
+-- ---- the limit
 
 pub over_passed : (c : Counts) → 0x8000 < c.passed → over_limit c ≡ true
 unfolding over_limit

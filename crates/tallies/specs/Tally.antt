@@ -29,6 +29,6 @@ outcome_of c =
     else if eqb c.passed 0 then NothingChecked
     else Passed
 
--- 36: a tally count above 32,768
+-- whether a count is above 32,768
 unfoldable pub over_limit : Counts → Bool
 over_limit c = ltb 0x8000 c.passed or ltb 0x8000 c.failed or ltb 0x8000 c.undecided

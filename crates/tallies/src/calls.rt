@@ -1,11 +1,9 @@
 // What a call of Judge or Close answers.
 use crate::tally::Outcome;
-use script::records::Refusal;
 
-// Refused, judged, or what closing says.
-#[derive(Clone, Copy)]
+// Judged, or what closing says. A call that is refused answers with its refusal.
+#[derive(Clone, Copy, PartialEq, Eq)]
 pub enum Answer {
-    Refused(Refusal),
     Judged,
     Closed(Outcome),
 }

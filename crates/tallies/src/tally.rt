@@ -13,7 +13,7 @@ pub struct Counts {
 }
 
 // What closing says.
-#[derive(Clone, Copy)]
+#[derive(Clone, Copy, PartialEq, Eq)]
 pub enum Outcome {
     Failed,
     Undecided,
@@ -22,7 +22,7 @@ pub enum Outcome {
 }
 
 impl Counts {
-    // One verdict more. A judging begins with counts of at most 32,768 (refusal 36) and has at most as many verdicts.
+    // One verdict more. A judging begins with counts of at most 32,768 and has at most as many verdicts.
     pub fn add(mut self, v: Verdict) -> Self
         requires { (self.passed < 0x1_0000) × (self.failed < 0x1_0000) × (self.undecided < 0x1_0000) }
         ensures { result ≡ added v self }

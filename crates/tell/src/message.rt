@@ -8,23 +8,15 @@ ghost use Rattle.verdicts.specs.Held.{expected_of, response_of, info_of, expect_
 ghost use Rattle.told.specs.Told.{counted, told_of, unless_refused};
 ghost use Rattle.tell.specs.Tell.{placed, expect_at};
 
-use crate::picks::{Picked, pick};
+use crate::picks::pick;
 use expect::message::{entry_message, handshake_message};
 use script::records::{Expectation, Refusal, Script};
+use script::refusals::Reason;
 use script::response::{DaemonResponse, HandshakeInfo};
 use told::Told;
 
-// 31: no expectation counts at that place.
-fn no_expectation() -> Told
-    ensures { result ≡ Told.Refused (record { number = 31; line = 0 }) }
-{
-    Told::Refused(Refusal {
-        number: 31,
-        line: 0,
-    })
-}
-
 // The message of the expectation at a place, counted from 0, judged against a response.
+#[tactic(auto, unfolding(crate::specs::Pick::picked_at, told::specs::Told::told_of, told::specs::Told::unless_refused))]
 pub fn entry_message_at(
     text: &[u8],
     script: Script,
@@ -35,18 +27,17 @@ pub fn entry_message_at(
     lists: &[[usize; 2]],
     scratch: &mut [u8],
     buffer: &mut [u8],
-) -> Told
+) -> Result<Told, Refusal>
     ensures value { result ≡ told_of (placed expectations.now script.counts.expectations at & expect_in (length text.now) (expect_at expectations.now at)) (response_in (length bytes.now) (counted lists.now) r) (reply (response_of bytes.now (counted lists.now) r)) (expected_of text.now (expect_at expectations.now at)) (length scratch.old) (length buffer.old) }
     ensures scratch_after { scratch.new ≡ unless_refused result (present_bytes (looked_in (response_of bytes.now (counted lists.now) r) (expected_of text.now (expect_at expectations.now at)))) scratch.old }
     ensures buffer_after { buffer.new ≡ unless_refused result (entry_message (response_of bytes.now (counted lists.now) r) (expected_of text.now (expect_at expectations.now at))) buffer.old }
 {
-    match pick(expectations, script.counts.expectations, at) {
-        Picked::Nothing => no_expectation(),
-        Picked::Is(e) => entry_message(text, e, r, bytes, lists, scratch, buffer),
-    }
+    let e = pick(expectations, script.counts.expectations, at).ok_or(Reason::ExpectationOutside)?;
+    entry_message(text, e, r, bytes, lists, scratch, buffer)
 }
 
 // The message of the expectation at a place, counted from 0, judged against what the handshake told.
+#[tactic(auto, unfolding(crate::specs::Pick::picked_at, told::specs::Told::told_of, told::specs::Told::unless_refused))]
 pub fn handshake_message_at(
     text: &[u8],
     script: Script,
@@ -57,13 +48,11 @@ pub fn handshake_message_at(
     lists: &[[usize; 2]],
     scratch: &mut [u8],
     buffer: &mut [u8],
-) -> Told
+) -> Result<Told, Refusal>
     ensures value { result ≡ told_of (placed expectations.now script.counts.expectations at & expect_in (length text.now) (expect_at expectations.now at)) (info_in (length bytes.now) (counted lists.now) i) (greeting (info_of bytes.now (counted lists.now) i)) (expected_of text.now (expect_at expectations.now at)) (length scratch.old) (length buffer.old) }
     ensures scratch_after { scratch.new ≡ unless_refused result (present_bytes (told_in (info_of bytes.now (counted lists.now) i) (expected_of text.now (expect_at expectations.now at)))) scratch.old }
     ensures buffer_after { buffer.new ≡ unless_refused result (handshake_message (info_of bytes.now (counted lists.now) i) (expected_of text.now (expect_at expectations.now at))) buffer.old }
 {
-    match pick(expectations, script.counts.expectations, at) {
-        Picked::Nothing => no_expectation(),
-        Picked::Is(e) => handshake_message(text, e, i, bytes, lists, scratch, buffer),
-    }
+    let e = pick(expectations, script.counts.expectations, at).ok_or(Reason::ExpectationOutside)?;
+    handshake_message(text, e, i, bytes, lists, scratch, buffer)
 }

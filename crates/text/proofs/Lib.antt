@@ -4,6 +4,7 @@ pub mod LiteralLaws
 pub mod PartLaws
 pub mod Scan
 pub mod SkipLaws
+pub mod StdLaws
 pub mod Table
 pub mod TextExamples
 pub mod TrimLaws

@@ -19,7 +19,7 @@ abbrev pub codes : String → List ℕ
 codes []ˢ = []
 codes (c ∷ˢ w) = code c ∷ codes w
 
-eqb_sym : (a b : ℕ) → eqb a b ≡ eqb b a
+pub eqb_sym : (a b : ℕ) → eqb a b ≡ eqb b a
 eqb_sym a b = go (eqb b a) refl
   where
     go : (t : Bool) → eqb b a ≡ t → eqb a b ≡ t

@@ -1,9 +1,9 @@
 -- Worked examples of UTF-8, trimming, lines, parts and words, computed. Assumes nothing.
+use Rattle.std.specs.Prelude.{None, Some}
 use Prim.Native.Nat.{ℕ, zero, suc, ◌+◌, ◌-◌}
 use mathlib.Core.Path.{◌≡◌, refl}
 use mathlib.Core.Bool.{true, false}
 use mathlib.Core.List.{List, [], ◌∷◌, ◌++◌}
-use mathlib.Core.Option.{none, some}
 use Rattle.text.specs.Base.{within}
 use Rattle.text.specs.Literal.{utf8}
 use Rattle.text.specs.Utf8.{Range, table, after, well_formed_from, well_formed}
@@ -45,10 +45,10 @@ texts :
     × (ends_with [] 0x7D ≡ false)
     × (same_bytes (utf8 "---") (utf8 "---") ≡ true)
     × (same_bytes (utf8 "---") (utf8 "--") ≡ false)
-    × (position 0x3A (utf8 "a:b:") ≡ some 1)
-    × (position 0x3A (utf8 "ab") ≡ none)
-    × (pair_position 0x6D 0x73 (utf8 "mmsms") ≡ some 1)
-    × (pair_position 0x6D 0x73 (utf8 "sm") ≡ none)
+    × (position 0x3A (utf8 "a:b:") ≡ Some 1)
+    × (position 0x3A (utf8 "ab") ≡ None)
+    × (pair_position 0x6D 0x73 (utf8 "mmsms") ≡ Some 1)
+    × (pair_position 0x6D 0x73 (utf8 "sm") ≡ None)
     × (split 0x2C (utf8 "a,,b") ≡ part_of 0 1 true ∷ part_of 2 2 true ∷ part_of 3 4 false ∷ [])
     × (split 0x2C [] ≡ part_of 0 0 false ∷ [])
     × (words (utf8 " a\u{3000}bc \t") ≡ span 1 2 ∷ span 5 7 ∷ [])

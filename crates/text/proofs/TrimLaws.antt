@@ -10,50 +10,12 @@ use lib.Dec.{eqb, eqb-suc-zero}
 use lib.ListN.{length, length-take, length-drop, length-reverse, get_or, take, drop}
 use lib.Seq.{drop-nil, drop-drop, get_or-drop, take-suc, take_all, take-length, length-take-le}
 use borrow.Author.Tests.{lt-leb}
-use Rattle.text.proofs.Scan.{by_cases, inside, and_true, and_false, rest_more, rest-none, within_low, within_high}
+use Rattle.text.proofs.Scan.{by_cases, inside, and_false, rest_more, rest-none, within_low, within_high}
 use Rattle.std.specs.Prelude.{if◌then◌else◌}
 use Rattle.text.specs.Base.{◌&◌, within, part}
 use Rattle.text.specs.Utf8.{Range}
 use Rattle.text.specs.Trim.{white_bytes, backwards, begins, size_of, strip_from, trimmed_front, trimmed_back, trimmed, trim_place}
 use Rattle.text.specs.declared.trim.Place.{Place}
-
--- ---- the test of a row, and the first row that fits; for `search` to use
-
-module _ (p q r : Range) (a b c : ℕ) (t : Bool) where
-  pub fits_two : t ≡ within q.lo q.hi b → within p.lo p.hi a ≡ true → t ≡ begins (p ∷ q ∷ []) (a ∷ b ∷ [])
-  unfolding begins
-  fits_two k e = rw e (k ∙ sym (and_true _))
-
-  pub fits_more : t ≡ begins (q ∷ r ∷ []) (b ∷ c ∷ []) → within p.lo p.hi a ≡ true → t ≡ begins (p ∷ q ∷ r ∷ []) (a ∷ b ∷ c ∷ [])
-  unfolding begins
-  fits_more k e = rw e k
-
-pub fits_not : (p : Range) (ps : List Range) (a : ℕ) (s : List ℕ) → within p.lo p.hi a ≡ false → false ≡ begins (p ∷ ps) (a ∷ s)
-unfolding begins
-fits_not p ps a s e = rw e
-
-module _ (p q r : Range) (rows : List (List Range)) (a b c : ℕ) where
-  pub past_two : (n : ℕ) → begins (p ∷ q ∷ []) (a ∷ b ∷ []) ≡ false → n ≡ size_of rows (a ∷ b ∷ c ∷ []) → n ≡ size_of ((p ∷ q ∷ []) ∷ rows) (a ∷ b ∷ c ∷ [])
-  unfolding size_of begins
-  past_two n e k = rw e k
-
-  pub taken_two : begins (p ∷ q ∷ []) (a ∷ b ∷ []) ≡ true → 2 ≡ size_of ((p ∷ q ∷ []) ∷ rows) (a ∷ b ∷ c ∷ [])
-  unfolding size_of begins
-  taken_two e = rw e
-
-  pub past_three : (n : ℕ) → begins (p ∷ q ∷ r ∷ []) (a ∷ b ∷ c ∷ []) ≡ false → n ≡ size_of rows (a ∷ b ∷ c ∷ []) → n ≡ size_of ((p ∷ q ∷ r ∷ []) ∷ rows) (a ∷ b ∷ c ∷ [])
-  unfolding size_of
-  past_three n e k = rw e k
-
-  pub taken_three : begins (p ∷ q ∷ r ∷ []) (a ∷ b ∷ c ∷ []) ≡ true → 3 ≡ size_of ((p ∷ q ∷ r ∷ []) ∷ rows) (a ∷ b ∷ c ∷ [])
-  unfolding size_of
-  taken_three e = rw e
-
-pub no_row : (s : List ℕ) → 0 ≡ size_of [] s
-unfolding size_of
-no_row s = refl
-
-pub ruleset row_steps = (fits_two, fits_more, fits_not, past_two, taken_two, past_three, taken_three, no_row)
 
 -- ---- three bytes say it; past the end stands 0, which no row has
 
@@ -165,6 +127,10 @@ back_drop s (suc i) (suc n) h =
     let e : suc i - suc n ≡ i - n = omega arith in
     rw (e, back_more s (suc i) (omega arith) h, sub-one) (back_drop s i n (omega arith))
 
+second-before : (s : List ℕ) (i : ℕ) → i ≤ length s → get_or (reverse (take i s)) 1 0 ≡ get_or (reverse (take (i - 1) s)) 0 0
+second-before s zero h = refl
+second-before s (suc i) h = rw (back_more s (suc i) (omega arith) h)
+
 -- ---- the size at a place, and before one; for `search` to use
 
 module _ (s : List ℕ) (at n : ℕ) where
@@ -182,32 +148,18 @@ module _ (s : List ℕ) (at n : ℕ) where
     pub before_ascii : get_or s (at - 1) 0 < 0x80 → n ≡ size_of (take 2 white_bytes) (get_or s (at - 1) 0 ∷ []) → n ≡ size_of (backwards white_bytes) (reverse (take at s))
     before_ascii x e = rw (back_more s at h g, back_ascii (get_or s (at - 1) 0) (reverse (take (at - 1) s)) x) e
 
-    pub before_long_1 : 0x80 ≤ get_or s (at - 1) 0 → at - 1 ≡ 0 → (b : ℕ) → b ≡ get_or (reverse (take (at - 1) s)) 0 0
-        → n ≡ size_of (drop 2 (backwards white_bytes)) (get_or s (at - 1) 0 ∷ b ∷ 0 ∷ []) → n ≡ size_of (backwards white_bytes) (reverse (take at s))
-    before_long_1 x k b p e =
-        let r : reverse (take (at - 1) s) ≡ [] = ap (λ (j : ℕ). reverse (take j s)) k in
-        rw (back_more s at h g, back_long (get_or s (at - 1) 0 ∷ reverse (take (at - 1) s)) x, r) (rw (p, r) at e)
-
-    pub before_long : 0x80 ≤ get_or s (at - 1) 0 → (at - 1 ≡ 0 → ⊥) → (b c : ℕ) → b ≡ get_or (reverse (take (at - 1) s)) 0 0 → c ≡ get_or (reverse (take (at - 1 - 1) s)) 0 0
+    pub before_long : 0x80 ≤ get_or s (at - 1) 0 → (b c k : ℕ) → b ≡ get_or (reverse (take (at - 1) s)) 0 0 → k ≡ at - 2 → c ≡ get_or (reverse (take k s)) 0 0
         → n ≡ size_of (drop 2 (backwards white_bytes)) (get_or s (at - 1) 0 ∷ b ∷ c ∷ []) → n ≡ size_of (backwards white_bytes) (reverse (take at s))
-    before_long x k b c p q e =
-        let r = back_more s (at - 1) (omega arith) (omega arith) in
-        rw (back_more s at h g, back_long (get_or s (at - 1) 0 ∷ reverse (take (at - 1) s)) x, r) (rw (p, q, r) at e)
+    before_long x b c k p l q e =
+        let m : k ≡ at - 1 - 1 = omega arith in
+        let r = second-before s (at - 1) (omega arith) in
+        rw (back_more s at h g, back_long (get_or s (at - 1) 0 ∷ reverse (take (at - 1) s)) x, r, ← m, ← p, ← q) e
 
 pub first-before : (s : List ℕ) (at : ℕ) → (at ≡ 0 → ⊥) → at ≤ length s → get_or s (at - 1) 0 ≡ get_or (reverse (take at s)) 0 0
 first-before s at h g = rw (back_more s at (omega arith) g)
 
 pub nothing_before : (s : List ℕ) (at : ℕ) → at ≡ 0 → 0 ≡ get_or (reverse (take at s)) 0 0
 nothing_before s at e = rw e
-
-module _ (r : Range) (rows : List (List Range)) (a : ℕ) where
-  pub past_one : (n : ℕ) → within r.lo r.hi a ≡ false → n ≡ size_of rows (a ∷ []) → n ≡ size_of ((r ∷ []) ∷ rows) (a ∷ [])
-  unfolding size_of begins
-  past_one n e k = rw e k
-
-  pub taken_one : within r.lo r.hi a ≡ true → 1 ≡ size_of ((r ∷ []) ∷ rows) (a ∷ [])
-  unfolding size_of begins
-  taken_one e = rw e
 
 pub at-inside : (s : List ℕ) (at n : ℕ) → n ≡ size_of white_bytes (drop at s) → n ≤ length s - at
 at-inside s at n e = omega (arith, size_fits white_bytes (drop at s), length-drop at s)
@@ -219,9 +171,7 @@ at_end s at h = rw (rest-none s at h)
 pub before-inside : (s : List ℕ) (at n : ℕ) → at ≤ length s → n ≡ size_of (backwards white_bytes) (reverse (take at s)) → n ≤ at
 before-inside s at n h e = omega (arith, size_fits (backwards white_bytes) (reverse (take at s)), length-reverse (take at s), length-take at s)
 
-pub ruleset one_steps = (past_one, taken_one, no_row)
-
-pub ruleset place_steps = (at_ascii, at_long, before_ascii, before_long_1, before_long, first-before, nothing_before, at-inside, at_end, before-inside)
+pub ruleset place_steps = (at_ascii, at_long, before_ascii, before_long, first-before, nothing_before, at-inside, at_end, before-inside)
 
 -- ---- ASCII at an end
 

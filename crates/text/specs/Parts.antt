@@ -1,10 +1,7 @@
 -- What reading needs besides: how a text begins and ends, where a byte stands in it, its parts between separators, and whether two are the same.
 -- Assumes nothing.
-use Rattle.std.specs.Prelude.{ℕ, ◌+◌, Bool, true, false, List, [], ◌∷◌, eqb, drop, if◌then◌else◌}
-use Rattle.std.proofs.Math.Option.{Option, none, some}
+use Rattle.std.specs.Prelude.{ℕ, ◌+◌, Bool, true, false, List, [], ◌∷◌, eqb, drop, if◌then◌else◌, None, Option, Some}
 use Rattle.text.specs.Base.{◌&◌}
-use Rattle.text.specs.declared.parts.Found.{Found}
-use Rattle.text.specs.declared.parts.Found.TheVariants.{At, Nothing}
 use Rattle.text.specs.declared.parts.Part.{Part}
 use Rattle.text.specs.declared.parts.Span.{Span}
 
@@ -34,25 +31,20 @@ same_bytes (x ∷ a) (y ∷ b) = eqb x y & same_bytes a b
 -- ---- the first place of a byte, and of a pair of bytes, counted from `at`
 
 unfoldable pub position_from : (b at : ℕ) → List ℕ → Option ℕ
-position_from b at [] = none
-position_from b at (x ∷ rest) = let later = position_from b (at + 1) rest in if eqb x b then some at else later
+position_from b at [] = None
+position_from b at (x ∷ rest) = let later = position_from b (at + 1) rest in if eqb x b then Some at else later
 
 unfoldable pub position : (b : ℕ) → List ℕ → Option ℕ
 position b s = position_from b 0 s
 
 unfoldable pub pair_position_from : (a b at : ℕ) → List ℕ → Option ℕ
-pair_position_from a b at [] = none
+pair_position_from a b at [] = None
 pair_position_from a b at (x ∷ rest) =
     let later = pair_position_from a b (at + 1) rest in
-    if starts_with (a ∷ b ∷ []) (x ∷ rest) then some at else later
+    if starts_with (a ∷ b ∷ []) (x ∷ rest) then Some at else later
 
 unfoldable pub pair_position : (a b : ℕ) → List ℕ → Option ℕ
 pair_position a b s = pair_position_from a b 0 s
-
--- what the code's answer says
-unfoldable pub found_of : Found → Option ℕ
-found_of (At n) = some n
-found_of Nothing = none
 
 -- ---- the parts between separators
 

@@ -1,7 +1,6 @@
 -- Document 01, "Lines and words": UTF-8. A list of bytes is well formed if it is a row of ranges of table 3-7 of The Unicode Standard after the other.
 -- That this is what the Standard defines, the encodings of scalar values, is proved in characters/proofs/Unicode.antt. Assumes nothing.
-use Rattle.std.specs.Prelude.{ℕ, Bool, true, false, List, [], ◌∷◌, if◌then◌else◌}
-use Rattle.std.proofs.Math.Option.{Option, none, some}
+use Rattle.std.specs.Prelude.{ℕ, Bool, true, false, List, [], ◌∷◌, if◌then◌else◌, None, Option, Some}
 use Rattle.text.specs.Base.{◌&◌, within}
 
 -- the numbers from lo to hi, both included
@@ -36,14 +35,14 @@ table =
 
 -- what has to follow a first byte x: the rest of its row, or none where no row has it
 unfoldable pub after : List Row → ℕ → Option (List Range)
-after [] x = none
-after (r ∷ rows) x = if within r.first.lo r.first.hi x then some r.following else after rows x
+after [] x = None
+after (r ∷ rows) x = if within r.first.lo r.first.hi x then Some r.following else after rows x
 
 -- A walk over the text. `due` are the ranges of the bytes that the character begun still wants.
 unfoldable pub well_formed_from : (due : List Range) → List ℕ → Bool
 well_formed_from [] [] = true
 well_formed_from (r ∷ due) [] = false
-well_formed_from [] (x ∷ rest) = elim (after table x) [ none ↦ false | some due ↦ well_formed_from due rest ]
+well_formed_from [] (x ∷ rest) = elim (after table x) [ None ↦ false | Some due ↦ well_formed_from due rest ]
 well_formed_from (r ∷ due) (x ∷ rest) = within r.lo r.hi x & well_formed_from due rest
 
 unfoldable pub well_formed : List ℕ → Bool

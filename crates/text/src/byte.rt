@@ -6,12 +6,13 @@ ghost use Rattle.text.specs.Base.{within};
 pub fn byte_at(s: &[u8], at: usize) -> u8
     ensures { result ≡ get_or s.now at 0 }
 {
-    if at < s.len() { s[at] } else { 0 }
+    s.get(at).copied().unwrap_or(0)
 }
 
 // Whether x lies from lo to hi, both included.
+#[tactic(auto, unfolding(crate::specs::Base::within))]
 pub fn in_range(lo: u8, hi: u8, x: u8) -> bool
     ensures { result ≡ within lo hi x }
 {
-    if lo <= x { x <= hi } else { false }
+    (lo..=hi).contains(&x)
 }

@@ -1,26 +1,18 @@
 // What stands at a place. Places may be forged: what lies outside has no bytes.
 #![tactic(auto)]
 
-ghost use Rattle.std.specs.Prelude.{◌≡◌};
+ghost use Rattle.std.specs.Prelude.{drop, take, ◌≡◌};
 ghost use Rattle.text.specs.Base.{part};
 ghost use Rattle.verdicts.specs.Held.{text_at};
 
 use script::records::Place;
 
-// The bytes from start on, len of them, as far as there are any.
-pub fn part_of(bytes: &[u8], start: usize, len: usize) -> &[u8]
-    ensures { result.now ≡ part bytes.now start len }
+// What stands from start on, len of it, as far as there is any.
+pub fn part_of<T>(items: &[T], start: usize, len: usize) -> &[T]
+    ensures { result.now ≡ take len (drop start items.now) }
 {
-    let n = bytes.len();
-    if n <= start {
-        return &bytes[n..n];
-    }
-    let left = n - start;
-    if left <= len {
-        return &bytes[start..n];
-    }
-    let end = start + len;
-    &bytes[start..end]
+    let rest = &items[start.min(items.len())..];
+    &rest[..len.min(rest.len())]
 }
 
 pub fn text_at(bytes: &[u8], p: Place) -> &[u8]

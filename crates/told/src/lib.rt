@@ -4,20 +4,13 @@
 ghost use Rattle.std.specs.Prelude.{◌≡◌};
 ghost use Rattle.told.specs.Told.{counted};
 
-use script::records::Refusal;
 use verdicts::Verdict;
 
-// What Message answers: a refusal; or the verdict, and how many bytes the message has.
+// What Message answers unless it refuses: the verdict, and how many bytes the message has.
 #[derive(Clone, Copy)]
-pub enum Told {
-    Refused(Refusal),
-    Says(Verdict, usize),
-}
-
-pub fn refused(number: u64) -> Told
-    ensures { result ≡ Told.Refused (record { number = number; line = 0 }) }
-{
-    Told::Refused(Refusal { number, line: 0 })
+pub struct Told {
+    pub verdict: Verdict,
+    pub len: usize,
 }
 
 // The first 32,768 records of a table of places.

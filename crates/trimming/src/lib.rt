@@ -1,95 +1,51 @@
 // Trimming: White_Space off both ends of a text, by its bytes.
 #![tactic(auto)]
 
-ghost use Rattle.std.specs.Prelude.{◌≡◌, [], ◌∷◌, reverse, ◌+◌, ◌-◌, ◌≤◌, ◌<◌, length, get_or, take, drop};
+ghost use Rattle.std.specs.Prelude.{◌≡◌, [], ◌∷◌, reverse, ◌-◌, ◌≤◌, ◌<◌, length, get_or, take, drop};
 ghost use Rattle.text.specs.Base.{within};
-ghost use Rattle.text.specs.Utf8.{◌to◌};
-ghost use Rattle.text.specs.Trim.{white_bytes, backwards, begins, size_of, trimmed_front, trimmed_back, trimmed, trim_place};
+ghost use Rattle.text.specs.Trim.{white_bytes, backwards, size_of, trimmed_front, trimmed_back, trimmed, trim_place};
 
 use text::trim::Place;
 
-// Whether a and b lie in the ranges of a row: the first is x, the second from lo to hi.
-fn fits_two(x: u8, lo: u8, hi: u8, a: u8, b: u8) -> bool
-    ensures { result ≡ begins (x to x ∷ lo to hi ∷ []) (a ∷ b ∷ []) }
-{
-    if text::byte::in_range(x, x, a) {
-        return text::byte::in_range(lo, hi, b);
-    }
-    false
-}
-
-// Whether a, b and c lie in the ranges of a row: the first from la to ha, the second mid, the third from lc to hc.
-fn fits_three(la: u8, ha: u8, mid: u8, lc: u8, hc: u8, a: u8, b: u8, c: u8) -> bool
-    ensures { result ≡ begins (la to ha ∷ mid to mid ∷ lc to hc ∷ []) (a ∷ b ∷ c ∷ []) }
-{
-    if text::byte::in_range(la, ha, a) {
-        return fits_two(mid, lc, hc, b, c);
-    }
-    false
-}
-
-// The rows of three bytes.
-fn front_three(a: u8, b: u8, c: u8) -> usize
-    ensures { result ≡ size_of (drop 4 white_bytes) (a ∷ b ∷ c ∷ []) }
-{
-    if fits_three(0xE1, 0xE1, 0x9A, 0x80, 0x80, a, b, c) {
-        return 3;
-    }
-    if fits_three(0xE2, 0xE2, 0x80, 0x80, 0x8A, a, b, c) {
-        return 3;
-    }
-    if fits_three(0xE2, 0xE2, 0x80, 0xA8, 0xA9, a, b, c) {
-        return 3;
-    }
-    if fits_three(0xE2, 0xE2, 0x80, 0xAF, 0xAF, a, b, c) {
-        return 3;
-    }
-    if fits_three(0xE2, 0xE2, 0x81, 0x9F, 0x9F, a, b, c) {
-        return 3;
-    }
-    if fits_three(0xE3, 0xE3, 0x80, 0x80, 0x80, a, b, c) {
-        return 3;
-    }
-    0
-}
-
 // The size of the White_Space character beyond ASCII that begins with a, b, c; 0 if there is none.
+#[tactic(auto, unfolding(text::specs::Trim::white_bytes, text::specs::Trim::size_of, text::specs::Trim::begins, text::specs::Base::within))]
 fn front_size(a: u8, b: u8, c: u8) -> usize
     ensures { result ≡ size_of (drop 2 white_bytes) (a ∷ b ∷ c ∷ []) }
 {
-    if fits_two(0xC2, 0x85, 0x85, a, b) {
-        return 2;
+    match (a, b, c) {
+        (0xC2, 0x85 | 0xA0, _) => 2,
+        (0xE1, 0x9A, 0x80)
+        | (0xE2, 0x80, 0x80..=0x8A | 0xA8..=0xA9 | 0xAF)
+        | (0xE2, 0x81, 0x9F)
+        | (0xE3, 0x80, 0x80) => 3,
+        _ => 0,
     }
-    if fits_two(0xC2, 0xA0, 0xA0, a, b) {
-        return 2;
-    }
-    front_three(a, b, c)
 }
 
 // The size of the White_Space character beyond ASCII that ends with c, b, a; 0 if there is none.
+#[tactic(auto, unfolding(text::specs::Trim::white_bytes, text::specs::Trim::backwards, text::specs::Trim::size_of, text::specs::Trim::begins, text::specs::Base::within))]
 fn back_size(a: u8, b: u8, c: u8) -> usize
     ensures { result ≡ size_of (drop 2 (backwards white_bytes)) (a ∷ b ∷ c ∷ []) }
 {
-    if fits_two(0x85, 0xC2, 0xC2, a, b) {
-        return 2;
+    match (a, b, c) {
+        (0x85 | 0xA0, 0xC2, _) => 2,
+        (0x80, 0x9A, 0xE1)
+        | (0x80..=0x8A | 0xA8..=0xA9 | 0xAF, 0x80, 0xE2)
+        | (0x9F, 0x81, 0xE2)
+        | (0x80, 0x80, 0xE3) => 3,
+        _ => 0,
     }
-    if fits_two(0xA0, 0xC2, 0xC2, a, b) {
-        return 2;
-    }
-    front_three(c, b, a)
 }
 
 // 1 if a is an ASCII White_Space character, 0 if not.
+#[tactic(auto, unfolding(text::specs::Trim::white_bytes, text::specs::Trim::size_of, text::specs::Trim::begins, text::specs::Base::within))]
 fn ascii_size(a: u8) -> usize
     ensures { result ≡ size_of (take 2 white_bytes) (a ∷ []) }
 {
-    if text::byte::in_range(0x09, 0x0D, a) {
-        return 1;
+    match a {
+        0x09..=0x0D | 0x20 => 1,
+        _ => 0,
     }
-    if text::byte::in_range(0x20, 0x20, a) {
-        return 1;
-    }
-    0
 }
 
 // The size of the White_Space character at `at`; 0 if there is none.
@@ -101,7 +57,7 @@ pub fn white_at(s: &[u8], at: usize) -> usize
         return 0;
     }
     let a = s[at];
-    if a < 0x80 {
+    if a.is_ascii() {
         return ascii_size(a);
     }
     let b = text::byte::byte_at(s, at + 1);
@@ -114,10 +70,7 @@ fn byte_before(s: &[u8], at: usize) -> u8
     requires { at ≤ length s.now }
     ensures { result ≡ get_or (reverse (take at s.now)) 0 0 }
 {
-    if at == 0 {
-        return 0;
-    }
-    s[at - 1]
+    s[..at].last().copied().unwrap_or(0)
 }
 
 // The size of the White_Space character that ends at `at`; 0 if there is none.
@@ -127,16 +80,12 @@ fn white_before(s: &[u8], at: usize) -> usize
     ensures value { result ≡ size_of (backwards white_bytes) (reverse (take at s.now)) }
     ensures upper_bound { result ≤ at }
 {
-    let k = at - 1;
-    let a = s[k];
-    if a < 0x80 {
+    let a = s[at - 1];
+    if a.is_ascii() {
         return ascii_size(a);
     }
-    let b = byte_before(s, k);
-    if k == 0 {
-        return back_size(a, b, 0);
-    }
-    let c = byte_before(s, k - 1);
+    let b = byte_before(s, at - 1);
+    let c = byte_before(s, at.saturating_sub(2));
     back_size(a, b, c)
 }
 
@@ -177,12 +126,8 @@ fn trim_wide(s: &[u8]) -> Place
     ensures { result ≡ trim_place s.now }
 {
     let start = front_end(s);
-    let rest = &s[start..];
-    let len = back_start(rest);
-    Place {
-        start: start,
-        len: len,
-    }
+    let len = back_start(&s[start..]);
+    Place { start, len }
 }
 
 // A place up to which ASCII White_Space stands at the front.
@@ -190,21 +135,17 @@ fn skip_blanks(s: &[u8]) -> usize
     ensures upper_bound { result ≤ length s.now }
     ensures s_value { trimmed_front (drop result s.now) ≡ trimmed_front s.now }
 {
-    let mut i: usize = 0;
-    while i < s.len() {
-        if ascii_size(s[i]) == 0 {
-            return i;
-        }
-        i += 1;
-    }
-    i
+    s.iter()
+        .position(|x| ascii_size(*x) == 0)
+        .unwrap_or(s.len())
 }
 
 // Whether x is an ASCII character above the blank. Such a one is not trimmed.
+#[tactic(auto, unfolding(text::specs::Base::within))]
 fn is_plain(x: u8) -> bool
     ensures { result ≡ within 0x21 0x7F x }
 {
-    text::byte::in_range(0x21, 0x7F, x)
+    (0x21..=0x7F).contains(&x)
 }
 
 // Where the text stands once its White_Space is off both ends. Most texts have at most some blanks at the front: those need not be walked by all of
@@ -214,32 +155,22 @@ pub fn trim_place(s: &[u8]) -> Place
 {
     let n = s.len();
     let start = skip_blanks(s);
-    if n <= start {
+    if start == n {
+        return Place { start, len: 0 };
+    }
+    if is_plain(s[start]) && is_plain(s[n - 1]) {
         return Place {
-            start: start,
-            len: 0,
+            start,
+            len: n - start,
         };
     }
-    if !is_plain(s[start]) {
-        let place = trim_wide(s);
-        return place;
-    }
-    if !is_plain(s[n - 1]) {
-        let place = trim_wide(s);
-        return place;
-    }
-    Place {
-        start: start,
-        len: n - start,
-    }
+    trim_wide(s)
 }
 
 // The text without White_Space at either end, as a part of it.
 pub fn trim(s: &[u8]) -> &[u8]
     ensures { result.now ≡ trimmed s.now }
 {
-    let p = trim_place(s);
-    let start = p.start;
-    let end = start + p.len;
-    &s[start..end]
+    let Place { start, len } = trim_place(s);
+    &s[start..start + len]
 }

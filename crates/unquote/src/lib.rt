@@ -14,59 +14,49 @@ struct Token {
 }
 
 // What a backslash and c become, or 0.
+#[tactic(auto, unfolding(crate::specs::UnquoteWalk::meant))]
 fn meaning(c: u8) -> u8
     ensures { result ≡ meant c }
 {
-    if c == 0x6E {
-        return 10;
+    match c {
+        b'n' => b'\n',
+        b'r' => b'\r',
+        b't' => b'\t',
+        b'"' => b'"',
+        _ => 0,
     }
-    if c == 0x72 {
-        return 13;
-    }
-    if c == 0x74 {
-        return 9;
-    }
-    if c == 0x22 {
-        return 0x22;
-    }
-    0
 }
 
 // A backslash with y and z after it.
+#[tactic(auto, unfolding(crate::specs::UnquoteWalk::escape_of))]
 fn escape_of(y: u8, z: u8) -> Token
     ensures { result ≡ escape_of y z }
 {
-    let m = meaning(y);
-    let k = meaning(z);
-    if m != 0 {
-        return Token { byte: m, size: 2 };
-    }
-    if y == 0x5C {
-        if k == 0 {
-            return Token {
-                byte: 0x5C,
-                size: 2,
-            };
+    let byte = meaning(y);
+    if byte != 0 {
+        Token { byte, size: 2 }
+    } else if y == b'\\' && meaning(z) == 0 {
+        Token {
+            byte: b'\\',
+            size: 2,
         }
-    }
-    Token {
-        byte: 0x5C,
-        size: 1,
+    } else {
+        Token {
+            byte: b'\\',
+            size: 1,
+        }
     }
 }
 
 // The first token of the text from i on. A plain byte costs one test.
+#[tactic(auto, unfolding(crate::specs::UnquoteWalk::token_of, crate::specs::UnquoteWalk::token_at))]
 fn token_at(s: &[u8], i: usize) -> Token
     requires { i < length s.now }
     ensures { result ≡ token_at s.now i }
 {
-    let x = s[i];
-    if x == 0x5C {
-        let y = text::byte::byte_at(s, i + 1);
-        let z = text::byte::byte_at(s, i + 2);
-        escape_of(y, z)
-    } else {
-        Token { byte: x, size: 1 }
+    match s[i] {
+        b'\\' => escape_of(text::byte::byte_at(s, i + 1), text::byte::byte_at(s, i + 2)),
+        byte => Token { byte, size: 1 },
     }
 }
 
@@ -75,13 +65,12 @@ fn unescaped_len(s: &[u8]) -> usize
     ensures { result ≡ length (unescaped s.now) }
 {
     let mut i: usize = 0;
-    let mut o: usize = 0;
+    let mut len: usize = 0;
     while i < s.len() {
-        let t = token_at(s, i);
-        o += 1;
-        i += t.size;
+        i += token_at(s, i).size;
+        len += 1;
     }
-    o
+    len
 }
 
 // Writes s with its escapes undone over all of out, which has exactly the room.
@@ -90,34 +79,19 @@ fn unescape(s: &[u8], out: &mut [u8])
     ensures { out.new ≡ unescaped s.now }
 {
     let mut i: usize = 0;
-    let mut o: usize = 0;
-    while i < s.len() {
+    for byte in out {
         let t = token_at(s, i);
-        out[o] = t.byte;
-        o += 1;
+        *byte = t.byte;
         i += t.size;
     }
 }
 
-fn copy(s: &[u8], out: &mut [u8])
-    requires { length out.old ≡ length s.now }
-    ensures { out.new ≡ s.now }
-{
-    let mut i: usize = 0;
-    while i < s.len() {
-        out[i] = s[i];
-        i += 1;
-    }
-}
-
+// Whether s stands between two quotes.
+#[tactic(auto, unfolding(values::specs::Unquote::quoted))]
 fn is_quoted(s: &[u8]) -> bool
     ensures { result ≡ quoted s.now }
 {
-    if s.len() < 2 {
-        return false;
-    }
-    let last = s.len() - 1;
-    if s[0] == 0x22 { s[last] == 0x22 } else { false }
+    matches!(s, [b'"', .., b'"'])
 }
 
 // How many bytes s has unquoted.
@@ -125,8 +99,7 @@ pub fn unquoted_len(s: &[u8]) -> usize
     ensures { result ≡ length (unquoted s.now) }
 {
     if is_quoted(s) {
-        let end = s.len() - 1;
-        unescaped_len(&s[1..end])
+        unescaped_len(&s[1..s.len() - 1])
     } else {
         s.len()
     }
@@ -138,10 +111,9 @@ fn unquote_fill(s: &[u8], out: &mut [u8])
     ensures { out.new ≡ unquoted s.now }
 {
     if is_quoted(s) {
-        let end = s.len() - 1;
-        unescape(&s[1..end], out);
+        unescape(&s[1..s.len() - 1], out);
     } else {
-        copy(s, out);
+        out.copy_from_slice(s);
     }
 }
 

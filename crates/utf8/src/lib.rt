@@ -1,51 +1,57 @@
 // UTF-8, by table 3-7 of The Unicode Standard.
 #![tactic(auto)]
 
-ghost use Rattle.std.specs.Prelude.{◌+◌, ◌≤◌, ◌≡◌, true, [], length, drop};
+ghost use Rattle.std.specs.Prelude.{◌+◌, ◌≤◌, ◌≡◌, true, [], length, drop, Some};
 ghost use Rattle.text.specs.Utf8.{after, table, well_formed_from, well_formed};
 ghost use Rattle.utf8.specs.Utf8Walk.{due_of};
 
-// What has to follow a first byte.
+// What has to follow a first byte: so many bytes, the first of them from lo to hi, the others from 0x80 to 0xBF.
 #[derive(Clone, Copy)]
-pub enum Lead {
-    // No row of the table has it.
-    Bad,
-    // So many bytes, the first of them from the second number to the third, the others from 0x80 to 0xBF.
-    Due(u8, u8, u8),
+pub struct Due {
+    pub need: u8,
+    pub lo: u8,
+    pub hi: u8,
 }
 
-// The row of the table that has the first byte x.
-fn lead_of(x: u8) -> Lead
+// One row of the table, short enough for a line of `lead_of`.
+fn bytes_due(need: u8, lo: u8, hi: u8) -> Option<Due>
+    ensures { result ≡ Some (record { need = need; lo = lo; hi = hi }) }
+{
+    Some(Due { need, lo, hi })
+}
+
+// The row of the table that has the first byte x, if one does.
+fn lead_of(x: u8) -> Option<Due>
     ensures { due_of result ≡ after table x }
 {
     if text::byte::in_range(0x00, 0x7F, x) {
-        return Lead::Due(0, 0, 0);
+        return bytes_due(0, 0, 0);
     }
     if text::byte::in_range(0xC2, 0xDF, x) {
-        return Lead::Due(1, 0x80, 0xBF);
+        return bytes_due(1, 0x80, 0xBF);
     }
     if text::byte::in_range(0xE0, 0xE0, x) {
-        return Lead::Due(2, 0xA0, 0xBF);
+        return bytes_due(2, 0xA0, 0xBF);
     }
     if text::byte::in_range(0xE1, 0xEC, x) {
-        return Lead::Due(2, 0x80, 0xBF);
+        return bytes_due(2, 0x80, 0xBF);
     }
     if text::byte::in_range(0xED, 0xED, x) {
-        return Lead::Due(2, 0x80, 0x9F);
+        return bytes_due(2, 0x80, 0x9F);
     }
     if text::byte::in_range(0xEE, 0xEF, x) {
-        return Lead::Due(2, 0x80, 0xBF);
+        return bytes_due(2, 0x80, 0xBF);
     }
     if text::byte::in_range(0xF0, 0xF0, x) {
-        return Lead::Due(3, 0x90, 0xBF);
+        return bytes_due(3, 0x90, 0xBF);
     }
     if text::byte::in_range(0xF1, 0xF3, x) {
-        return Lead::Due(3, 0x80, 0xBF);
+        return bytes_due(3, 0x80, 0xBF);
     }
     if text::byte::in_range(0xF4, 0xF4, x) {
-        return Lead::Due(3, 0x80, 0x8F);
+        return bytes_due(3, 0x80, 0x8F);
     }
-    Lead::Bad
+    None
 }
 
 // Whether the eight bytes from `at` on are ASCII.
@@ -110,16 +116,12 @@ pub fn well_formed(s: &[u8]) -> bool
             if x < 0x80 {
                 i = skip_ascii(s, i);
             } else {
-                match lead_of(x) {
-                    Lead::Bad => {
-                        return false;
-                    }
-                    Lead::Due(n, l, h) => {
-                        need = n;
-                        lo = l;
-                        hi = h;
-                    }
-                }
+                let Some(due) = lead_of(x) else {
+                    return false;
+                };
+                need = due.need;
+                lo = due.lo;
+                hi = due.hi;
             }
         } else {
             if text::byte::in_range(lo, hi, x) {

@@ -1,8 +1,8 @@
 -- Worked examples of numbers, hex and unquoting, by computation: P1, P2 and P3 of document 01, and what is easily misread. Assumes nothing.
+use Rattle.std.specs.Prelude.{None, Some}
 use Prim.Native.Nat.{◌^◌}
 use mathlib.Core.Path.{◌≡◌, refl}
 use mathlib.Core.List.{[], ◌∷◌}
-use mathlib.Core.Option.{none, some}
 use lib.IntN.{pos, negsuc}
 use Rattle.text.specs.Base.{within}
 use Rattle.text.specs.Literal.{utf8}
@@ -16,33 +16,33 @@ pub examples :
     × (hex_decoded (utf8 "+a1\"") ≡ 0x0A ∷ [])
     × (hex_decoded (utf8 "zz0F\"") ≡ 0x0F ∷ [])
     -- unsigned: leading zeros, signs, no digit, other bytes
-    × (number (2 ^ 64) (utf8 "000000000000000000000000000000001") ≡ some 1)
-    × (number (2 ^ 64) (utf8 "+3") ≡ some 3)
-    × (number (2 ^ 64) (utf8 "+") ≡ none)
-    × (number (2 ^ 64) [] ≡ none)
-    × (number (2 ^ 64) (utf8 "++1") ≡ none)
-    × (number (2 ^ 64) (utf8 "-0") ≡ none)
-    × (number (2 ^ 64) (utf8 "+-1") ≡ none)
-    × (number (2 ^ 64) (utf8 " 5") ≡ none)
-    × (number (2 ^ 64) (utf8 "1:") ≡ none)
+    × (number (2 ^ 64) (utf8 "000000000000000000000000000000001") ≡ Some 1)
+    × (number (2 ^ 64) (utf8 "+3") ≡ Some 3)
+    × (number (2 ^ 64) (utf8 "+") ≡ None)
+    × (number (2 ^ 64) [] ≡ None)
+    × (number (2 ^ 64) (utf8 "++1") ≡ None)
+    × (number (2 ^ 64) (utf8 "-0") ≡ None)
+    × (number (2 ^ 64) (utf8 "+-1") ≡ None)
+    × (number (2 ^ 64) (utf8 " 5") ≡ None)
+    × (number (2 ^ 64) (utf8 "1:") ≡ None)
     -- limits: the last number and the next
-    × (number (2 ^ 8) (utf8 "255") ≡ some 255)
-    × (number (2 ^ 8) (utf8 "256") ≡ none)
-    × (number (2 ^ 16) (utf8 "65535") ≡ some 65535)
-    × (number (2 ^ 16) (utf8 "65536") ≡ none)
-    × (number (2 ^ 64) (utf8 "18446744073709551615") ≡ some 18446744073709551615)
-    × (number (2 ^ 64) (utf8 "18446744073709551616") ≡ none)
-    × (signed (utf8 "9223372036854775807") ≡ some (pos 9223372036854775807))
-    × (signed (utf8 "9223372036854775808") ≡ none)
-    × (signed (utf8 "-9223372036854775808") ≡ some (negsuc 9223372036854775807))
-    × (signed (utf8 "-9223372036854775809") ≡ none)
+    × (number (2 ^ 8) (utf8 "255") ≡ Some 255)
+    × (number (2 ^ 8) (utf8 "256") ≡ None)
+    × (number (2 ^ 16) (utf8 "65535") ≡ Some 65535)
+    × (number (2 ^ 16) (utf8 "65536") ≡ None)
+    × (number (2 ^ 64) (utf8 "18446744073709551615") ≡ Some 18446744073709551615)
+    × (number (2 ^ 64) (utf8 "18446744073709551616") ≡ None)
+    × (signed (utf8 "9223372036854775807") ≡ Some (pos 9223372036854775807))
+    × (signed (utf8 "9223372036854775808") ≡ None)
+    × (signed (utf8 "-9223372036854775808") ≡ Some (negsuc 9223372036854775807))
+    × (signed (utf8 "-9223372036854775809") ≡ None)
     -- signed: signs and no digit
-    × (signed (utf8 "-1") ≡ some (negsuc 0))
-    × (signed (utf8 "+05") ≡ some (pos 5))
-    × (signed (utf8 "-0") ≡ some (pos 0))
-    × (signed (utf8 "-") ≡ none)
-    × (signed [] ≡ none)
-    × (signed (utf8 "-+1") ≡ none)
+    × (signed (utf8 "-1") ≡ Some (negsuc 0))
+    × (signed (utf8 "+05") ≡ Some (pos 5))
+    × (signed (utf8 "-0") ≡ Some (pos 0))
+    × (signed (utf8 "-") ≡ None)
+    × (signed [] ≡ None)
+    × (signed (utf8 "-+1") ≡ None)
     -- hex: digits and both kinds of letters, and the bytes beside them
     × (hex_decoded (utf8 "0123456789abcdefABCDEF") ≡ 0x01 ∷ 0x23 ∷ 0x45 ∷ 0x67 ∷ 0x89 ∷ 0xAB ∷ 0xCD ∷ 0xEF ∷ 0xAB ∷ 0xCD ∷ 0xEF ∷ [])
     × (hex_decoded (utf8 "0/0:0@0G0`0g") ≡ [])

@@ -1,12 +1,7 @@
 -- Document 01, "Lines and words": numbers are as Rust's `parse`: digits, at least one, in range; `+` allowed; `-` only for i64.
 -- Assumes nothing.
-use Rattle.std.specs.Prelude.{ℕ, zero, suc, ◌+◌, ◌-◌, ◌*◌, ◌^◌, Bool, true, List, [], ◌∷◌, eqb, ltb, ℤ, pos, negsuc, if◌then◌else◌}
-use Rattle.std.proofs.Math.Option.{Option, none, some, map}
+use Rattle.std.specs.Prelude.{ℕ, zero, suc, ◌+◌, ◌-◌, ◌*◌, ◌^◌, Bool, true, List, [], ◌∷◌, eqb, ltb, ℤ, pos, negsuc, if◌then◌else◌, None, Option, Some, option_map}
 use Rattle.text.specs.Base.{◌&◌, within, PLUS, MINUS}
-use Rattle.values.specs.declared.number.Number.{Number}
-use Rattle.values.specs.declared.number.Number.TheVariants as number-variants
-use Rattle.values.specs.declared.number.Integer.{Integer}
-use Rattle.values.specs.declared.number.Integer.TheVariants as integer-variants
 
 -- every byte is one of the digits 0 to 9
 unfoldable pub all_digits : List ℕ → Bool
@@ -20,14 +15,14 @@ decimal_from v (x ∷ rest) = decimal_from (v * 10 + (x - 0x30)) rest
 
 -- digits, at least one, that spell a number below the limit
 unfoldable pub digits : (limit : ℕ) → List ℕ → Option ℕ
-digits limit [] = none
+digits limit [] = None
 digits limit (x ∷ rest) =
     let v = decimal_from 0 (x ∷ rest) in
-    if all_digits (x ∷ rest) & ltb v limit then some v else none
+    if all_digits (x ∷ rest) & ltb v limit then Some v else None
 
 -- an unsigned number below the limit, `+` allowed
 unfoldable pub number : (limit : ℕ) → List ℕ → Option ℕ
-number limit [] = none
+number limit [] = None
 number limit (x ∷ rest) = if eqb x PLUS then digits limit rest else digits limit (x ∷ rest)
 
 -- minus n
@@ -37,15 +32,6 @@ minus (suc n) = negsuc n
 
 -- an i64: from minus 2 ^ 63 to 2 ^ 63 - 1, `-` allowed as well
 unfoldable pub signed : List ℕ → Option ℤ
-signed [] = none
+signed [] = None
 signed (x ∷ rest) =
-    if eqb x MINUS then map minus (digits (2 ^ 63 + 1) rest) else map pos (number (2 ^ 63) (x ∷ rest))
-
--- what the code's answers say
-unfoldable pub number_of : Number → Option ℕ
-number_of (number-variants.Value v) = some v
-number_of number-variants.Bad = none
-
-unfoldable pub integer_of : Integer → Option ℤ
-integer_of (integer-variants.Value z) = some z
-integer_of integer-variants.Bad = none
+    if eqb x MINUS then option_map minus (digits (2 ^ 63 + 1) rest) else option_map pos (number (2 ^ 63) (x ∷ rest))

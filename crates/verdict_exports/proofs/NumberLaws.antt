@@ -8,6 +8,8 @@ use lib.ListN.{length}
 use mir.Syntax.{w64}
 use mir.Val.{SFits, to_z, of_z}
 use mir.ValLaws.{to_z-of_z}
+use Rattle.script.specs.Refusals.{reason_number}
+use Rattle.script.specs.declared.refusals.Reason.TheVariants.{ExpectationOutside, PartOutside}
 use Rattle.script.specs.declared.records.Expect.{Expect}
 use Rattle.script.specs.declared.response.DaemonResponse.{DaemonResponse}
 use Rattle.script.specs.declared.response.HandshakeInfo.{HandshakeInfo}
@@ -21,14 +23,14 @@ use Rattle.told.specs.Told.{counted}
 use Rattle.verdict_exports.specs.Numbered.{numbered, entry_number, handshake_number}
 
 module _ (in_text in_bytes : Bool) (s : Subject) (x : Expected) (a : Bool) (p : a ≡ in_text) where
-  pub outside_text : not a ≡ true → 31 ≡ numbered in_text in_bytes s x
+  pub outside_text : not a ≡ true → (n : ℕ) → n ≡ reason_number ExpectationOutside → n ≡ numbered in_text in_bytes s x
   unfolding numbered
-  outside_text p' = rw (← p, p')
+  outside_text p' n h = rw (← p, p') h
 
   module _ (p' : not a ≡ false) (b : Bool) (q : b ≡ in_bytes) where
-    outside_bytes : not b ≡ true → 32 ≡ numbered in_text in_bytes s x
+    outside_bytes : not b ≡ true → (n : ℕ) → n ≡ reason_number PartOutside → n ≡ numbered in_text in_bytes s x
     unfolding numbered
-    outside_bytes q' = rw (← p, p', ← q, q')
+    outside_bytes q' n h = rw (← p, p', ← q, q') h
 
     is-judged : not b ≡ false → (v : Verdict) (n : ℕ) → v ≡ verdict s x → n ≡ code v → n ≡ numbered in_text in_bytes s x
     unfolding numbered
@@ -40,8 +42,8 @@ module _ (text bytes : List ℕ) (e : Expect) (lists table : List (List ℕ)) (s
     abbrev EntryIs : (n : ℕ) → List (List ℕ) → Type 0
     EntryIs n T = n ≡ numbered (expect_in (length text) e) (response_in (length bytes) T r) (reply (response_of bytes T r)) (expected_of text e)
 
-    pub entry_outside : not b ≡ true → 32 ≡ entry_number text e bytes lists r
-    entry_outside q' = subst (EntryIs 32) same (outside_bytes (expect_in (length text) e) (response_in (length bytes) table r) (reply (response_of bytes table r)) (expected_of text e) a p p' b q q')
+    pub entry_outside : not b ≡ true → (n : ℕ) → n ≡ reason_number PartOutside → n ≡ entry_number text e bytes lists r
+    entry_outside q' n h = subst (EntryIs n) same (outside_bytes (expect_in (length text) e) (response_in (length bytes) table r) (reply (response_of bytes table r)) (expected_of text e) a p p' b q q' n h)
 
     pub entry_judged : not b ≡ false → (v : Verdict) (n : ℕ) → v ≡ verdict (reply (response_of bytes table r)) (expected_of text e) → n ≡ code v → n ≡ entry_number text e bytes lists r
     entry_judged q' v n h g = subst (EntryIs n) same (is-judged (expect_in (length text) e) (response_in (length bytes) table r) (reply (response_of bytes table r)) (expected_of text e) a p p' b q q' v n h g)
@@ -50,8 +52,8 @@ module _ (text bytes : List ℕ) (e : Expect) (lists table : List (List ℕ)) (s
     abbrev HandshakeIs : (n : ℕ) → List (List ℕ) → Type 0
     HandshakeIs n T = n ≡ numbered (expect_in (length text) e) (info_in (length bytes) T i) (greeting (info_of bytes T i)) (expected_of text e)
 
-    pub handshake_outside : not b ≡ true → 32 ≡ handshake_number text e bytes lists i
-    handshake_outside q' = subst (HandshakeIs 32) same (outside_bytes (expect_in (length text) e) (info_in (length bytes) table i) (greeting (info_of bytes table i)) (expected_of text e) a p p' b q q')
+    pub handshake_outside : not b ≡ true → (n : ℕ) → n ≡ reason_number PartOutside → n ≡ handshake_number text e bytes lists i
+    handshake_outside q' n h = subst (HandshakeIs n) same (outside_bytes (expect_in (length text) e) (info_in (length bytes) table i) (greeting (info_of bytes table i)) (expected_of text e) a p p' b q q' n h)
 
     pub handshake-judged : not b ≡ false → (v : Verdict) (n : ℕ) → v ≡ verdict (greeting (info_of bytes table i)) (expected_of text e) → n ≡ code v → n ≡ handshake_number text e bytes lists i
     handshake-judged q' v n h g = subst (HandshakeIs n) same (is-judged (expect_in (length text) e) (info_in (length bytes) table i) (greeting (info_of bytes table i)) (expected_of text e) a p p' b q q' v n h g)

@@ -1,5 +1,7 @@
--- How a host is given a verdict alone: by its number, or 31, or 32. Assumes nothing.
+-- How a host is given a verdict alone: by its number, or by the number of the reason for which it is refused. Assumes nothing.
 use Rattle.std.specs.Prelude.{ℕ, Bool, not, List, length, if◌then◌else◌}
+use Rattle.script.specs.Refusals.{reason_number}
+use Rattle.script.specs.declared.refusals.Reason.TheVariants.{ExpectationOutside, PartOutside}
 use Rattle.script.specs.declared.records.Expect.{Expect}
 use Rattle.script.specs.declared.response.DaemonResponse.{DaemonResponse}
 use Rattle.script.specs.declared.response.HandshakeInfo.{HandshakeInfo}
@@ -11,7 +13,7 @@ use Rattle.told.specs.Told.{counted}
 
 -- whether every part of the expectation lies inside the text, and every part of what it is judged against inside its bytes
 unfoldable pub numbered : (in_text in_bytes : Bool) → Subject → Expected → ℕ
-numbered in_text in_bytes s e = if not in_text then 31 else if not in_bytes then 32 else code (verdict s e)
+numbered in_text in_bytes s e = if not in_text then reason_number ExpectationOutside else if not in_bytes then reason_number PartOutside else code (verdict s e)
 
 module _ (text : List ℕ) (e : Expect) (bytes : List ℕ) (lists : List (List ℕ)) where
   abbrev pub entry_number : DaemonResponse → ℕ

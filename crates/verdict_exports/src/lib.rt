@@ -1,4 +1,4 @@
-// The verdict alone of an expectation, as a host calls it: the verdict's number, or 31 or 32. Nothing is written.
+// The verdict alone of an expectation, as a host calls it: the verdict's number, or the number of a reason. Nothing is written.
 #![tactic(auto)]
 
 ghost use Rattle.std.specs.Prelude.{◌≡◌};
@@ -9,10 +9,10 @@ use lookups::looked::{looked_entry, looked_handshake};
 use places::expect_in;
 use response_places::{info_in, response_in};
 use script::records::Expect;
+use script::refusals::Reason;
 use script::response::{DaemonResponse, HandshakeInfo};
 use told::counted_of;
 use verdict_of::{entry_verdict, handshake_verdict};
-use verdicts::code_of;
 
 fn entry_number(
     text: &[u8],
@@ -24,14 +24,14 @@ fn entry_number(
     ensures { result ≡ entry_number text.now e bytes.now lists.now r }
 {
     if !expect_in(text.len(), e) {
-        return 31;
+        return Reason::ExpectationOutside.number();
     }
     let table = counted_of(lists);
     if !response_in(bytes.len(), table, r) {
-        return 32;
+        return Reason::PartOutside.number();
     }
     let value = looked_entry(e, text, r);
-    code_of(entry_verdict(e, value, text, r, bytes, table)) as u64
+    u8::from(entry_verdict(e, value, text, r, bytes, table)) as u64
 }
 
 fn handshake_number(
@@ -44,14 +44,14 @@ fn handshake_number(
     ensures { result ≡ handshake_number text.now e bytes.now lists.now i }
 {
     if !expect_in(text.len(), e) {
-        return 31;
+        return Reason::ExpectationOutside.number();
     }
     let table = counted_of(lists);
     if !info_in(bytes.len(), table, i) {
-        return 32;
+        return Reason::PartOutside.number();
     }
     let value = looked_handshake(e, i);
-    code_of(handshake_verdict(e, value, text, i, bytes, table)) as u64
+    u8::from(handshake_verdict(e, value, text, i, bytes, table)) as u64
 }
 
 // Of an expectation that is judged against a response; both come in rows of numbers, as for Message.

@@ -1,10 +1,8 @@
 -- Document 01, "Verdicts": what a matcher decides of a value. Ordering matchers compare as i64; a value that is no i64 fails. A pattern without any of
 -- `\ . + * ? ( ) | [ ] { } ^ $` passes if the value contains it; with one of them it is undecided. Assumes nothing.
-use Rattle.std.specs.Prelude.{ℕ, Bool, true, false, not, List, [], ◌∷◌, eqb, ℤ, if◌then◌else◌}
-use Rattle.std.proofs.Math.Option.{Option, none, some}
+use Rattle.std.specs.Prelude.{ℕ, Bool, true, false, not, List, [], ◌∷◌, eqb, ℤ, if◌then◌else◌, None, Option, Some}
 use Rattle.std.specs.Int.Signed.{lt_z, le_z}
 use Rattle.text.specs.Base.{◌&◌, ◌or◌}
-use Rattle.text.specs.Literal.{utf8}
 use Rattle.text.specs.Parts.{starts_with, same_bytes}
 use Rattle.values.specs.Numbers.{signed}
 use Rattle.verdicts.specs.Expected.{Matching, exact, regex, greater_than, less_than, greater_or_equal, less_or_equal}
@@ -43,8 +41,8 @@ pattern_decides pattern value = if plain pattern then passed_if (contains patter
 
 -- by a comparison with the value, where that is an i64
 unfoldable pub ordered : (ℤ → Bool) → Option ℤ → Verdict
-ordered holds none = Failed
-ordered holds (some v) = passed_if (holds v)
+ordered holds None = Failed
+ordered holds (Some v) = passed_if (holds v)
 
 -- ---- all matchers
 

@@ -1,24 +1,16 @@
 -- What our records hold, as the definitions above speak of it: a place is the bytes that stand there. And which places lie inside: 31 speaks of an
 -- expectation's, 32 of those of a response or of the handshake's information. Assumes nothing.
-use Rattle.std.specs.Prelude.{ℕ, ◌-◌, Bool, true, false, List, [], ◌∷◌, map, length, take, drop, get_or, leb}
-use Rattle.std.proofs.Math.Option.{Option, none, some}
+use Rattle.std.specs.Prelude.{ℕ, ◌-◌, Bool, true, List, [], ◌∷◌, map, length, take, drop, get_or, leb, None, Option, Some}
 use Rattle.text.specs.Base.{◌&◌, part}
 use Rattle.script.specs.Reading.{room}
 use Rattle.script.specs.declared.records.Place.{Place}
 use Rattle.script.specs.declared.records.Items.{Items}
-use Rattle.script.specs.declared.records.Maybe.{Maybe}
-use Rattle.script.specs.declared.records.Maybe.TheVariants as Maybe
-use Rattle.script.specs.declared.records.MaybeItems.{MaybeItems}
-use Rattle.script.specs.declared.records.MaybeItems.TheVariants as MaybeItems
 use Rattle.script.specs.declared.records.Matcher.{Matcher}
 use Rattle.script.specs.declared.records.Matcher.TheVariants.{Exact, Regex, GreaterThan, LessThan, GreaterOrEqual, LessOrEqual}
 use Rattle.script.specs.declared.records.Expect.{Expect}
 use Rattle.script.specs.declared.records.Expect.TheVariants.{Terminal, Result, ResultField, Error, StderrCount, Daemon, Trust, ServerFeatures}
-use Rattle.script.specs.declared.response.MaybeNumber.{MaybeNumber}
-use Rattle.script.specs.declared.response.MaybeNumber.TheVariants as MaybeNumber
 use Rattle.script.specs.declared.response.PathInfoResult.{PathInfoResult}
 use Rattle.script.specs.declared.response.ResultData.{ResultData}
-use Rattle.script.specs.declared.response.ResultData.TheVariants as ResultData
 use Rattle.script.specs.declared.response.DaemonResponse.{DaemonResponse}
 use Rattle.script.specs.declared.response.HandshakeInfo.{HandshakeInfo}
 use Rattle.verdicts.specs.Expected.{Matching, exact, regex, greater_than, less_than, greater_or_equal, less_or_equal, Expected}
@@ -52,13 +44,9 @@ expected_of text (ServerFeatures m) = expected.server_features (matching_of text
 
 -- ---- what a response holds
 
-unfoldable pub number_given : MaybeNumber → Option ℕ
-number_given MaybeNumber.Absent = none
-number_given (MaybeNumber.Is n) = some n
-
-unfoldable pub text_given : (bytes : List ℕ) → Maybe → Option (List ℕ)
-text_given bytes Maybe.Absent = none
-text_given bytes (Maybe.At p) = some (text_at bytes p)
+unfoldable pub text_given : (bytes : List ℕ) → Option Place → Option (List ℕ)
+text_given bytes None = None
+text_given bytes (Some p) = Some (text_at bytes p)
 
 -- The name of the last message stands in the bytes.
 unfoldable pub terminal_bytes : (bytes : List ℕ) → DaemonResponse → List ℕ
@@ -76,9 +64,9 @@ module _ (bytes : List ℕ) (lists : List (List ℕ)) where
   unfoldable pub texts_in : Items → List (List ℕ)
   texts_in r = map (item_text bytes) (ranged lists r)
 
-  unfoldable pub texts_given : MaybeItems → Option (List (List ℕ))
-  texts_given MaybeItems.Absent = none
-  texts_given (MaybeItems.Are r) = some (texts_in r)
+  unfoldable pub texts_given : Option Items → Option (List (List ℕ))
+  texts_given None = None
+  texts_given (Some r) = Some (texts_in r)
 
   unfoldable pub path_info_of : PathInfoResult → PathInfo
   path_info_of p = record {
@@ -86,7 +74,7 @@ module _ (bytes : List ℕ) (lists : List (List ℕ)) where
     deriver = text_given bytes p.deriver;
     nar_hash = text_given bytes p.nar_hash;
     references = texts_given p.references;
-    nar_size = number_given p.nar_size;
+    nar_size = p.nar_size;
   }
 
   unfoldable pub result_of : ResultData → told.Result
@@ -98,7 +86,7 @@ module _ (bytes : List ℕ) (lists : List (List ℕ)) where
   result_of ResultData.StringMap = told.other
   result_of ResultData.None = told.other
   result_of (ResultData.CollectGarbage freed) = told.collect_garbage freed
-  result_of (ResultData.SubstitutablePathInfo valid download nar) = told.substitutable_path_info valid (number_given download) (number_given nar)
+  result_of (ResultData.SubstitutablePathInfo valid download nar) = told.substitutable_path_info valid download nar
   result_of (ResultData.Missing download nar) = told.missing download nar
   result_of ResultData.Framed = told.other
   result_of ResultData.Raw = told.other
@@ -115,7 +103,7 @@ module _ (bytes : List ℕ) (lists : List (List ℕ)) where
   info_of i = record {
     server_features = texts_in i.server_features;
     daemon_nix_version = text_given bytes i.daemon_nix_version;
-    trust_status = number_given i.trust_status;
+    trust_status = i.trust_status;
   }
 
 -- ---- what lies inside
@@ -127,9 +115,9 @@ inside n start len = leb start n & leb len (n - start)
 unfoldable pub place_in : ℕ → Place → Bool
 place_in n p = inside n p.start p.len
 
-unfoldable pub maybe_in : ℕ → Maybe → Bool
-maybe_in n Maybe.Absent = true
-maybe_in n (Maybe.At p) = place_in n p
+unfoldable pub maybe_in : ℕ → Option Place → Bool
+maybe_in n None = true
+maybe_in n (Some p) = place_in n p
 
 unfoldable pub matcher_in : ℕ → Matcher → Bool
 matcher_in n (Exact p) = place_in n p
@@ -160,9 +148,9 @@ module _ (n : ℕ) (lists : List (List ℕ)) where
   unfoldable pub list_in : Items → Bool
   list_in r = inside (room (length lists)) r.first r.count & items_in n (ranged lists r)
 
-  unfoldable pub maybe_list_in : MaybeItems → Bool
-  maybe_list_in MaybeItems.Absent = true
-  maybe_list_in (MaybeItems.Are r) = list_in r
+  unfoldable pub maybe_list_in : Option Items → Bool
+  maybe_list_in None = true
+  maybe_list_in (Some r) = list_in r
 
   unfoldable pub result_in : ResultData → Bool
   result_in ResultData.Absent = true

@@ -1,8 +1,7 @@
 -- Document 01, "Verdicts": the value looked up is that of `extract_result_value`, or the handshake text; lists are joined by comma and blank, in
 -- `[` `]` or, for features, `{ ` and ` }`. Assumes nothing.
-use Rattle.std.specs.Prelude.{ℕ, Bool, true, false, List, [], ◌∷◌, ◌++◌, eqb, if◌then◌else◌}
+use Rattle.std.specs.Prelude.{ℕ, Bool, true, false, List, [], ◌∷◌, ◌++◌, eqb, if◌then◌else◌, None, Option, Some, option_map, unwrap_or}
 use Prim.Native.String.{String}
-use Rattle.std.proofs.Math.Option.{Option, none, some, map, get_or}
 use Rattle.text.specs.Literal.{utf8, spells}
 use Rattle.values.specs.Decimal.{decimal}
 use Rattle.verdicts.specs.Expected.{Expected, terminal, result, result_field, error, stderr_count, daemon, trust, server_features}
@@ -40,48 +39,48 @@ fields other = []
 fields (u64 n) = []
 fields (str s) = []
 fields (path_info p) =
-    named "valid" (some (flag p.valid))
+    named "valid" (Some (flag p.valid))
     ∷ named "deriver" p.deriver
     ∷ named "narHash" p.nar_hash
-    ∷ named "narSize" (map decimal p.nar_size)
-    ∷ named "references" (map bracketed p.references)
+    ∷ named "narSize" (option_map decimal p.nar_size)
+    ∷ named "references" (option_map bracketed p.references)
     ∷ []
 fields (string_set l) = []
-fields (collect_garbage freed) = named "bytes_freed" (some (decimal freed)) ∷ []
+fields (collect_garbage freed) = named "bytes_freed" (Some (decimal freed)) ∷ []
 fields (substitutable_path_info valid download nar) =
-    named "valid" (some (flag valid))
-    ∷ named "downloadSize" (map decimal download)
-    ∷ named "narSize" (map decimal nar)
+    named "valid" (Some (flag valid))
+    ∷ named "downloadSize" (option_map decimal download)
+    ∷ named "narSize" (option_map decimal nar)
     ∷ []
-fields (missing download nar) = named "downloadSize" (some (decimal download)) ∷ named "narSize" (some (decimal nar)) ∷ []
+fields (missing download nar) = named "downloadSize" (Some (decimal download)) ∷ named "narSize" (Some (decimal nar)) ∷ []
 
 -- the value of the field of that name
 unfoldable pub value_in : List Field → (name : List ℕ) → Option (List ℕ)
-value_in [] name = none
+value_in [] name = None
 value_in (f ∷ fs) name = if spells f.name name then f.value else value_in fs name
 
 -- the value of a result where no field is named
 unfoldable pub whole_value : Result → Option (List ℕ)
-whole_value absent = none
-whole_value other = none
-whole_value (u64 n) = some (decimal n)
-whole_value (str s) = some s
-whole_value (path_info p) = none
-whole_value (string_set l) = some (bracketed l)
-whole_value (collect_garbage freed) = none
-whole_value (substitutable_path_info valid download nar) = none
-whole_value (missing download nar) = none
+whole_value absent = None
+whole_value other = None
+whole_value (u64 n) = Some (decimal n)
+whole_value (str s) = Some s
+whole_value (path_info p) = None
+whole_value (string_set l) = Some (bracketed l)
+whole_value (collect_garbage freed) = None
+whole_value (substitutable_path_info valid download nar) = None
+whole_value (missing download nar) = None
 
 -- ---- the handshake's texts
 
 unfoldable pub daemon_text : Info → List ℕ
-daemon_text i = get_or i.daemon_nix_version (utf8 "unknown")
+daemon_text i = unwrap_or i.daemon_nix_version (utf8 "unknown")
 
 unfoldable pub trust_of : ℕ → List ℕ
 trust_of n = if eqb n 1 then utf8 "trusted" else if eqb n 2 then utf8 "not-trusted" else utf8 "unknown"
 
 unfoldable pub trust_text : Info → List ℕ
-trust_text i = get_or (map trust_of i.trust_status) (utf8 "unknown")
+trust_text i = unwrap_or (option_map trust_of i.trust_status) (utf8 "unknown")
 
 unfoldable pub features_text : Info → List ℕ
 features_text i = braced i.server_features
@@ -90,25 +89,25 @@ features_text i = braced i.server_features
 
 -- The name of the last message is compared where it is; what the handshake told is not looked up in a response.
 unfoldable pub looked_in : Response → Expected → Option (List ℕ)
-looked_in r (terminal name) = none
+looked_in r (terminal name) = None
 looked_in r (result m) = whole_value r.result
 looked_in r (result_field field m) = value_in (fields r.result) field
 looked_in r (error m) = r.error
-looked_in r (stderr_count m) = some (decimal r.stderr_count)
-looked_in r (daemon m) = none
-looked_in r (trust m) = none
-looked_in r (server_features m) = none
+looked_in r (stderr_count m) = Some (decimal r.stderr_count)
+looked_in r (daemon m) = None
+looked_in r (trust m) = None
+looked_in r (server_features m) = None
 
 -- and only that is looked up in the handshake's information
 unfoldable pub told_in : Info → Expected → Option (List ℕ)
-told_in i (terminal name) = none
-told_in i (result m) = none
-told_in i (result_field field m) = none
-told_in i (error m) = none
-told_in i (stderr_count m) = none
-told_in i (daemon m) = some (daemon_text i)
-told_in i (trust m) = some (trust_text i)
-told_in i (server_features m) = some (features_text i)
+told_in i (terminal name) = None
+told_in i (result m) = None
+told_in i (result_field field m) = None
+told_in i (error m) = None
+told_in i (stderr_count m) = None
+told_in i (daemon m) = Some (daemon_text i)
+told_in i (trust m) = Some (trust_text i)
+told_in i (server_features m) = Some (features_text i)
 
 unfoldable pub looked : Subject → Expected → Option (List ℕ)
 looked (greeting i) e = told_in i e
@@ -116,5 +115,5 @@ looked (reply r) e = looked_in r e
 
 -- the bytes of a value that is there; a missing one has none
 unfoldable pub present_bytes : Option (List ℕ) → List ℕ
-present_bytes none = []
-present_bytes (some value) = value
+present_bytes None = []
+present_bytes (Some value) = value

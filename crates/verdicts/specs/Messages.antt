@@ -1,13 +1,11 @@
 -- Document 01, "Verdicts": messages are those of expect.rs; the one with `{expect:?}` ends after its colon and blank; undecided is `undecided: ` and
 -- the pattern in slashes. Assumes nothing.
-use Rattle.std.specs.Prelude.{ℕ, suc, List, [], ◌++◌, ℤ, pos, negsuc}
-use Prim.Native.String.{String}
-use Rattle.std.proofs.Math.Option.{Option, none, some}
+use Rattle.std.specs.Prelude.{ℕ, suc, List, [], ◌++◌, ℤ, pos, negsuc, None, Option, Some}
 use Rattle.text.specs.Literal.{utf8}
 use Rattle.values.specs.Decimal.{decimal}
 use Rattle.verdicts.specs.Expected.{Matching, exact, regex, greater_than, less_than, greater_or_equal, less_or_equal, Expected, terminal, result, result_field, error, stderr_count, daemon, trust, server_features}
 use Rattle.verdicts.specs.Told.{Response, Info, Subject, greeting, reply}
-use Rattle.verdicts.specs.Lookup.{looked, looked_in, told_in}
+use Rattle.verdicts.specs.Lookup.{looked_in, told_in}
 use Rattle.verdicts.specs.Decisions.{decides}
 use Rattle.verdicts.specs.Verdicts.{named_by}
 use Rattle.verdicts.specs.declared.Verdict.{Verdict}
@@ -41,8 +39,8 @@ says_of h m value Undecided = utf8 "undecided: " ++ shown m
 
 -- and where it may be missing
 unfoldable pub value_says : Heading → (missing : List ℕ) → Matching → Option (List ℕ) → List ℕ
-value_says h missing m none = missing
-value_says h missing m (some value) = says_of h m value (decides m value)
+value_says h missing m None = missing
+value_says h missing m (Some value) = says_of h m value (decides m value)
 
 -- `KEY = value`, or `KEY: expected ..`
 unfoldable pub heading : (key : List ℕ) → Heading

@@ -1,6 +1,5 @@
 -- What an expectation is judged against: what a response, or the handshake's information, holds. Texts are bytes. Assumes nothing.
-use Rattle.std.specs.Prelude.{ℕ, Bool, List}
-use Rattle.std.proofs.Math.Option.{Option}
+use Rattle.std.specs.Prelude.{ℕ, Bool, List, Option}
 
 pub record PathInfo : Type 0 where
   pub valid : Bool

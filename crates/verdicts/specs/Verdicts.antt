@@ -1,9 +1,8 @@
 -- Document 01, "Verdicts": the verdict of one expectation, and its number in a slot. Assumes nothing.
-use Rattle.std.specs.Prelude.{ℕ, List, eqb, if◌then◌else◌}
-use Rattle.std.proofs.Math.Option.{Option, none, some}
+use Rattle.std.specs.Prelude.{ℕ, List, eqb, if◌then◌else◌, None, Option, Some}
 use Rattle.text.specs.Parts.{same_bytes}
 use Rattle.verdicts.specs.Expected.{Matching, Expected, terminal, result, result_field, error, stderr_count, daemon, trust, server_features}
-use Rattle.verdicts.specs.Told.{Response, Info, Subject, greeting, reply}
+use Rattle.verdicts.specs.Told.{Subject, greeting, reply}
 use Rattle.verdicts.specs.Lookup.{looked}
 use Rattle.verdicts.specs.Decisions.{passed_if, decides}
 use Rattle.verdicts.specs.declared.Verdict.{Verdict}
@@ -11,8 +10,8 @@ use Rattle.verdicts.specs.declared.Verdict.TheVariants.{Passed, Failed, Undecide
 
 -- a missing value fails first
 unfoldable pub valued : Matching → Option (List ℕ) → Verdict
-valued m none = Failed
-valued m (some value) = decides m value
+valued m None = Failed
+valued m (Some value) = decides m value
 
 -- the name of the last message; the handshake has none
 unfoldable pub named_by : Subject → (name : List ℕ) → Verdict

@@ -6,34 +6,34 @@ ghost use Rattle.verdicts.specs.Verdicts.{code, decode};
 
 pub mod handed;
 
-// What judging one expectation gives.
-#[derive(Clone, Copy)]
+// What judging one expectation gives, and the number of each verdict in its slot.
+#[derive(Clone, Copy, PartialEq, Eq)]
 pub enum Verdict {
-    Passed,
-    Failed,
-    Undecided,
+    Passed = 1,
+    Failed = 2,
+    Undecided = 3,
 }
 
-// The number of a verdict in its slot.
-pub fn code_of(v: Verdict) -> u8
-    ensures { result ≡ code v }
-{
-    match v {
-        Verdict::Passed => 1,
-        Verdict::Failed => 2,
-        Verdict::Undecided => 3,
+impl From<Verdict> for u8 {
+    ghost from_gives = { λ v n. n ≡ code v };
+
+    #[tactic(auto, unfolding(crate::specs::Verdicts::code))]
+    fn from(v: Verdict) -> u8 {
+        v as u8
     }
 }
 
 // The verdict that a slot holds.
-pub fn verdict_of(b: u8) -> Verdict
-    ensures { result ≡ decode b }
-{
-    if b == 1 {
-        return Verdict::Passed;
+impl From<u8> for Verdict {
+    ghost from_gives = { λ b v. v ≡ decode b };
+
+    fn from(b: u8) -> Verdict {
+        if b == 1 {
+            return Verdict::Passed;
+        }
+        if b == 3 {
+            return Verdict::Undecided;
+        }
+        Verdict::Failed
     }
-    if b == 3 {
-        return Verdict::Undecided;
-    }
-    Verdict::Failed
 }

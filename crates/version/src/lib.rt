@@ -2,21 +2,12 @@
 #![tactic(auto)]
 
 ghost use Rattle.std.specs.Prelude.{◌≡◌};
-ghost use Rattle.version.specs.Version.{versioned, default_version, version, version_of};
-
-use values::number::Number;
+ghost use Rattle.version.specs.Version.{versioned, default_version, version};
 
 #[derive(Clone, Copy)]
 pub struct ProtocolVersion {
     pub major: u16,
     pub minor: u8,
-}
-
-// A version that was read, or none: then the one so far stays.
-#[derive(Clone, Copy)]
-pub enum Version {
-    Read(ProtocolVersion),
-    Bad,
 }
 
 impl ProtocolVersion {
@@ -38,25 +29,21 @@ impl ProtocolVersion {
     }
 }
 
-pub fn parse_version(s: &[u8]) -> Version
-    ensures { version_of result ≡ version s.now }
+pub fn parse_version(s: &[u8]) -> Option<ProtocolVersion>
+    ensures { result ≡ version s.now }
 {
     let first = text::parts::part_at(s, b'.', 0);
     if !first.more {
-        return Version::Bad;
+        return None;
     }
     let dot = first.end;
     let start = dot + 1;
     let second = text::parts::part_at(s, b'.', start);
     if second.more {
-        return Version::Bad;
+        return None;
     }
     let end = second.end;
-    let Number::Value(major) = values::number::parse_u16(&s[0..dot]) else {
-        return Version::Bad;
-    };
-    let Number::Value(minor) = values::number::parse_u8(&s[start..end]) else {
-        return Version::Bad;
-    };
-    Version::Read(ProtocolVersion::new(major as u16, minor as u8))
+    let major = values::number::parse_up_to(&s[0..dot], u16::MAX as u64)?;
+    let minor = values::number::parse_up_to(&s[start..end], u8::MAX as u64)?;
+    Some(ProtocolVersion::new(major as u16, minor as u8))
 }

@@ -6,12 +6,11 @@ use Prim.Native.String.{String, [] as []ˢ, ◌∷◌ as ◌∷ˢ◌}
 use mathlib.Core.Path.{◌≡◌, refl, sym, ap, ◌∙◌}
 use mathlib.Core.Bool.{Bool, true, false}
 use mathlib.Core.List.{List, [], ◌∷◌}
-use mathlib.Core.Option.{Option, none, some}
 use native.Mathlib.Omega.{arith}
 use lib.Dec.{eqb, ltb}
 use lib.ListN.{length}
 use borrow.Author.Tests.{eqb-true, ltb-true}
-use Rattle.std.specs.Prelude.{if◌then◌else◌}
+use Rattle.std.specs.Prelude.{if◌then◌else◌, None, Option, Some}
 use Rattle.text.specs.Base.{◌&◌}
 use Rattle.text.specs.Literal.{spells}
 use Rattle.text.proofs.LiteralLaws.{codes}
@@ -25,7 +24,7 @@ thirty_seven = refl
 
 -- ---- by code
 
-pub coded-code : (o : Op) → coded (operation o).code ≡ some o
+pub coded-code : (o : Op) → coded (operation o).code ≡ Some o
 unfolding coded first operation
 coded-code IsValidPath = refl
 coded-code QueryReferrers = refl
@@ -73,15 +72,15 @@ every test [] = true
 every test (o ∷ os) = test o & every test os
 
 -- the first that passes a test passes it, and passes what all pass
-pub passes : (test also : Op → Bool) (os : List Op) (o : Op) → first test os ≡ some o → every also os ≡ true → (test o ≡ true) × (also o ≡ true)
+pub passes : (test also : Op → Bool) (os : List Op) (o : Op) → first test os ≡ Some o → every also os ≡ true → (test o ≡ true) × (also o ≡ true)
 unfolding first
 passes test also [] o e t = let z : ◌≡◌ {A = ℕ} 0 1 = cc in absurd (omega arith)
 passes test also (p ∷ os) o e t =
     let all = both (also p) (every also os) t in
     go (test p) refl e all.0 (λ f. passes test also os o f all.1)
   where
-    go : (b : Bool) → test p ≡ b → (if b then some p else first test os) ≡ some o → also p ≡ true
-        → (first test os ≡ some o → (test o ≡ true) × (also o ≡ true)) → (test o ≡ true) × (also o ≡ true)
+    go : (b : Bool) → test p ≡ b → (if b then Some p else first test os) ≡ Some o → also p ≡ true
+        → (first test os ≡ Some o → (test o ≡ true) × (also o ≡ true)) → (test o ≡ true) × (also o ≡ true)
     go true b f a later = let q : p ≡ o = cc in (sym (ap test q) ∙ b, sym (ap also q) ∙ a)
     go false b f a later = later f
 
@@ -99,7 +98,7 @@ pub few_codes : (o : Op) → (operation o).code < 48
 unfolding operation
 few_codes o = ltb-true (operation o).code 48 (each (λ p. ltb (operation p).code 48) refl o)
 
-pub code-coded : (n : ℕ) (o : Op) → coded n ≡ some o → n ≡ (operation o).code
+pub code-coded : (n : ℕ) (o : Op) → coded n ≡ Some o → n ≡ (operation o).code
 unfolding coded
 code-coded n o e = eqb-true n (operation o).code (passes _ (λ p. true) operations o e refl).0
 
@@ -108,9 +107,9 @@ pub same_code : (o p : Op) → (operation o).code ≡ (operation p).code → o �
 same_code o p e = let a = coded-code o in let b = coded-code p in cc
 
 -- where only o can be found, and is not, nothing is
-pub none_found : (x : Option Op) (o : Op) → ((p : Op) → x ≡ some p → p ≡ o) → (x ≡ some o → ⊥) → none ≡ x
-none_found none o only h = refl
-none_found (some p) o only h = absurd (h (ap some (only p refl)))
+pub none_found : (x : Option Op) (o : Op) → ((p : Op) → x ≡ Some p → p ≡ o) → (x ≡ Some o → ⊥) → None ≡ x
+none_found None o only h = refl
+none_found (Some p) o only h = absurd (h (ap Some (only p refl)))
 
 -- ---- by name
 
@@ -128,23 +127,23 @@ spelled (c ∷ˢ w) (x ∷ s) e = go (eqb (sign c) x) refl e (spelled w s)
     go false b f later = never (sym f)
 
 -- from bytes to an operation and back
-pub named_spelled : (s : List ℕ) (o : Op) → named s ≡ some o → spells (operation o).name s ≡ true
+pub named_spelled : (s : List ℕ) (o : Op) → named s ≡ Some o → spells (operation o).name s ≡ true
 unfolding named
 named_spelled s o e = (passes _ (λ p. true) operations o e refl).0
 
-pub name-named : (s : List ℕ) (o : Op) → named s ≡ some o → s ≡ codes (operation o).name
+pub name-named : (s : List ℕ) (o : Op) → named s ≡ Some o → s ≡ codes (operation o).name
 name-named s o e = spelled (operation o).name s (named_spelled s o e)
 
 -- the code of what was found, or 0
 abbrev code_of : Option Op → ℕ
-code_of none = 0
-code_of (some o) = (operation o).code
+code_of None = 0
+code_of (Some o) = (operation o).code
 
-found : (x : Option Op) (o : Op) → eqb (code_of x) (operation o).code ≡ true → x ≡ some o
-found none o e = absurd (omega (arith, no_zero o, eqb-true 0 (operation o).code e))
-found (some p) o e = ap some (same_code p o (eqb-true (operation p).code (operation o).code e))
+found : (x : Option Op) (o : Op) → eqb (code_of x) (operation o).code ≡ true → x ≡ Some o
+found None o e = absurd (omega (arith, no_zero o, eqb-true 0 (operation o).code e))
+found (Some p) o e = ap Some (same_code p o (eqb-true (operation p).code (operation o).code e))
 
 -- and from an operation to its name and back: no earlier one has it
-pub named-name : (o : Op) → named (codes (operation o).name) ≡ some o
+pub named-name : (o : Op) → named (codes (operation o).name) ≡ Some o
 unfolding named first spells operation
 named-name o = found _ o (each (λ p. eqb (code_of (named (codes (operation p).name))) (operation p).code) refl o)

@@ -1,12 +1,9 @@
 -- Document 01, "Operation and version": 37 operations, codes 1 to 47 as listed in ops.rs, exact names. Assumes nothing.
-use Rattle.std.specs.Prelude.{ℕ, Bool, List, [], ◌∷◌, eqb, if◌then◌else◌}
+use Rattle.std.specs.Prelude.{ℕ, Bool, List, [], ◌∷◌, eqb, if◌then◌else◌, None, Option, Some}
 use Prim.Native.String.{String}
-use Rattle.std.proofs.Math.Option.{Option, none, some}
 use Rattle.text.specs.Literal.{spells}
 use Rattle.wire.specs.declared.ops.Op.{Op}
 use Rattle.wire.specs.declared.ops.Op.TheVariants.{IsValidPath, QueryReferrers, AddToStore, AddTextToStore, BuildPaths, EnsurePath, AddTempRoot, AddIndirectRoot, SyncWithGC, FindRoots, QueryDeriver, SetOptions, CollectGarbage, QuerySubstitutablePathInfo, QueryDerivationOutputs, QueryAllValidPaths, QueryPathInfo, QueryDerivationOutputNames, QueryPathFromHashPart, QuerySubstitutablePathInfos, QueryValidPaths, QuerySubstitutablePaths, QueryValidDerivers, OptimiseStore, VerifyStore, BuildDerivation, AddSignatures, NarFromPath, AddToStoreNar, QueryMissing, QueryDerivationOutputMap, RegisterDrvOutput, QueryRealisation, AddMultipleToStore, AddBuildLog, BuildPathsWithResults, AddPermRoot}
-use Rattle.wire.specs.declared.ops.OpFound.{OpFound}
-use Rattle.wire.specs.declared.ops.OpFound.TheVariants.{Is, Nothing}
 
 -- ---- the 37 operations
 
@@ -69,8 +66,8 @@ operations =
 
 -- the first of a list that passes a test
 unfoldable pub first : (Op → Bool) → List Op → Option Op
-first test [] = none
-first test (o ∷ os) = let later = first test os in if test o then some o else later
+first test [] = None
+first test (o ∷ os) = let later = first test os in if test o then Some o else later
 
 -- the operation of that exact name
 unfoldable pub named : List ℕ → Option Op
@@ -79,8 +76,3 @@ named s = first (λ o. spells (operation o).name s) operations
 -- the operation of that code
 unfoldable pub coded : ℕ → Option Op
 coded n = first (λ o. eqb n (operation o).code) operations
-
--- what the code's answer says
-unfoldable pub op_of : OpFound → Option Op
-op_of (Is o) = some o
-op_of Nothing = none

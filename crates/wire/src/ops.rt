@@ -1,58 +1,52 @@
 // ops.rs of the Rust: the operations of the worker protocol, their codes and their names.
-ghost use Rattle.std.specs.Prelude.{◌≡◌, length};
-ghost use Rattle.std.proofs.Math.Option.{some};
+ghost use Rattle.std.specs.Prelude.{◌≡◌, length, Some};
 ghost use Rattle.text.specs.Base.{overlaid};
 ghost use Rattle.text.specs.Literal.{spells};
 ghost use Rattle.text.proofs.LiteralLaws.{codes};
-ghost use Rattle.wire.specs.Operations.{operation, operations, named, coded, op_of};
+ghost use Rattle.wire.specs.Operations.{operation, operations, named, coded};
 ghost use Rattle.wire.specs.OperationTables.{letters, Spelt, Starts, Hints};
 
-#[derive(Clone, Copy)]
-pub enum Op {
-    IsValidPath,
-    QueryReferrers,
-    AddToStore,
-    AddTextToStore,
-    BuildPaths,
-    EnsurePath,
-    AddTempRoot,
-    AddIndirectRoot,
-    SyncWithGC,
-    FindRoots,
-    QueryDeriver,
-    SetOptions,
-    CollectGarbage,
-    QuerySubstitutablePathInfo,
-    QueryDerivationOutputs,
-    QueryAllValidPaths,
-    QueryPathInfo,
-    QueryDerivationOutputNames,
-    QueryPathFromHashPart,
-    QuerySubstitutablePathInfos,
-    QueryValidPaths,
-    QuerySubstitutablePaths,
-    QueryValidDerivers,
-    OptimiseStore,
-    VerifyStore,
-    BuildDerivation,
-    AddSignatures,
-    NarFromPath,
-    AddToStoreNar,
-    QueryMissing,
-    QueryDerivationOutputMap,
-    RegisterDrvOutput,
-    QueryRealisation,
-    AddMultipleToStore,
-    AddBuildLog,
-    BuildPathsWithResults,
-    AddPermRoot,
-}
+use text::parts::Span;
 
-// An operation, where there is one.
-#[derive(Clone, Copy)]
-pub enum OpFound {
-    Is(Op),
-    Nothing,
+#[derive(Clone, Copy, PartialEq, Eq)]
+pub enum Op {
+    IsValidPath = 1,
+    QueryReferrers = 6,
+    AddToStore = 7,
+    AddTextToStore = 8,
+    BuildPaths = 9,
+    EnsurePath = 10,
+    AddTempRoot = 11,
+    AddIndirectRoot = 12,
+    SyncWithGC = 13,
+    FindRoots = 14,
+    QueryDeriver = 18,
+    SetOptions = 19,
+    CollectGarbage = 20,
+    QuerySubstitutablePathInfo = 21,
+    QueryDerivationOutputs = 22,
+    QueryAllValidPaths = 23,
+    QueryPathInfo = 26,
+    QueryDerivationOutputNames = 28,
+    QueryPathFromHashPart = 29,
+    QuerySubstitutablePathInfos = 30,
+    QueryValidPaths = 31,
+    QuerySubstitutablePaths = 32,
+    QueryValidDerivers = 33,
+    OptimiseStore = 34,
+    VerifyStore = 35,
+    BuildDerivation = 36,
+    AddSignatures = 37,
+    NarFromPath = 38,
+    AddToStoreNar = 39,
+    QueryMissing = 40,
+    QueryDerivationOutputMap = 41,
+    RegisterDrvOutput = 42,
+    QueryRealisation = 43,
+    AddMultipleToStore = 44,
+    AddBuildLog = 45,
+    BuildPathsWithResults = 46,
+    AddPermRoot = 47,
 }
 
 // The names, one behind the other, by rising code.
@@ -198,18 +192,12 @@ fn hints() -> [u8; 71]
     HINTS
 }
 
-// A part of NAMES: from start up to, not including, end.
-#[derive(Clone, Copy)]
-struct Span {
-    start: usize,
-    end: usize,
-}
-
+// Where the name of an operation stands in NAMES.
 fn name_span(op: Op) -> Span
     ensures { Spelt op result.start result.end }
 {
     let starts = starts();
-    let code = Op::code(op) as usize;
+    let code = op.code() as usize;
     let start = starts[code] as usize;
     let end = starts[code + 1] as usize;
     Span { start, end }
@@ -217,7 +205,7 @@ fn name_span(op: Op) -> Span
 
 // The only code that an operation with the name s can have: no two of the 37 names come to the same sum.
 fn code_hint(s: &[u8]) -> u8
-    ensures { (op : Op) → named s.now ≡ some op → result ≡ (operation op).code }
+    ensures { (op : Op) → named s.now ≡ Some op → result ≡ (operation op).code }
 {
     if s.len() < 6 {
         return 0;
@@ -273,93 +261,46 @@ fn coded_op(code: u64) -> Op
 }
 
 impl Op {
-    pub fn code(op: Op) -> u64
-        ensures { result ≡ (operation op).code }
+    // By the protocol each operation has a code of its own.
+    #[tactic(auto, unfolding(crate::specs::Operations::operation))]
+    pub fn code(self) -> u64
+        ensures { result ≡ (operation self).code }
     {
-        match op {
-            Op::IsValidPath => 1,
-            Op::QueryReferrers => 6,
-            Op::AddToStore => 7,
-            Op::AddTextToStore => 8,
-            Op::BuildPaths => 9,
-            Op::EnsurePath => 10,
-            Op::AddTempRoot => 11,
-            Op::AddIndirectRoot => 12,
-            Op::SyncWithGC => 13,
-            Op::FindRoots => 14,
-            Op::QueryDeriver => 18,
-            Op::SetOptions => 19,
-            Op::CollectGarbage => 20,
-            Op::QuerySubstitutablePathInfo => 21,
-            Op::QueryDerivationOutputs => 22,
-            Op::QueryAllValidPaths => 23,
-            Op::QueryPathInfo => 26,
-            Op::QueryDerivationOutputNames => 28,
-            Op::QueryPathFromHashPart => 29,
-            Op::QuerySubstitutablePathInfos => 30,
-            Op::QueryValidPaths => 31,
-            Op::QuerySubstitutablePaths => 32,
-            Op::QueryValidDerivers => 33,
-            Op::OptimiseStore => 34,
-            Op::VerifyStore => 35,
-            Op::BuildDerivation => 36,
-            Op::AddSignatures => 37,
-            Op::NarFromPath => 38,
-            Op::AddToStoreNar => 39,
-            Op::QueryMissing => 40,
-            Op::QueryDerivationOutputMap => 41,
-            Op::RegisterDrvOutput => 42,
-            Op::QueryRealisation => 43,
-            Op::AddMultipleToStore => 44,
-            Op::AddBuildLog => 45,
-            Op::BuildPathsWithResults => 46,
-            Op::AddPermRoot => 47,
-        }
+        self as u64
     }
 
     // The Rust's `from_u64`.
-    pub fn from_code(code: u64) -> OpFound
-        ensures { op_of result ≡ coded code }
+    pub fn from_code(code: u64) -> Option<Op>
+        ensures { result ≡ coded code }
     {
         let op = coded_op(code);
-        if Op::code(op) != code {
-            return OpFound::Nothing;
-        }
-        OpFound::Is(op)
+        (op.code() == code).then_some(op)
     }
 
     // Writes the name at the front of out, if there is room for all of it, and says how long it is.
-    pub fn name(op: Op, out: &mut [u8]) -> usize
-        ensures value { result ≡ length (codes (operation op).name) }
-        ensures out_after { out.new ≡ overlaid (codes (operation op).name) out.old }
+    pub fn name(self, out: &mut [u8]) -> usize
+        ensures value { result ≡ length (codes (operation self).name) }
+        ensures out_after { out.new ≡ overlaid (codes (operation self).name) out.old }
     {
-        let span = name_span(op);
-        let start = span.start;
-        let end = span.end;
+        let span = name_span(self);
         let names = names();
-        written::put_front(&names[start..end], out)
+        written::put_front(&names[span.start..span.end], out)
     }
 
     // Whether s is the name.
-    pub fn is_named(op: Op, s: &[u8]) -> bool
-        ensures { result ≡ spells (operation op).name s.now }
+    pub fn is_named(self, s: &[u8]) -> bool
+        ensures { result ≡ spells (operation self).name s.now }
     {
-        let span = name_span(op);
-        let start = span.start;
-        let end = span.end;
+        let span = name_span(self);
         let names = names();
-        text::parts::same(s, &names[start..end])
+        text::parts::same(s, &names[span.start..span.end])
     }
 
     // One operation can have the name, and one comparison tells whether it has.
-    pub fn from_name(s: &[u8]) -> OpFound
-        ensures { op_of result ≡ named s.now }
+    pub fn from_name(s: &[u8]) -> Option<Op>
+        ensures { result ≡ named s.now }
     {
         let op = coded_op(code_hint(s) as u64);
-        if Op::is_named(op, s) {
-            OpFound::Is(op)
-        } else {
-            OpFound::Nothing
-        }
+        op.is_named(s).then_some(op)
     }
 }

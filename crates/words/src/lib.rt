@@ -29,15 +29,12 @@ fn skip_word(s: &[u8], start: usize) -> usize
     requires { start < length s.now → size_of white_bytes (drop start s.now) ≡ 0 }
     ensures { span start result ≡ word_from 0 start start (drop start s.now) }
 {
-    let mut i = start;
-    while i < s.len() {
-        let n = trimming::white_at(s, i);
-        if n != 0 {
+    for i in start..s.len() {
+        if trimming::white_at(s, i) != 0 {
             return i;
         }
-        i += 1;
     }
-    i
+    start.max(s.len())
 }
 
 // The first word from `at` on; it has no bytes where there is none.
@@ -46,8 +43,5 @@ pub fn word_at(s: &[u8], at: usize) -> Span
 {
     let start = skip_white(s, at);
     let end = skip_word(s, start);
-    Span {
-        start: start,
-        end: end,
-    }
+    Span { start, end }
 }

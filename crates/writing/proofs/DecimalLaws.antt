@@ -1,9 +1,9 @@
 -- Decimal digits: a number below 10 is one digit, any other the digits of its tenth and one more; what is written is read back. Assumes nothing.
+use Rattle.std.specs.Prelude.{Some}
 use Prim.Native.Nat.{ℕ, zero, suc, ◌+◌, ◌-◌, ◌*◌, ◌/◌, ◌%◌, ◌^◌, ◌≤◌, ◌<◌}
 use mathlib.Core.Path.{◌≡◌, refl, sym, ap, ◌∙◌}
 use mathlib.Core.Bool.{Bool, true, false}
 use mathlib.Core.List.{List, [], ◌∷◌, ◌++◌}
-use mathlib.Core.Option.{some}
 use native.Mathlib.Omega.{arith}
 use native.Mathlib.Nat.{mod-lt, div-add-mod', pow-suc}
 use lib.Dec.{ltb}
@@ -113,10 +113,10 @@ one_digit n = go (ltb n 10) refl
     go true e = omega (arith, ap length (decimal-small n (ltb-true n 10 e)))
     go false e = omega (arith, ap length (decimal_more n (ltb-false n 10 e)), length-append (decimal (n / 10)) ((0x30 + n % 10) ∷ []))
 
-pub reads_back : (limit n : ℕ) → n < limit → digits limit (decimal n) ≡ some n
+pub reads_back : (limit n : ℕ) → n < limit → digits limit (decimal n) ≡ Some n
 unfolding digits
 reads_back limit n h = let s = spells_it (suc n) n (omega arith) in go (decimal n) (one_digit n) s.0 s.1
   where
-    go : (xs : List ℕ) → 0 < length xs → all_digits xs ≡ true → decimal_from 0 xs ≡ n → digits limit xs ≡ some n
+    go : (xs : List ℕ) → 0 < length xs → all_digits xs ≡ true → decimal_from 0 xs ≡ n → digits limit xs ≡ Some n
     go [] l a v = absurd (omega arith)
     go (x ∷ xs) l a v = rw (a, v, lt-ltb n limit h)

@@ -2,23 +2,9 @@
 ghost use Rattle.std.specs.Prelude.{◌≡◌};
 ghost use Rattle.writing.specs.Room.{less_by};
 
-#[derive(Clone, Copy)]
-pub enum Room {
-    Left(usize),
-    Short,
-}
-
 // What is left once n more bytes stand there.
-pub fn less(room: Room, n: usize) -> Room
+pub fn less(room: Option<usize>, n: usize) -> Option<usize>
     ensures { result ≡ less_by room n }
 {
-    match room {
-        Room::Left(k) => {
-            if n <= k {
-                return Room::Left(k - n);
-            }
-            Room::Short
-        }
-        Room::Short => Room::Short,
-    }
+    room?.checked_sub(n)
 }

@@ -2,7 +2,7 @@
 ghost use Rattle.std.specs.Prelude.{◌≡◌, ◌+◌, ◌≤◌, length};
 ghost use Rattle.written.specs.Written.{written_at};
 
-use blocks::{put_blocks, put_eights, put_wides};
+use blocks::{put_blocks, put_ends};
 use written::put_bytes;
 
 // Writes a word, many bytes at a time where it has as many. One of 32 to 64 bytes, as a store path has, takes no loop.
@@ -16,11 +16,11 @@ pub fn put_word(word: &[u8], out: &mut [u8], at: usize) -> usize
         return put_bytes(word, out, at);
     }
     if n < 16 {
-        return put_eights(word, out, at);
+        return put_ends::<8>(word, out, at);
     }
     if 32 <= n {
         if n <= 64 {
-            return put_wides(word, out, at);
+            return put_ends::<32>(word, out, at);
         }
     }
     put_blocks(word, out, at)

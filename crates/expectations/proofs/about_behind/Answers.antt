@@ -1,13 +1,10 @@
 -- `expectations::about_behind` meets its contract: the matcher is that of the trimmed piece. Assumes nothing.
-use Rattle.expectations.specs.ExpectAnswers.{expect_of}
-use Rattle.expectations.proofs.ExpectationLaws.{matcher_steps}
+use Rattle.expectations.proofs.ExpectationLaws.{matcher-given, matcher-refused}
 use borrow.Author.Rules.{rules}
 use Rattle.expectations.proofs.about_behind.Goals as goal
 
-pub returns-in-Given : goal.returns-in-Given
-unfolding expect_of
-returns-in-Given c = search (rules, matcher_steps)
+pub returns : goal.returns
+returns c = search (rules, matcher-given, c.in_ok-m.was)
 
-pub returns-in-Refused : goal.returns-in-Refused
-unfolding expect_of
-returns-in-Refused c = search (rules, matcher_steps)
+pub returns-in_err-m : goal.returns-in_err-m
+returns-in_err-m c = matcher-refused _ _ _ _ _ c.behind_trimmed-t.ensures.value _ c.matcher.ensures _ c.in_err-m.was _ (search rules)

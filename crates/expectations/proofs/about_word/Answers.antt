@@ -1,5 +1,4 @@
 -- `expectations::about_word` meets its contract: what follows the word is a matcher. Assumes nothing.
-use Rattle.expectations.specs.ExpectAnswers.{expect_of}
 use Rattle.pieces.proofs.BehindLaws.{front_bounds}
 use Rattle.expectations.proofs.ExpectationLaws.{word_none, word_some}
 use borrow.Author.Rules.{rules}
@@ -12,5 +11,4 @@ pub returns-then-begins : goal.returns-then-begins
 returns-then-begins c = search (rules, word_some)
 
 pub returns : goal.returns
-unfolding expect_of
 returns c = search (rules, word_none)

@@ -1,5 +1,4 @@
 -- `expectations::by_sign` meets its contract: the first byte tells the form. Assumes nothing.
-use Rattle.expectations.specs.ExpectAnswers.{expect_of}
 use Rattle.pieces.proofs.BehindLaws.{front_bounds}
 use Rattle.expectations.proofs.ExpectationLaws.{result-signs}
 use borrow.Author.Rules.{rules}
@@ -15,5 +14,4 @@ pub returns-in-46 : goal.returns-in-46
 returns-in-46 c = search (rules, result-signs)
 
 pub returns-in_default : goal.returns-in_default
-unfolding expect_of
 returns-in_default c = search (rules, result-signs)

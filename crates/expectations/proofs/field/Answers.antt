@@ -1,7 +1,8 @@
 -- `expectations::field` meets its contract: there is a colon behind the dot, or the form does not fit. Assumes nothing.
-use Rattle.expectations.specs.ExpectAnswers.{expect_of}
+use Rattle.std.proofs.Common.{◌≡◌, ◌∙◌, Some, None, Err, arith}
+use Rattle.script.specs.declared.refusals.Reason.TheVariants.{UnknownExpectation}
 use Rattle.pieces.proofs.BehindLaws.{cut_bounds}
-use Rattle.expectations.proofs.ExpectationLaws.{field-words}
+use Rattle.expectations.proofs.ExpectationLaws.{field-words, no_name}
 use borrow.Author.Rules.{rules}
 use Rattle.expectations.proofs.field.Goals as goal
 
@@ -9,12 +10,12 @@ pub find_in-requires : goal.find_in-requires
 find_in-requires c = search (rules, field-words)
 
 pub field_cut-requires : goal.field_cut-requires
-field_cut-requires c = search (rules, field-words, cut_bounds)
+field_cut-requires c = let h : c.find_in.result ≡ Some c.in_ok-n.n = grind arith in search (rules, field-words, cut_bounds)
 
-pub returns-in-At : goal.returns-in-At
-unfolding expect_of
-returns-in-At c = search (rules, field-words)
+pub returns : goal.returns
+returns c = let h : c.find_in.result ≡ Some c.in_ok-n.n = grind arith in search (rules, field-words)
 
-pub returns-in-Nothing : goal.returns-in-Nothing
-unfolding expect_of
-returns-in-Nothing c = search (rules, field-words)
+pub returns-in_err-n : goal.returns-in_err-n
+returns-in_err-n c =
+    let h : c.find_in.result ≡ None = grind arith in
+    let k : c.from_residual.result ≡ Err UnknownExpectation = search rules in k ∙ no_name _ _ c.requires.q_value _ c.find_in.ensures h

@@ -1,5 +1,4 @@
 -- `expectations::on_result` meets its contract: the sign behind the word tells the form. Assumes nothing.
-use Rattle.expectations.specs.ExpectAnswers.{expect_of}
 use Rattle.pieces.proofs.BehindLaws.{front_bounds}
 use Rattle.expectations.proofs.ExpectationLaws.{no_result, a_result}
 use borrow.Author.Rules.{rules}
@@ -12,5 +11,4 @@ pub returns-then-begins : goal.returns-then-begins
 returns-then-begins c = search (rules, a_result)
 
 pub returns : goal.returns
-unfolding expect_of
 returns c = search (rules, no_result)

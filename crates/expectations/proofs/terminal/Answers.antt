@@ -1,5 +1,4 @@
 -- `expectations::terminal` meets its contract: the text behind the colon is kept as it is. Assumes nothing.
-use Rattle.expectations.specs.ExpectAnswers.{expect_of}
 use Rattle.pieces.proofs.BehindLaws.{front_bounds}
 use Rattle.expectations.proofs.ExpectationLaws.{expect_words}
 use borrow.Author.Rules.{rules}
@@ -9,5 +8,4 @@ pub behind_trimmed-t-requires : goal.behind_trimmed-t-requires
 behind_trimmed-t-requires c = search (rules, front_bounds)
 
 pub returns : goal.returns
-unfolding expect_of
 returns c = search (rules, expect_words)

@@ -1,11 +1,11 @@
 -- `openings::not_closed` meets its contract. Assumes nothing.
+use Rattle.std.specs.Prelude.{None, Option, Some}
 use Prim.Native.Nat.{ℕ, ◌+◌}
 use mathlib.Core.Path.{◌≡◌, refl}
-use mathlib.Core.Bool.{Bool, true, false}
+use mathlib.Core.Bool.{Bool, true, false, not}
+use Rattle.std.specs.Option.{is_some}
 use mathlib.Core.List.{List}
-use Rattle.text.specs.Parts.{span, starts_with, position, found_of}
-use Rattle.text.specs.declared.parts.Found.{Found}
-use Rattle.text.specs.declared.parts.Found.TheVariants.{At, Nothing}
+use Rattle.text.specs.Parts.{span, starts_with, position}
 use Rattle.text.specs.declared.parts.Span.{Span}
 use Rattle.script.specs.Inside.{In}
 use borrow.Author.Tests.{not-true, not-false}
@@ -22,28 +22,34 @@ module _ (text : List ℕ) (p q : Span) (z : q ≡ trim text p) (b : Bool) (e : 
   unfolding not_closed path_set
   plain f = rw (← z, behind-none text q "{" b e f, path_set, not_closed)
 
-  module _ (t : b ≡ true) (f : Found) (g : found_of f ≡ position CLOSING-BRACE (bytes text (span (q.start + 1) q.end))) where
-    unclosed : f ≡ Nothing → true ≡ not_closed text p
+  module _ (t : b ≡ true) (f : Option ℕ) (g : f ≡ position CLOSING-BRACE (bytes text (span (q.start + 1) q.end))) where
+    unclosed : f ≡ None → true ≡ not_closed text p
     unfolding not_closed path_set braced_set
     unclosed n = rw (← z, behind-some text q "{" b e t, cut-none text (q.start + 1) q.end CLOSING-BRACE f g n, path_set, not_closed)
 
-    closed : (n : ℕ) → f ≡ At n → false ≡ not_closed text p
+    closed : (n : ℕ) → f ≡ Some n → false ≡ not_closed text p
     unfolding not_closed path_set braced_set
     closed n h = rw (← z, behind-some text q "{" b e t, cut-some text (q.start + 1) q.end CLOSING-BRACE f g n h, path_set, not_closed)
+
+    whether : (o : Option ℕ) → f ≡ o → (r : Bool) → is_some o ≡ not r → r ≡ not_closed text p
+    whether None n true k = unclosed n
+    whether None n false k = cc k
+    whether (Some i) h true k = cc k
+    whether (Some i) h false k = closed i h
+
+    tested : (r : Bool) → is_some f ≡ not r → r ≡ not_closed text p
+    tested = whether f refl
 
   inner_in : In text q → b ≡ true → In text (span (q.start + 1) q.end)
   inner_in i t = behind_in text q.start q.end 1 b (codes "{") e t i refl
 
-ruleset walk = (plain, unclosed, closed, inner_in, not-true, not-false)
+ruleset walk = (plain, tested, inner_in, not-true, not-false)
 
 pub returns-then-not-begins : goal.returns-then-not-begins
 returns-then-not-begins c = search (rules, walk)
 
 pub find_in-requires : goal.find_in-requires
 find_in-requires c = search (rules, walk)
-
-pub returns-in_default : goal.returns-in_default
-returns-in_default c = search (rules, walk)
 
 pub returns : goal.returns
 returns c = search (rules, walk)

@@ -1,37 +1,28 @@
 -- `openings::stamp_before` meets its contract. Assumes nothing.
+use Rattle.std.specs.Prelude.{Ok, Some}
 use Prim.Native.Nat.{ℕ, ◌+◌}
 use mathlib.Core.Path.{◌≡◌}
 use mathlib.Core.List.{List}
-use mathlib.Core.Option.{some}
 use Rattle.text.specs.declared.parts.Span.{Span}
-use Rattle.script.specs.Answers.{given, refused}
 use Rattle.script.specs.Pieces.{bytes, trim}
 use Rattle.text.specs.Parts.{span}
 use Rattle.script.specs.Timestamps.{time, stamped_as, with_time, stamped_at}
 use Rattle.script.specs.declared.records.Time.{Time}
-use Rattle.script.specs.declared.records.Stamp.TheVariants as stamp
-use Rattle.openings.specs.OpeningRead.{stamped_read}
-use Rattle.stamps.specs.TimeRead.{time_read}
-use Rattle.stamps.specs.declared.timestamps.TimeAnswer.{TimeAnswer}
-use Rattle.stamps.specs.declared.timestamps.TimeAnswer.TheVariants as answer
 use borrow.Author.Rules.{rules}
 use Rattle.openings.proofs.stamp_before.Goals as goal
+use Rattle.script.specs.Answers.{Answer}
 
-module _ (text : List ℕ) (p : Span) (n : ℕ) (a : TimeAnswer) (k : time_read a ≡ time (bytes text (span p.start (p.start + n)))) where
-  bad : (m : ℕ) → a ≡ answer.Bad m → refused m ≡ stamped_at text p (some n)
-  unfolding stamped_at with_time time_read
-  bad m w = rw (← k, w)
-
-  read : (x : Time) (q : Span) → a ≡ answer.Read x → q ≡ trim text (span (p.start + n + 2) p.end) → given (stamped_as (stamp.At x) q) ≡ stamped_at text p (some n)
-  unfolding stamped_at with_time time_read
+module _ (text : List ℕ) (p : Span) (n : ℕ) (a : Answer Time) (k : a ≡ time (bytes text (span p.start (p.start + n)))) where
+  read : (x : Time) (q : Span) → a ≡ Ok x → q ≡ trim text (span (p.start + n + 2) p.end) → Ok (stamped_as (Some x) q) ≡ stamped_at text p (Some n)
+  unfolding stamped_at with_time
   read x q w z = rw (← k, w, z)
 
-ruleset walk = (bad, read)
+ruleset walk = (read)
 
-pub returns-in-Read : goal.returns-in-Read
-unfolding stamped_read bytes
-returns-in-Read c = search (rules, walk)
+pub returns : goal.returns
+unfolding bytes
+returns c = search (rules, walk)
 
-pub returns-in-Bad : goal.returns-in-Bad
-unfolding stamped_read bytes
-returns-in-Bad c = search (rules, walk)
+pub returns-in_err-time : goal.returns-in_err-time
+unfolding bytes stamped_at with_time
+returns-in_err-time c = search (rules, walk)

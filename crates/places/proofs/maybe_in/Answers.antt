@@ -3,10 +3,10 @@ use mathlib.Core.Path.{sym, ap, ◌∙◌}
 use Rattle.verdicts.specs.Held.{maybe_in}
 use Rattle.places.proofs.maybe_in.Goals as goal
 
-pub returns-in-Absent : goal.returns-in-Absent
+pub returns-in-None : goal.returns-in-None
 unfolding maybe_in
-returns-in-Absent c = ap (maybe_in c.args.n) (sym c.in-Absent.is)
+returns-in-None c = ap (maybe_in c.args.n) (sym c.in-None.is)
 
-pub returns-in-At : goal.returns-in-At
+pub returns-in-Some : goal.returns-in-Some
 unfolding maybe_in
-returns-in-At c = c.place_in.ensures ∙ ap (maybe_in c.args.n) (sym c.in-At.is)
+returns-in-Some c = c.place_in.ensures ∙ ap (maybe_in c.args.n) (sym c.in-Some.is)

@@ -1,13 +1,13 @@
 -- `preamble_records::maybe_of` meets its contract. Assumes nothing.
-use Rattle.preamble_records.proofs.PreambleLaws.{preamble_laws}
+use Rattle.preamble_records.proofs.PreambleLaws.{said-forward, maybe_absent, maybe-is}
 use borrow.Author.Rules.{rules}
 use Rattle.preamble_records.proofs.maybe_of.Goals as goal
 
+pub returns-in_err-v : goal.returns-in_err-v
+returns-in_err-v c = search (rules, maybe_absent, c.in_err-v.was)
+
 pub place_of-requires : goal.place_of-requires
-place_of-requires c = search (rules, preamble_laws)
+place_of-requires c = search (rules, said-forward, c.in_ok-v.was)
 
-pub returns-in-Absent : goal.returns-in-Absent
-returns-in-Absent c = search (rules, preamble_laws)
-
-pub returns-in-Is : goal.returns-in-Is
-returns-in-Is c = search (rules, preamble_laws)
+pub returns : goal.returns
+returns c = search (rules, maybe-is, c.in_ok-v.was)

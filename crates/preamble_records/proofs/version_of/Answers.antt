@@ -1,14 +1,14 @@
 -- `preamble_records::version_of` meets its contract. Assumes nothing.
 use Rattle.said.proofs.SaidLaws.{said_in}
-use Rattle.preamble_records.proofs.PreambleLaws.{preamble_laws}
+use Rattle.preamble_records.proofs.PreambleLaws.{version_absent, version-is}
 use borrow.Author.Rules.{rules}
 use Rattle.preamble_records.proofs.version_of.Goals as goal
 
 pub version_in-requires : goal.version_in-requires
-version_in-requires c = search (rules, preamble_laws, said_in)
+version_in-requires c = search (rules, said_in)
 
-pub returns-in-Absent : goal.returns-in-Absent
-returns-in-Absent c = search (rules, preamble_laws)
+pub returns-in-None : goal.returns-in-None
+returns-in-None c = search (rules, version_absent)
 
-pub returns-in-Is : goal.returns-in-Is
-returns-in-Is c = search (rules, preamble_laws)
+pub returns-in-Some : goal.returns-in-Some
+returns-in-Some c = search (rules, version-is)

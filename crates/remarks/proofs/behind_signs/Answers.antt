@@ -1,12 +1,8 @@
 -- `remarks::behind_signs` meets its contract. The loop's invariant: the signs from here end where those of the whole do. Assumes nothing.
-use mathlib.Core.Path.{refl}
 use Rattle.script.specs.Pieces.{bytes}
 use Rattle.remarks.proofs.PreambleLaws.{sign_steps}
 use borrow.Author.Rules.{rules}
 use Rattle.remarks.proofs.behind_signs.Goals as goal
-
-pub loop-i-init : goal.loop-i-init
-loop-i-init c = (search rules, search rules, refl)
 
 pub returns-then-text-i-ne35 : goal.returns-then-text-i-ne35
 returns-then-text-i-ne35 c = search (rules, sign_steps)

@@ -3,10 +3,10 @@ use mathlib.Core.Path.{sym, ap, ◌∙◌}
 use Rattle.verdicts.specs.Held.{maybe_list_in}
 use Rattle.response_places.proofs.maybe_list_in.Goals as goal
 
-pub returns-in-Absent : goal.returns-in-Absent
+pub returns-in-None : goal.returns-in-None
 unfolding maybe_list_in
-returns-in-Absent c = ap (maybe_list_in c.args.n c.args.lists.now) (sym c.in-Absent.is)
+returns-in-None c = ap (maybe_list_in c.args.n c.args.lists.now) (sym c.in-None.is)
 
-pub returns-in-Are : goal.returns-in-Are
+pub returns-in-Some : goal.returns-in-Some
 unfolding maybe_list_in
-returns-in-Are c = c.list_in.ensures ∙ ap (maybe_list_in c.args.n c.args.lists.now) (sym c.in-Are.is)
+returns-in-Some c = c.list_in.ensures ∙ ap (maybe_list_in c.args.n c.args.lists.now) (sym c.in-Some.is)

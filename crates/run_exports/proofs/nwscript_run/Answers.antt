@@ -7,9 +7,8 @@ use Rattle.judging.specs.Calls.{Call}
 use Rattle.judging.specs.PlainJudge.{plain_run}
 use Rattle.calls.specs.CallRows.{calls_of, answer_code}
 use Rattle.judging.specs.Runs.{plain_scratch}
-use Rattle.ran.specs.Ran.{plain_left, if_done}
+use Rattle.ran.specs.Ran.{Ran, plain_left, if_done}
 use Rattle.ran.specs.Told.{status_of, ran_line, ran_tally}
-use Rattle.ran.specs.declared.Ran.{Ran}
 use Rattle.run_exports.proofs.nwscript_run.Goals as goal
 
 pub returns : goal.returns

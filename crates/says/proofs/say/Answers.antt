@@ -1,8 +1,8 @@
 -- `says::say` meets its contract. Assumes nothing.
+use Rattle.std.specs.Prelude.{Option}
 use mathlib.Core.Path.{◌≡◌, refl}
 use mathlib.Core.Bool.{Bool, true, false}
 use mathlib.Core.List.{[]}
-use mathlib.Core.Option.{Option}
 use Rattle.text.specs.declared.parts.Span.{Span}
 use Rattle.script.specs.Contents.{value_or, pair_of}
 use Rattle.script.specs.declared.roles.Key.{Key}

@@ -1,13 +1,9 @@
-use Prim.Native.Nat.{ℕ, ◌-◌, ◌≤◌}
-use mathlib.Core.Path.{◌≡◌, sym, ap, ◌∙◌}
-use mathlib.Core.List.{List, reverse, reverse-reverse}
-use native.Mathlib.Omega.{arith}
+use Prim.Native.Nat.{◌≤◌}
+use mathlib.Core.Path.{◌≡◌}
+use mathlib.Core.List.{List, reverse}
 use lib.ListN.{length, take}
-use lib.Seq.{take_all}
-use borrow.Author.Rules.{rules}
-use Rattle.text.proofs.TrimLaws.{strip_on, strip_done, back_drop}
 use Rattle.text.specs.Utf8.{Range}
-use Rattle.text.specs.Trim.{white_bytes, backwards, size_of, strip_from, trimmed_back}
+use Rattle.text.specs.Trim.{white_bytes, backwards, strip_from, trimmed_back}
 use Rattle.trimming.proofs.back_start.Given as goal
 
 abbrev rows : List (List Range)

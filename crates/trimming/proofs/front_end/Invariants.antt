@@ -1,12 +1,7 @@
-use Prim.Native.Nat.{ℕ, ◌+◌, ◌-◌, ◌≤◌}
-use mathlib.Core.Path.{◌≡◌, refl, sym, ◌∙◌}
-use mathlib.Core.List.{List}
+use Prim.Native.Nat.{◌-◌, ◌≤◌}
+use mathlib.Core.Path.{◌≡◌}
 use lib.ListN.{length, drop}
-use lib.Seq.{drop-drop}
-use borrow.Author.Rules.{rules}
-use Rattle.text.proofs.Scan.{rest-none}
-use Rattle.text.proofs.TrimLaws.{strip_on, strip_done}
-use Rattle.text.specs.Trim.{white_bytes, size_of, strip_from, trimmed_front}
+use Rattle.text.specs.Trim.{white_bytes, strip_from, trimmed_front}
 use Rattle.trimming.proofs.front_end.Given as goal
 
 abbrev pub invariant-loop-i : goal.invariant-loop-i

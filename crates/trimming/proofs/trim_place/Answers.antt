@@ -1,21 +1,15 @@
 -- `trimming::trim_place` meets its contract. Assumes nothing.
-use mathlib.Core.Path.{sym, ◌∙◌}
-use Rattle.text.proofs.TrimLaws.{place-plain, trim_steps}
-use borrow.Author.Rules.{rules}
+use mathlib.Core.Path.{sym}
+use Rattle.text.proofs.TrimLaws.{place_none, place-plain}
+use native.Mathlib.Omega.{arith}
 use Rattle.trimming.proofs.trim_place.Goals as goal
 
-pub returns-then-n-start : goal.returns-then-n-start
-returns-then-n-start c = search (rules, trim_steps)
-
-pub returns-then-not-is_plain : goal.returns-then-not-is_plain
-returns-then-not-is_plain c = search (rules, trim_steps)
-
-pub returns-then-not-is_plain-2 : goal.returns-then-not-is_plain-2
-returns-then-not-is_plain-2 c = search (rules, trim_steps)
-
-pub returns : goal.returns
-returns c =
+pub returns-then-start-n : goal.returns-then-start-n
+returns-then-start-n c =
     let skipped = c.skip_blanks-start.ensures in
-    let first = sym c.is_plain.ensures ∙ c.if-not-is_plain.false in
-    let last = sym c.is_plain-2.ensures ∙ c.if-not-is_plain-2.false in
-    place-plain _ _ skipped.upper_bound skipped.s_value c.if-n-start.false first last
+    place_none _ _ skipped.upper_bound skipped.s_value (omega arith)
+
+pub returns-then-is_plain-2 : goal.returns-then-is_plain-2
+returns-then-is_plain-2 c =
+    let skipped = c.skip_blanks-start.ensures in
+    place-plain _ _ skipped.upper_bound skipped.s_value (omega arith) (sym c.if-is_plain.ensures) (sym c.if-is_plain-2.ensures)

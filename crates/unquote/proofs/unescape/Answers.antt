@@ -1,48 +1,57 @@
 -- `unquote::unescape` meets its contract. The loop's invariant: what is written, and then what the rest becomes, is what the text
--- becomes. The measure is what is left of the text. Assumes nothing.
-use Prim.Native.Nat.{ℕ, ◌+◌, ◌-◌, ◌≤◌, ◌<◌}
-use mathlib.Core.Path.{◌≡◌}
-use mathlib.Core.List.{List}
+-- becomes. Assumes nothing.
+use Prim.Native.Nat.{ℕ, ◌+◌, ◌≤◌, ◌<◌}
+use mathlib.Core.Path.{◌≡◌, refl, ap}
+use mathlib.Core.Logic.{inl, inr}
+use mathlib.Core.List.{List, [], ◌∷◌}
 use native.Mathlib.Omega.{arith}
 use lib.ListN.{length, drop, set}
 use borrow.Author.Rules.{rules}
+use Rattle.std.proofs.lemmas.Bool.{cases_lt}
 use Rattle.values.specs.Unquote.{unescaped}
 use Rattle.unquote.specs.UnquoteWalk.{token_at}
 use Rattle.unquote.specs.declared.Token.{Token}
-use Rattle.text.proofs.Front.{Written, begun, in_room, stored, filled}
-use Rattle.unquote.proofs.UnquoteLaws.{Known, known, none_left}
+use Rattle.text.proofs.Front.{Written, begun, stored, filled}
+use Rattle.unquote.proofs.UnquoteLaws.{known, none_left}
 use Rattle.unquote.proofs.unescape.Goals as goal
 
+-- where the room is full, all is written
+full : (out : List ℕ) (o : ℕ) (rest whole : List ℕ) → Written out o rest whole → length out ≤ o → out ≡ whole
+full out o [] whole w h = filled out o [] whole w refl
+full out o (x ∷ rest) whole w h = absurd (omega (arith, w.count, w.room))
+
 module _ (out : List ℕ) (o : ℕ) (s : List ℕ) (i : ℕ) (whole : List ℕ) (w : Written out o (unescaped (drop i s)) whole) where
-  over : length s ≤ i → out ≡ whole
-  over h = filled out o _ whole w (none_left s i h)
+  over : length out ≤ o → out ≡ whole
+  over h = full out o _ whole w h
 
-  module _ (h : i < length s) (t : Token) (e : t ≡ token_at s i) where
-    fits : o < length out
-    fits = in_room out o _ _ _ whole w (known s i t h e).law
+  -- where there is room, text is left
+  left : o < length out → i < length s
+  left h =
+      elim (cases_lt i (length s)) [
+        | inl l ↦ l
+        | inr g ↦ absurd (omega (arith, w.count, w.room, ap length (none_left s i g)))
+      ]
 
-    written : Written (set out o t.byte) (o + 1) (unescaped (drop (i + t.size) s)) whole
-    written = stored out o _ _ _ whole w (known s i t h e).law
+  written : o < length out → (t : Token) → t ≡ token_at s i → Written (set out o t.byte) (o + 1) (unescaped (drop (i + t.size) s)) whole
+  written h t e = stored out o _ _ _ whole w (known s i t (left h) e).law
 
-ruleset walk = (begun, over, fits, written)
+ruleset walk = (begun, over, left, written)
 
-pub loop-i-init : goal.loop-i-init
-loop-i-init c = search (rules, walk)
+pub loop-byte-init : goal.loop-byte-init
+loop-byte-init c = search (rules, walk)
 
-pub bounds-out-o : goal.bounds-out-o
-bounds-out-o c = search (rules, walk)
-
-pub overflow_add-o : goal.overflow_add-o
-overflow_add-o c = omega (arith, (known _ _ _ c.loop-i-test.true c.token_at-t.ensures).counted)
+pub token_at-t-requires : goal.token_at-t-requires
+token_at-t-requires c = search (rules, walk)
 
 pub overflow_add-i : goal.overflow_add-i
-overflow_add-i c = omega (arith, (known _ _ _ c.loop-i-test.true c.token_at-t.ensures).few)
+overflow_add-i c =
+    let h : c.loop-byte.i < length c.args.s.now = search (rules, walk) in
+    omega (arith, (known _ _ _ h c.token_at-t.ensures).few)
 
-pub loop-i-smaller : goal.loop-i-smaller
-loop-i-smaller c = omega (arith, (known _ _ _ c.loop-i-test.true c.token_at-t.ensures).some)
-
-pub loop-i-preserved : goal.loop-i-preserved
-loop-i-preserved c = (omega (arith, (known _ _ _ c.loop-i-test.true c.token_at-t.ensures).few), search (rules, walk))
+pub loop-byte-preserved : goal.loop-byte-preserved
+loop-byte-preserved c =
+    let h : c.loop-byte.i < length c.args.s.now = search (rules, walk) in
+    (omega (arith, (known _ _ _ h c.token_at-t.ensures).few), search (rules, walk))
 
 pub returns : goal.returns
 returns c = search (rules, walk)

@@ -1,5 +1,4 @@
 -- `unquote::unquote` meets its contract: the front that is lent has exactly the room of the result. Assumes nothing.
-use borrow.Author.Rules.{rules}
 use Rattle.text.proofs.Front.{fronts}
 use Rattle.unquote.proofs.unquote.Goals as goal
 

@@ -3,8 +3,8 @@ use borrow.Author.Rules.{rules}
 use Rattle.unquote.proofs.UnquoteLaws.{quotes}
 use Rattle.unquote.proofs.unquote_fill.Goals as goal
 
-pub overflow_sub-end : goal.overflow_sub-end
-overflow_sub-end c = search (rules, quotes)
+pub overflow_sub-s : goal.overflow_sub-s
+overflow_sub-s c = search (rules, quotes)
 
 pub slice_bounds-unescape-count : goal.slice_bounds-unescape-count
 slice_bounds-unescape-count c = search (rules, quotes)
@@ -15,8 +15,8 @@ slice_bounds-unescape-start c = search (rules, quotes)
 pub unescape-requires : goal.unescape-requires
 unescape-requires c = search (rules, quotes)
 
-pub copy-requires : goal.copy-requires
-copy-requires c = search (rules, quotes)
+pub copy_from_slice-requires : goal.copy_from_slice-requires
+copy_from_slice-requires c = search (rules, quotes)
 
 pub returns-then-is_quoted : goal.returns-then-is_quoted
 returns-then-is_quoted c = search (rules, quotes)

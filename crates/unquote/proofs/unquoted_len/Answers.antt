@@ -3,8 +3,8 @@ use borrow.Author.Rules.{rules}
 use Rattle.unquote.proofs.UnquoteLaws.{quotes}
 use Rattle.unquote.proofs.unquoted_len.Goals as goal
 
-pub overflow_sub-end : goal.overflow_sub-end
-overflow_sub-end c = search (rules, quotes)
+pub overflow_sub-s : goal.overflow_sub-s
+overflow_sub-s c = search (rules, quotes)
 
 pub slice_bounds-unescaped_len-count : goal.slice_bounds-unescaped_len-count
 slice_bounds-unescaped_len-count c = search (rules, quotes)

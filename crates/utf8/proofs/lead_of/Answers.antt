@@ -1,14 +1,14 @@
 -- `utf8::lead_of` meets its contract: at each `return` the tests that led there say which row of the table has the byte.
 -- Assumes nothing.
-use borrow.Author.Rules.{rules}
+use Rattle.std.specs.Prelude.{None, Option, Some}
 use mathlib.Core.Path.{◌≡◌, refl}
 use mathlib.Core.Bool.{true, false}
 use mathlib.Core.List.{List, [], ◌∷◌}
-use mathlib.Core.Option.{none, some}
 use Prim.Native.Nat.{ℕ}
 use Rattle.text.proofs.Scan.{flag}
 use Rattle.text.specs.Base.{within}
-use Rattle.text.specs.Utf8.{Row, table, after}
+use Rattle.text.specs.Utf8.{Range, Row, table, after}
+use Rattle.utf8.specs.declared.Due.{Due}
 use Rattle.utf8.specs.Utf8Walk.{ranges, due_of}
 use Rattle.utf8.proofs.lead_of.Goals as goal
 
@@ -17,15 +17,20 @@ past : (r : Row) (rows : List Row) (x : ℕ) → within r.first.lo r.first.hi x 
 unfolding after
 past r rows x e = rw e
 
-taken : (r : Row) (rows : List Row) (x : ℕ) → within r.first.lo r.first.hi x ≡ true → after (r ∷ rows) x ≡ some r.following
+taken : (r : Row) (rows : List Row) (x : ℕ) → within r.first.lo r.first.hi x ≡ true → after (r ∷ rows) x ≡ Some r.following
 unfolding after
 taken r rows x e = rw e
 
-no_row : (x : ℕ) → after [] x ≡ none
+no_row : (x : ℕ) → after [] x ≡ None
 unfolding after
 no_row x = refl
 
-ruleset walk = (past, taken, no_row, flag)
+-- what `bytes_due` returned says what follows
+due : (o : Option Due) (n lo hi : ℕ) (v : Option (List Range)) → o ≡ Some (record { need = n; lo = lo; hi = hi }) → Some (ranges n lo hi) ≡ v → due_of o ≡ v
+unfolding due_of
+due o n lo hi v e f = rw e f
+
+ruleset walk = (due, past, taken, no_row, flag)
 
 pub returns-then-in_range : goal.returns-then-in_range
 unfolding table ranges due_of

@@ -1,12 +1,9 @@
 -- `utf8::skip_ascii` meets its contract. The loop's invariant: the walk from here says what the walk from `at` says. Assumes nothing.
-use Prim.Native.Nat.{ℕ, ◌-◌, ◌≤◌}
+use Prim.Native.Nat.{ℕ, ◌≤◌}
 use mathlib.Core.Path.{◌≡◌, refl, ◌∙◌}
 use mathlib.Core.Bool.{Bool, true}
-use mathlib.Core.List.{[]}
 use native.Mathlib.Omega.{arith}
-use lib.ListN.{length, drop}
 use borrow.Author.Rules.{rules}
-use Rattle.text.specs.Utf8.{well_formed_from}
 use Rattle.utf8.proofs.skip_ascii.Goals as goal
 
 on : (a b c : Bool) → a ≡ b → (t : Bool) → (t ≡ true → c ≡ a) → t ≡ true → c ≡ b

@@ -1,10 +1,7 @@
-use Prim.Native.Nat.{ℕ, ◌+◌, ◌-◌, ◌≤◌, ◌<◌}
-use mathlib.Core.Path.{◌≡◌, refl, ◌∙◌}
-use mathlib.Core.Bool.{Bool}
-use mathlib.Core.List.{List, []}
-use lib.ListN.{length, get_or, drop}
-use borrow.Author.Rules.{rules}
-use Rattle.text.proofs.Utf8Laws.{ascii_on}
+use Prim.Native.Nat.{◌-◌, ◌≤◌}
+use mathlib.Core.Path.{◌≡◌}
+use mathlib.Core.List.{[]}
+use lib.ListN.{length, drop}
 use Rattle.text.specs.Utf8.{well_formed_from}
 use Rattle.utf8.proofs.skip_bytes.Given as goal
 

@@ -1,5 +1,6 @@
 -- `utf8::well_formed` meets its contract. The loop's invariant: the walk from here, with what is due, says what the walk of the whole text says.
 -- Assumes nothing.
+use Rattle.std.specs.Prelude.{None, Option, Some}
 use Prim.Native.Nat.{ℕ, zero, suc, ◌+◌, ◌-◌, ◌≤◌, ◌<◌}
 use mathlib.Core.Path.{◌≡◌, refl, sym, ◌∙◌}
 use mathlib.Core.Bool.{Bool, true, false}
@@ -11,9 +12,8 @@ use borrow.Author.Rules.{rules}
 use Rattle.text.specs.Base.{within}
 use Rattle.text.proofs.Scan.{rest_more, rest-none, flag}
 use Rattle.text.proofs.Utf8Laws.{ascii_on}
-use Rattle.utf8.specs.declared.Lead.{Lead}
-use Rattle.utf8.specs.declared.Lead.TheVariants.{Bad, Due}
 use Rattle.text.specs.Utf8.{◌to◌, table, after, well_formed_from, well_formed}
+use Rattle.utf8.specs.declared.Due.{Due}
 use Rattle.utf8.specs.Utf8Walk.{ranges, due_of}
 use Rattle.utf8.proofs.well_formed.Goals as goal
 
@@ -34,14 +34,14 @@ module _ (s : List ℕ) (i n lo hi : ℕ) (whole : Bool) where
   over : Here → length s ≤ i → eqb n 0 ≡ whole
   over e h = sym (at_end s i n lo hi h) ∙ e
 
-  no_row : Here → i < length s → n ≡ 0 → (l : Lead) → due_of l ≡ after table (get_or s i 0) → l ≡ Bad → false ≡ whole
+  no_row : Here → i < length s → n ≡ 0 → (l : Option Due) → due_of l ≡ after table (get_or s i 0) → l ≡ None → false ≡ whole
   unfolding ranges well_formed_from due_of
   no_row e h z l d b = rw (z, rest_more s i h, ← d, b, well_formed_from) at e
 
-  a-row : Here → i < length s → n ≡ 0 → (l : Lead) (n' lo' hi' : ℕ) → due_of l ≡ after table (get_or s i 0) → l ≡ Due n' lo' hi'
-      → well_formed_from (ranges n' lo' hi') (drop (i + 1) s) ≡ whole
+  a-row : Here → i < length s → n ≡ 0 → (d : Due) → due_of (Some d) ≡ after table (get_or s i 0)
+      → well_formed_from (ranges d.need d.lo d.hi) (drop (i + 1) s) ≡ whole
   unfolding ranges well_formed_from due_of
-  a-row e h z l n' lo' hi' d b = rw (z, rest_more s i h, ← d, b, well_formed_from) at e
+  a-row e h z d q = rw (z, rest_more s i h, ← q, well_formed_from) at e
 
   ascii : Here → i < length s → n ≡ 0 → get_or s i 0 < 0x80 → (r : ℕ) → well_formed_from [] (drop r s) ≡ well_formed_from [] (drop (i + 1) s)
       → well_formed_from (ranges n lo hi) (drop r s) ≡ whole
@@ -80,14 +80,14 @@ loop-i-preserved-then-x-lt128 c = search (rules, walk)
 pub lead_of-requires : goal.lead_of-requires
 lead_of-requires c = search (rules, walk)
 
-pub returns-in-Bad : goal.returns-in-Bad
-returns-in-Bad c = search (rules, walk)
+pub returns-in_default : goal.returns-in_default
+returns-in_default c = search (rules, walk)
 
-pub loop-i-smaller-in-Due : goal.loop-i-smaller-in-Due
-loop-i-smaller-in-Due c = search (rules, walk)
+pub loop-i-smaller-else-x-lt128 : goal.loop-i-smaller-else-x-lt128
+loop-i-smaller-else-x-lt128 c = search (rules, walk)
 
-pub loop-i-preserved-in-Due : goal.loop-i-preserved-in-Due
-loop-i-preserved-in-Due c = search (rules, walk)
+pub loop-i-preserved-else-x-lt128 : goal.loop-i-preserved-else-x-lt128
+loop-i-preserved-else-x-lt128 c = search (rules, walk)
 
 pub in_range-requires : goal.in_range-requires
 in_range-requires c = search (rules, walk)

@@ -1,4 +1,4 @@
--- `verdict_exports::entry_number` meets its contract: 31, then 32, then the verdict. Assumes nothing.
+-- `verdict_exports::entry_number` meets its contract: refusals first, then the verdict. Assumes nothing.
 use Rattle.told.proofs.ToldLaws.{few}
 use Rattle.verdict_exports.proofs.NumberLaws.{outside_text, entry_outside, entry_judged}
 use borrow.Author.Rules.{rules}

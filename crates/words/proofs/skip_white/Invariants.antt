@@ -1,9 +1,7 @@
 use Prim.Native.Nat.{◌-◌}
-use mathlib.Core.Path.{◌≡◌, refl}
+use mathlib.Core.Path.{◌≡◌}
 use lib.ListN.{length, drop}
 use Rattle.text.specs.Words.{word_from, word_at}
-use Rattle.text.proofs.WordLaws.{word_steps}
-use borrow.Author.Rules.{rules}
 use Rattle.words.proofs.skip_white.Given as goal
 
 abbrev pub invariant-loop-i : goal.invariant-loop-i

@@ -1,6 +1,5 @@
 -- `words::word_at` meets its contract: past the White_Space, then past the word. Assumes nothing.
 use mathlib.Core.Path.{◌∙◌}
-use borrow.Author.Rules.{rules}
 use Rattle.words.proofs.word_at.Goals as goal
 
 pub returns : goal.returns

@@ -1,10 +1,6 @@
 -- `written::put_bytes` meets its contract. The loop's invariant: the bytes passed are written. The measure is what is left of the word.
 -- Assumes nothing.
-use Prim.Native.Nat.{◌-◌, ◌≤◌}
-use mathlib.Core.Path.{◌≡◌}
-use lib.ListN.{length, take}
 use borrow.Author.Rules.{rules}
-use Rattle.written.specs.Written.{written_at}
 use Rattle.written.proofs.WrittenLaws.{word_laws}
 use Rattle.written.proofs.put_bytes.Goals as goal
 

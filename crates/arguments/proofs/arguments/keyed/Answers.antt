@@ -7,8 +7,8 @@ use Rattle.arguments.proofs.arguments.keyed.Goals as goal
 
 ruleset bounds = (front_bounds, cut_bounds, sums, not-true, not-false)
 
-pub returns-in-Is : goal.returns-in-Is
-returns-in-Is c = search (rules, bounds, keyed-words)
+pub returns-in-Some : goal.returns-in-Some
+returns-in-Some c = search (rules, bounds, keyed-words)
 
-pub returns-in-Unknown : goal.returns-in-Unknown
-returns-in-Unknown c = search (rules, bounds, keyed-words)
+pub returns-in-None : goal.returns-in-None
+returns-in-None c = search (rules, bounds, keyed-words)

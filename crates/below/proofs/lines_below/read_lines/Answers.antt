@@ -45,8 +45,8 @@ overflow_add-x c =
     let q = expects-fits _ _ _ _ _ _ _ _ L.starts L.ends L.items L.expectations L.pairs L.expects _ L.invariant.8 L.number c.look-turn.result.step.role _ m _ c.in-Expects.is 0x8000 L.invariant.7 in
     search (rules, q)
 
-pub put_expectation-requires : goal.put_expectation-requires
-put_expectation-requires c =
+pub put-requires : goal.put-requires
+put-requires c =
     let L = c.loop-at in
     let text = c.args.text.now in
     let m = roles_more text L.w L.at L.number (search rules) c.look-turn.result.step c.look-turn.result.next (search rules) (search rules) in
@@ -112,7 +112,7 @@ loop-at-preserved c =
                 _ _ _ _ _ _ w.starts-is w.ends-is w.items-is w.expectations-is (w.pairs-is ∙ ap (λ (n : ℕ). L.pairs + n) w.say-pairs.ensures.value) w.expects-is
             | in-Expects w ↦
                 led_same _ _ _ _ _ _ _ _ _ _ _ _ _ _ _
-                (led_expects _ _ _ _ _ _ _ _ L.starts L.ends L.items L.expectations L.pairs L.expects _ L.invariant.8 L.number c.look-turn.result.step.role _ m _ w.in-Expects.is _ (w.put_expectation.ensures ∙ ap (set L.expectations _) w.expectation_of-e.ensures))
+                (led_expects _ _ _ _ _ _ _ _ L.starts L.ends L.items L.expectations L.pairs L.expects _ L.invariant.8 L.number c.look-turn.result.step.role _ m _ w.in-Expects.is _ (w.put.ensures ∙ ap (set L.expectations _) w.expectation_of-e.ensures))
                 _ _ _ _ _ _ w.starts-is w.ends-is w.items-is w.expectations-is w.pairs-is w.expects-is
             | in-Bad w ↦ led_same _ _ _ _ _ _ _ _ _ _ _ _ _ _ _ (led_bad _ _ _ _ _ _ _ _ L.starts L.ends L.items L.expectations L.pairs L.expects _ L.invariant.8 L.number c.look-turn.result.step.role _ m _ w.in-Bad.is) _ _ _ _ _ _ w.starts-is w.ends-is w.items-is w.expectations-is w.pairs-is w.expects-is
           ])

@@ -8,8 +8,8 @@ use Rattle.closing.proofs.front.put_features_of.Goals as goal
 pub put_features-requires : goal.put_features-requires
 put_features-requires c = search (rules, item_laws, said_laws, said_in)
 
-pub returns-in-Absent : goal.returns-in-Absent
-returns-in-Absent c = search (rules, none_laws, item_laws, said_laws)
+pub returns-in-None : goal.returns-in-None
+returns-in-None c = search (rules, none_laws, item_laws, said_laws)
 
-pub returns-in-Is : goal.returns-in-Is
-returns-in-Is c = search (rules, same_laws, item_laws, said_laws)
+pub returns-in-Some : goal.returns-in-Some
+returns-in-Some c = search (rules, same_laws, item_laws, said_laws)

@@ -5,12 +5,9 @@ use Rattle.counts.proofs.CountLaws.{word_counts}
 use borrow.Author.Rules.{rules}
 use Rattle.counts.proofs.counts.word_count.Goals as goal
 
-pub loop-at-init : goal.loop-at-init
+pub loop-w-init : goal.loop-w-init
 unfolding words
-loop-at-init c = (search rules, search rules, zero-add _)
-
-pub word_at-w-requires : goal.word_at-w-requires
-word_at-w-requires c = search (rules, word_counts)
+loop-w-init c = (search rules, search rules, zero-add _)
 
 pub returns-then-w : goal.returns-then-w
 returns-then-w c = search (rules, word_counts)
@@ -18,11 +15,8 @@ returns-then-w c = search (rules, word_counts)
 pub overflow_add-n : goal.overflow_add-n
 overflow_add-n c = search (rules, word_counts)
 
-pub loop-at-smaller : goal.loop-at-smaller
-loop-at-smaller c = search (rules, word_counts)
+pub loop-w-smaller : goal.loop-w-smaller
+loop-w-smaller c = search (rules, word_counts)
 
-pub loop-at-preserved : goal.loop-at-preserved
-loop-at-preserved c = search (rules, word_counts)
-
-pub returns : goal.returns
-returns c = search (rules, word_counts)
+pub loop-w-preserved : goal.loop-w-preserved
+loop-w-preserved c = search (rules, word_counts)

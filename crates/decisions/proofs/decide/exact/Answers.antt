@@ -5,4 +5,4 @@ use Rattle.decisions.proofs.decide.exact.Goals as goal
 
 pub returns : goal.returns
 unfolding decides
-returns c = c.passed_if.ensures ∙ ap passed_if c.same_value.ensures
+returns c = c.passed_if.ensures ∙ ap passed_if c.same.ensures

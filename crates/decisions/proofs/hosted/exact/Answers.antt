@@ -4,4 +4,4 @@ use Rattle.verdicts.specs.Verdicts.{code}
 use Rattle.decisions.proofs.hosted.exact.Goals as goal
 
 pub returns : goal.returns
-returns c = c.code_of.ensures ∙ ap code c.exact.ensures
+returns c = c.from.ensures ∙ ap code c.exact.ensures

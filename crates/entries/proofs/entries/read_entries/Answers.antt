@@ -1,7 +1,7 @@
 -- `entries::entries::read_entries` meets its contract. Assumes nothing.
+use Rattle.std.specs.Prelude.{None}
 use Prim.Native.Nat.{ℕ, ◌+◌}
 use mathlib.Core.Path.{◌≡◌, refl, ap}
-use Rattle.below.specs.declared.lines_below.Next.TheVariants.{End}
 use Rattle.entries.proofs.EntriesLaws.{next_falls, next_in, next_weaker, gone_first, gone_store, all_table, all_items, all_expectations, all_store, table-room, items-room, expectations-room, store-room, table_fits, items_fit, expectations_fit, gone_on}
 use borrow.Author.Rules.{rules}
 use Rattle.entries.proofs.entries.read_entries.Goals as goal
@@ -9,36 +9,36 @@ use Rattle.entries.proofs.entries.read_entries.Goals as goal
 pub loop-next-init : goal.loop-next-init
 loop-next-init c = (search rules, search rules, search rules, search rules, search rules, gone_first _ _ _ _ _ _ _ _ c.requires.early_in_bounds c.requires.early_in_bounds_2 c.requires.early_in_bounds_3 c.requires.early_in_bounds_4)
 
-pub returns-in_default-clause-entries_after : goal.returns-in_default-clause-entries_after
-returns-in_default-clause-entries_after c =
+pub returns-clause-entries_after : goal.returns-clause-entries_after
+returns-clause-entries_after c =
     let text = c.args.text.now in
     let L = c.loop-next in
     let G = L.invariant.5 in
-    let e : L.next ≡ End = search rules in
+    let e : L.next ≡ None = search rules in
     all_table text _ _ _ _ _ _ _ L.next L.entries L.items L.expectations L.store L.n L.i L.x L.b G e
 
-pub returns-in_default-clause-after : goal.returns-in_default-clause-after
-returns-in_default-clause-after c =
+pub returns-clause-after : goal.returns-clause-after
+returns-clause-after c =
     let text = c.args.text.now in
     let L = c.loop-next in
     let G = L.invariant.5 in
-    let e : L.next ≡ End = search rules in
+    let e : L.next ≡ None = search rules in
     all_items text _ _ _ _ _ _ _ L.next L.entries L.items L.expectations L.store L.n L.i L.x L.b G e
 
-pub returns-in_default-clause-expectations_after : goal.returns-in_default-clause-expectations_after
-returns-in_default-clause-expectations_after c =
+pub returns-clause-expectations_after : goal.returns-clause-expectations_after
+returns-clause-expectations_after c =
     let text = c.args.text.now in
     let L = c.loop-next in
     let G = L.invariant.5 in
-    let e : L.next ≡ End = search rules in
+    let e : L.next ≡ None = search rules in
     all_expectations text _ _ _ _ _ _ _ L.next L.entries L.items L.expectations L.store L.n L.i L.x L.b G e
 
-pub returns-in_default-clause-store_after : goal.returns-in_default-clause-store_after
-returns-in_default-clause-store_after c =
+pub returns-clause-store_after : goal.returns-clause-store_after
+returns-clause-store_after c =
     let text = c.args.text.now in
     let L = c.loop-next in
     let G = L.invariant.5 in
-    let e : L.next ≡ End = search rules in
+    let e : L.next ≡ None = search rules in
     all_store text _ _ _ _ _ _ _ L.next L.entries L.items L.expectations L.store L.n L.i L.x L.b G e
 
 pub read_entry-r-requires-clause-at_in_bounds : goal.read_entry-r-requires-clause-at_in_bounds
@@ -46,7 +46,7 @@ read_entry-r-requires-clause-at_in_bounds c =
     let text = c.args.text.now in
     let L = c.loop-next in
     let G = L.invariant.5 in
-    let N = c.in-Entry.is in
+    let N = c.in-Some.is in
     let i = next_in text L.next _ N L.invariant.1 in
     i.0
 
@@ -55,7 +55,7 @@ read_entry-r-requires-clause-line_le_at c =
     let text = c.args.text.now in
     let L = c.loop-next in
     let G = L.invariant.5 in
-    let N = c.in-Entry.is in
+    let N = c.in-Some.is in
     let i = next_in text L.next _ N L.invariant.1 in
     i.1
 
@@ -64,7 +64,7 @@ read_entry-r-requires-clause-fact c =
     let text = c.args.text.now in
     let L = c.loop-next in
     let G = L.invariant.5 in
-    let N = c.in-Entry.is in
+    let N = c.in-Some.is in
     let i = next_in text L.next _ N L.invariant.1 in
     i.2
 
@@ -73,7 +73,7 @@ read_entry-r-requires-clause-n_in_bounds c =
     let text = c.args.text.now in
     let L = c.loop-next in
     let G = L.invariant.5 in
-    let N = c.in-Entry.is in
+    let N = c.in-Some.is in
     let i = next_in text L.next _ N L.invariant.1 in
     table-room text _ _ _ _ _ _ _ L.next L.entries L.items L.expectations L.store L.n L.i L.x L.b G _ N
 
@@ -82,7 +82,7 @@ read_entry-r-requires-clause-a_in_bounds c =
     let text = c.args.text.now in
     let L = c.loop-next in
     let G = L.invariant.5 in
-    let N = c.in-Entry.is in
+    let N = c.in-Some.is in
     let i = next_in text L.next _ N L.invariant.1 in
     items-room text _ _ _ _ _ _ _ L.next L.entries L.items L.expectations L.store L.n L.i L.x L.b G _ N
 
@@ -91,7 +91,7 @@ read_entry-r-requires-clause-a_bound c =
     let text = c.args.text.now in
     let L = c.loop-next in
     let G = L.invariant.5 in
-    let N = c.in-Entry.is in
+    let N = c.in-Some.is in
     let i = next_in text L.next _ N L.invariant.1 in
     items_fit text _ _ _ _ _ _ _ L.next L.entries L.items L.expectations L.store L.n L.i L.x L.b G _ N 0x8000 L.invariant.3
 
@@ -100,7 +100,7 @@ read_entry-r-requires-clause-a_in_bounds_2 c =
     let text = c.args.text.now in
     let L = c.loop-next in
     let G = L.invariant.5 in
-    let N = c.in-Entry.is in
+    let N = c.in-Some.is in
     let i = next_in text L.next _ N L.invariant.1 in
     expectations-room text _ _ _ _ _ _ _ L.next L.entries L.items L.expectations L.store L.n L.i L.x L.b G _ N
 
@@ -109,7 +109,7 @@ read_entry-r-requires-clause-a_bound_2 c =
     let text = c.args.text.now in
     let L = c.loop-next in
     let G = L.invariant.5 in
-    let N = c.in-Entry.is in
+    let N = c.in-Some.is in
     let i = next_in text L.next _ N L.invariant.1 in
     expectations_fit text _ _ _ _ _ _ _ L.next L.entries L.items L.expectations L.store L.n L.i L.x L.b G _ N 0x8000 L.invariant.4
 
@@ -118,7 +118,7 @@ read_entry-r-requires-clause-a_in_bounds_3 c =
     let text = c.args.text.now in
     let L = c.loop-next in
     let G = L.invariant.5 in
-    let N = c.in-Entry.is in
+    let N = c.in-Some.is in
     let i = next_in text L.next _ N L.invariant.1 in
     store-room text _ _ _ _ _ _ _ L.next L.entries L.items L.expectations L.store L.n L.i L.x L.b G _ N
 
@@ -127,7 +127,7 @@ overflow_add-n c =
     let text = c.args.text.now in
     let L = c.loop-next in
     let G = L.invariant.5 in
-    let N = c.in-Entry.is in
+    let N = c.in-Some.is in
     let R = c.read_entry-r in
     search (rules, table_fits text _ _ _ _ _ _ _ L.next L.entries L.items L.expectations L.store L.n L.i L.x L.b G _ N 0x8000 L.invariant.2)
 
@@ -136,7 +136,7 @@ overflow_add-i c =
     let text = c.args.text.now in
     let L = c.loop-next in
     let G = L.invariant.5 in
-    let N = c.in-Entry.is in
+    let N = c.in-Some.is in
     let R = c.read_entry-r in
     search (rules, R.ensures.result_value, items_fit text _ _ _ _ _ _ _ L.next L.entries L.items L.expectations L.store L.n L.i L.x L.b G _ N 0x8000 L.invariant.3)
 
@@ -145,7 +145,7 @@ overflow_add-x c =
     let text = c.args.text.now in
     let L = c.loop-next in
     let G = L.invariant.5 in
-    let N = c.in-Entry.is in
+    let N = c.in-Some.is in
     let R = c.read_entry-r in
     search (rules, R.ensures.expects_value, expectations_fit text _ _ _ _ _ _ _ L.next L.entries L.items L.expectations L.store L.n L.i L.x L.b G _ N 0x8000 L.invariant.4)
 
@@ -154,7 +154,7 @@ overflow_add-b c =
     let text = c.args.text.now in
     let L = c.loop-next in
     let G = L.invariant.5 in
-    let N = c.in-Entry.is in
+    let N = c.in-Some.is in
     let R = c.read_entry-r in
     search (rules, R.ensures.store_value, store-room text _ _ _ _ _ _ _ L.next L.entries L.items L.expectations L.store L.n L.i L.x L.b G _ N, gone_store text _ _ _ _ _ _ _ L.next L.entries L.items L.expectations L.store L.n L.i L.x L.b G, c.well_formed.1.1.1.1.1.1.1.1.0)
 
@@ -163,7 +163,7 @@ loop-next-smaller c =
     let text = c.args.text.now in
     let L = c.loop-next in
     let G = L.invariant.5 in
-    let N = c.in-Entry.is in
+    let N = c.in-Some.is in
     let R = c.read_entry-r in
     next_falls text L.next _ N _ (next_in text L.next _ N L.invariant.1).0 R.ensures.next_in
 
@@ -172,7 +172,7 @@ loop-next-preserved c =
     let text = c.args.text.now in
     let L = c.loop-next in
     let G = L.invariant.5 in
-    let N = c.in-Entry.is in
+    let N = c.in-Some.is in
     let R = c.read_entry-r in (
       search rules,
       next_weaker text _ _ R.ensures.next_in,

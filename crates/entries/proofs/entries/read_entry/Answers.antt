@@ -122,9 +122,9 @@ entry_of-e-requires-clause-second_bound c =
     let P = c.put_values-z in
     entry_fits text a i x b T.result T.ensures _ _ U R.result.pairs R.ensures.pairs_value P.result P.ensures.value (length c.args.store.now) _ c.requires.a_in_bounds_3 (search (rules, c.well_formed.1.1.1.1.1.1.1.1.1.0))
 
-pub put_entry-requires : goal.put_entry-requires
+pub put-requires : goal.put-requires
 unfolding entry_at entry_of
-put_entry-requires c = c.requires.n_in_bounds
+put-requires c = c.requires.n_in_bounds
 
 pub advanced-requires : goal.advanced-requires
 unfolding entry_at entry_of
@@ -153,7 +153,7 @@ returns c =
     let U = R.ensures.k_after in
     let P = c.put_values-z in
     let E = c.entry_of-e in
-    let Q = c.put_entry in
+    let Q = c.put in
     let A = c.advanced.ensures in
     record {
       result_value = says-items text P.result R.result.expects R.result.next c.advanced.result A _ (item_count text a i x b T.result T.ensures _ _ U R.result.pairs R.ensures.pairs_value P.result P.ensures.value);

@@ -39,8 +39,8 @@ slice_bounds-decode-start c =
 pub slice_bounds-decode-end : goal.slice_bounds-decode-end
 slice_bounds-decode-end c = search (rules, bytes_laws, word_places)
 
-pub returns-in_default : goal.returns-in_default
-returns-in_default c = search (rules, bytes_laws, word_places)
+pub returns-in_err-value : goal.returns-in_err-value
+returns-in_err-value c = search (rules, bytes_laws, word_places)
 
 pub returns : goal.returns
 returns c = search (rules, bytes_laws, word_places)

@@ -13,8 +13,8 @@ slice_bounds-parse_i64-start c = search (rules, integer_laws, word_places)
 pub slice_bounds-parse_i64-end : goal.slice_bounds-parse_i64-end
 slice_bounds-parse_i64-end c = search (rules, integer_laws, word_places)
 
-pub returns-in_default : goal.returns-in_default
-returns-in_default c = search (rules, integer_laws, word_places)
+pub returns-in_err-value : goal.returns-in_err-value
+returns-in_err-value c = search (rules, integer_laws, word_places)
 
 pub returns : goal.returns
 returns c = search (rules, integer_laws, word_places)

@@ -5,15 +5,19 @@ use mathlib.Core.Path.{◌≡◌, refl, sym, ◌∙◌}
 use mathlib.Core.Bool.{Bool, true, false}
 use mathlib.Core.List.{List}
 use native.Mathlib.Omega.{arith}
-use lib.ListN.{length, get_or, take, drop}
+use lib.ListN.{length-drop, length, get_or, take, drop}
 use Rattle.text.specs.Parts.{starts_with}
 use Rattle.verdicts.specs.Decisions.{contains}
 use Rattle.finding.specs.Places.{Apart}
-use Rattle.same_values.proofs.EqualLaws.{rest-is}
 use Rattle.finding.proofs.SearchLaws.{empty_in}
 use Rattle.finding.proofs.PlaceLaws.{short_left, found_at, not_at, passed_by}
 use borrow.Author.Rules.{rules}
 use Rattle.finding.proofs.search.contains.Goals as goal
+use lib.Seq.{take_all}
+
+-- the part of a text from i on is its rest
+rest-is : (s : List ℕ) (i : ℕ) → take (length s - i) (drop i s) ≡ drop i s
+rest-is s i = take_all (length s - i) (drop i s) (omega (arith, length-drop i s))
 
 -- how far the last byte stands behind the first
 abbrev reach : (p : List ℕ) → ℕ

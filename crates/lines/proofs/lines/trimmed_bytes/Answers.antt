@@ -41,9 +41,6 @@ pub loop-at-init : goal.loop-at-init
 unfolding lines
 loop-at-init c = (search rules, search rules, search rules, zero-add _)
 
-pub line_at-l-requires : goal.line_at-l-requires
-line_at-l-requires c = search (rules, walk)
-
 pub slice_bounds-trim-count : goal.slice_bounds-trim-count
 slice_bounds-trim-count c = search (rules, walk)
 
@@ -53,17 +50,11 @@ slice_bounds-trim-start c = search (rules, walk)
 pub slice_bounds-trim-end : goal.slice_bounds-trim-end
 slice_bounds-trim-end c = search (rules, walk)
 
-pub trim-bytes-requires : goal.trim-bytes-requires
-trim-bytes-requires c = search (rules, walk)
-
-pub overflow_add-number : goal.overflow_add-number
-overflow_add-number c = search (rules, walk)
+pub loop-at-smaller : goal.loop-at-smaller
+loop-at-smaller c = search (rules, walk)
 
 pub overflow_add-sum : goal.overflow_add-sum
 overflow_add-sum c = search (rules, walk)
-
-pub loop-at-smaller : goal.loop-at-smaller
-loop-at-smaller c = search (rules, walk)
 
 pub loop-at-preserved : goal.loop-at-preserved
 loop-at-preserved c = search (rules, walk)

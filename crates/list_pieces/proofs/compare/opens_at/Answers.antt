@@ -26,8 +26,8 @@ returns-then-left-here c = search (rules, list_turns)
 pub loop-k-preserved : goal.loop-k-preserved
 loop-k-preserved c = (search rules, search rules, search rules, search (rules, list_turns))
 
-pub returns-else-begins : goal.returns-else-begins
-returns-else-begins c = search (rules, list_turns)
+pub returns-else-starts_with : goal.returns-else-starts_with
+returns-else-starts_with c = search (rules, list_turns)
 
 pub returns : goal.returns
 returns c = search (rules, list_turns)

@@ -1,29 +1,24 @@
 -- `matchers::matchers::less` meets its contract: the second sign tells the comparison, and a number is behind it or not. Assumes nothing.
 use Rattle.script.specs.declared.records.Matcher.TheVariants.{LessThan, LessOrEqual}
-use Rattle.matchers.specs.MatcherAnswers.{matcher_of}
 use Rattle.pieces.proofs.BehindLaws.{front_bounds}
-use Rattle.matchers.proofs.MatcherLaws.{number_read, number-bad, signs}
+use Rattle.matchers.proofs.MatcherLaws.{number_read, number-bad, less_or_equal, less_than}
 use borrow.Author.Rules.{rules}
 use Rattle.matchers.proofs.matchers.less.Goals as goal
 
 pub number_behind-requires : goal.number_behind-requires
 number_behind-requires c = search (rules, front_bounds)
 
-pub returns-in-Value : goal.returns-in-Value
-unfolding matcher_of
-returns-in-Value c = search (rules, signs, number_read LessOrEqual)
+pub returns-then-begins : goal.returns-then-begins
+returns-then-begins c = number_read LessOrEqual _ _ (less_or_equal _ _ c.requires.s_value _ c.begins.ensures.value c.if-begins.true) _ c.number_behind.ensures _ c.in_ok-number_behind.was (search rules)
 
-pub returns-in-Bad : goal.returns-in-Bad
-unfolding matcher_of
-returns-in-Bad c = search (rules, signs, number-bad LessOrEqual)
+pub returns-in_err-number_behind : goal.returns-in_err-number_behind
+returns-in_err-number_behind c = search (rules, number-bad LessOrEqual _ _ (less_or_equal _ _ c.requires.s_value _ c.begins.ensures.value c.if-begins.true) _ c.number_behind.ensures _ c.in_err-number_behind.was)
 
 pub number_behind-requires-2 : goal.number_behind-requires-2
 number_behind-requires-2 c = search (rules, front_bounds)
 
-pub returns-in-Value-number_behind : goal.returns-in-Value-number_behind
-unfolding matcher_of
-returns-in-Value-number_behind c = search (rules, signs, number_read LessThan)
+pub returns : goal.returns
+returns c = number_read LessThan _ _ (less_than _ _ c.requires.s_value _ c.begins.ensures.value c.if-begins.false) _ c.number_behind-2.ensures _ c.in_ok-number_behind-2.was (search rules)
 
-pub returns-in-Bad-number_behind : goal.returns-in-Bad-number_behind
-unfolding matcher_of
-returns-in-Bad-number_behind c = search (rules, signs, number-bad LessThan)
+pub returns-in_err-number_behind-2 : goal.returns-in_err-number_behind-2
+returns-in_err-number_behind-2 c = search (rules, number-bad LessThan _ _ (less_than _ _ c.requires.s_value _ c.begins.ensures.value c.if-begins.false) _ c.number_behind-2.ensures _ c.in_err-number_behind-2.was)

@@ -1,9 +1,7 @@
 -- `matchers::matchers::matcher` meets its contract: the first byte tells the form. Assumes nothing.
-use Rattle.matchers.specs.MatcherAnswers.{matcher_of}
 use Rattle.matchers.proofs.MatcherLaws.{exact}
 use borrow.Author.Rules.{rules}
 use Rattle.matchers.proofs.matchers.matcher.Goals as goal
 
 pub returns : goal.returns
-unfolding matcher_of
 returns c = search (rules, exact)

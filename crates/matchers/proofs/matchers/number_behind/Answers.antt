@@ -1,8 +1,8 @@
 -- `matchers::matchers::number_behind` meets its contract: the bytes read are those of the trimmed piece. Assumes nothing.
+use Rattle.std.specs.Prelude.{Option}
 use Prim.Native.Nat.{ℕ, ◌-◌}
 use mathlib.Core.Path.{◌≡◌, ap, ◌∙◌}
 use mathlib.Core.List.{List}
-use mathlib.Core.Option.{Option}
 use lib.IntN.{ℤ}
 use Rattle.text.specs.Base.{part}
 use Rattle.values.specs.Numbers.{signed}

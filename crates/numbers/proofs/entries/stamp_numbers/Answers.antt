@@ -7,10 +7,10 @@ use Rattle.numbers.proofs.NumberLaws.{stamp_by, stamp-at}
 use borrow.Author.Rules.{rules}
 use Rattle.numbers.proofs.entries.stamp_numbers.Goals as goal
 
-pub returns-in-Absent : goal.returns-in-Absent
+pub returns-in-None : goal.returns-in-None
 unfolding stamp_numbers
-returns-in-Absent c = search (rules, stamp_by)
+returns-in-None c = search (rules, stamp_by)
 
-pub returns-in-At : goal.returns-in-At
+pub returns-in-Some : goal.returns-in-Some
 unfolding stamp_numbers
-returns-in-At c = stamp-at _ c.in-At.t _ _ c.in-At.is c.flag.ensures (c.unsigned.ensures ∙ ap unsigned (to_z-of_z w64 c.in-At.t.decimals (search rules)))
+returns-in-Some c = stamp-at _ c.in-Some.t _ _ c.in-Some.is c.flag.ensures (c.unsigned.ensures ∙ ap unsigned (to_z-of_z w64 c.in-Some.t.decimals (search rules)))

@@ -1,4 +1,5 @@
 -- `parse::measure::measure_keeping` meets its contract. Assumes nothing.
+use Rattle.std.specs.Prelude.{Err}
 use Prim.Native.Nat.{ℕ, ◌≤◌, ◌<◌}
 use mathlib.Core.Path.{◌≡◌, sym, ◌∙◌}
 use mathlib.Core.Bool.{Bool, true, false}
@@ -7,27 +8,27 @@ use lib.ListN.{length}
 use borrow.Author.Tests.{lt-ltb, le-ltb, not-true, not-false}
 use Rattle.text.specs.Lines.{lines}
 use Rattle.text.specs.Utf8.{well_formed}
-use Rattle.script.specs.Reading.{refusal, measured}
+use Rattle.script.specs.Reading.{measured, Parsed}
+use Rattle.script.specs.Refusals.{refusal}
 use Rattle.script.specs.declared.roles.Where.TheVariants.{InPreamble}
-use Rattle.parse.specs.declared.measure.Measured.{Measured}
-use Rattle.parse.specs.declared.measure.Measured.TheVariants.{Refused}
 use Rattle.measuring.specs.Measure.{zeros, preamble_open, walk_from, measured_by}
-use Rattle.parse.specs.MeasureRead.{measured_of}
 use Rattle.measuring.proofs.MeasureLaws.{measured-is}
 use borrow.Author.Rules.{rules}
 use Rattle.parse.proofs.measure.measure_keeping.Goals as goal
+use Rattle.script.specs.declared.records.Counts.{Counts}
+use Rattle.script.specs.declared.refusals.Reason.TheVariants.{NotUtf8, TextTooLong}
 
 module _ (text : List ℕ) where
-  long : 0x8000 < length text → measured_of (Refused (refusal 1 0)) ≡ measured text
-  unfolding measured_by measured_of
+  long : 0x8000 < length text → Err (refusal TextTooLong 0) ≡ measured text
+  unfolding measured_by
   long h = rw (lt-ltb 0x8000 (length text) h) at (measured-is text)
 
   module _ (h : length text ≤ 0x8000) (b : Bool) (e : b ≡ well_formed text) where
-    ill : b ≡ false → measured_of (Refused (refusal 2 0)) ≡ measured text
-    unfolding measured_by measured_of
+    ill : b ≡ false → Err (refusal NotUtf8 0) ≡ measured text
+    unfolding measured_by
     ill f = rw (le-ltb 0x8000 (length text) h, sym e ∙ f) at (measured-is text)
 
-    walked : b ≡ true → (r : Measured) → measured_of r ≡ walk_from text zeros preamble_open InPreamble (lines text) → measured_of r ≡ measured text
+    walked : b ≡ true → (r : Parsed Counts) → r ≡ walk_from text zeros preamble_open InPreamble (lines text) → r ≡ measured text
     unfolding measured_by
     walked t r q = q ∙ (rw (le-ltb 0x8000 (length text) h, sym e ∙ t) at (measured-is text))
 

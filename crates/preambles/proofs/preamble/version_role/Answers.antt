@@ -4,10 +4,10 @@ use Rattle.script.specs.Pieces.{bytes}
 use borrow.Author.Rules.{rules}
 use Rattle.preambles.proofs.preamble.version_role.Goals as goal
 
-pub returns-in-Read : goal.returns-in-Read
+pub returns-in-Some : goal.returns-in-Some
 unfolding bytes
-returns-in-Read c = search (rules, version-read)
+returns-in-Some c = search (rules, version-read)
 
-pub returns-in-Bad : goal.returns-in-Bad
+pub returns-in-None : goal.returns-in-None
 unfolding bytes
-returns-in-Bad c = search (rules, version-bad)
+returns-in-None c = search (rules, version-bad)

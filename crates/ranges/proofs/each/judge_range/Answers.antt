@@ -45,7 +45,7 @@ loop-i-preserved c =
       search rules,
       (next_fits s.text.now s.expectations.now s.r g (length s.scratch.now) l.i (search rules) (search rules) l.invariant.2).1,
       judging_on s.text.now s.expectations.now s.r (verdict (held_by s.bytes.now s.lists.now s.h)) g s.verdicts.now s.scratch.now s.counts l.verdicts l.scratch l.c l.i l.invariant.3 (search rules)
-          q.result q.ensures.value c.code_of.result c.code_of.ensures _ (q.ensures.scratch_after ∙ overlaid_present (g _) l.scratch) c.add-c.result c.add-c.ensures,
+          q.result q.ensures.value c.from.result c.from.ensures _ (q.ensures.scratch_after ∙ overlaid_present (g _) l.scratch) c.add-c.result c.add-c.ensures,
     )
 
 pub returns-clause-value : goal.returns-clause-value

@@ -1,34 +1,30 @@
 -- `ranges::steps::judge_on` meets its contract. Assumes nothing.
 use native.Mathlib.Omega.{arith}
-use Rattle.ranges.proofs.JudgeLaws.{few_counts}
-use Rattle.ranges.proofs.StepLaws.{refused-leaves, judging, judging_number, judging_fits, judging_values, judging_leaves}
+use lib.ListN.{length}
+use Rattle.verdicts.specs.Lookup.{looked}
+use Rattle.verdicts.specs.Subjects.{held_by}
+use Rattle.ranges.proofs.StepLaws.{Begun, begun}
 use Rattle.ranges.proofs.steps.judge_on.Goals as goal
+use Rattle.ranges.proofs.steps.judge_on.Goals.{After-settled-q}
 
-pub returns-then-n-ne0 : goal.returns-then-n-ne0
-returns-then-n-ne0 c = record { verdicts_after = (let s = c.args in let n = c.refusal_of-n in refused-leaves s.next s.counts s.text.now s.script s.expectations.now s.entries s.r s.number s.h s.bytes.now s.lists.now s.verdicts.now s.scratch.now n.result n.ensures (λ z. omega arith) c.refused.result c.refused.ensures).0; scratch_after = (let s = c.args in let n = c.refusal_of-n in refused-leaves s.next s.counts s.text.now s.script s.expectations.now s.entries s.r s.number s.h s.bytes.now s.lists.now s.verdicts.now s.scratch.now n.result n.ensures (λ z. omega arith) c.refused.result c.refused.ensures).1 }
+-- a judging that comes so far is not refused
+begun_of : (c : After-settled-q) → let s = c.args in Begun s.next s.counts s.text.now s.expectations.now s.entries s.number (looked (held_by s.bytes.now s.lists.now s.h)) (length s.verdicts.now) (length s.scratch.now) c.settled-q.result
+begun_of c = let s = c.args in begun s.next s.counts s.text.now s.script s.expectations.now s.entries s.r s.number s.h s.bytes.now s.lists.now _ _ _ _ _ c.refusal_of-tried.ensures c.in_default.is c.settled-q.ensures
 
 pub judge_range-after-requires-clause-count_in_bounds : goal.judge_range-after-requires-clause-count_in_bounds
-judge_range-after-requires-clause-count_in_bounds c =
-    let s = c.args in let n = c.refusal_of-n in let w = c.settled-q in let z = judging s.next s.counts s.text.now s.script s.expectations.now s.entries s.r s.number s.h s.bytes.now s.lists.now s.verdicts.now s.scratch.now n.result n.ensures c.if-n-ne0.false in let f = judging_fits s.next s.counts s.text.now s.script s.expectations.now s.entries s.r s.number s.h s.bytes.now s.lists.now s.verdicts.now s.scratch.now n.result n.ensures c.if-n-ne0.false w.result w.ensures in f.0
+judge_range-after-requires-clause-count_in_bounds c = (begun_of (goal.at.judge_range-after-requires-clause-count_in_bounds c).After-settled-q).in_table
 
 pub judge_range-after-requires-clause-count_in_bounds_2 : goal.judge_range-after-requires-clause-count_in_bounds_2
-judge_range-after-requires-clause-count_in_bounds_2 c =
-    let s = c.args in let n = c.refusal_of-n in let w = c.settled-q in let z = judging s.next s.counts s.text.now s.script s.expectations.now s.entries s.r s.number s.h s.bytes.now s.lists.now s.verdicts.now s.scratch.now n.result n.ensures c.if-n-ne0.false in let f = judging_fits s.next s.counts s.text.now s.script s.expectations.now s.entries s.r s.number s.h s.bytes.now s.lists.now s.verdicts.now s.scratch.now n.result n.ensures c.if-n-ne0.false w.result w.ensures in f.1
+judge_range-after-requires-clause-count_in_bounds_2 c = (begun_of (goal.at.judge_range-after-requires-clause-count_in_bounds_2 c).After-settled-q).in_list
 
 pub judge_range-after-requires-clause-count_bound : goal.judge_range-after-requires-clause-count_bound
-judge_range-after-requires-clause-count_bound c =
-    let s = c.args in let n = c.refusal_of-n in let w = c.settled-q in let z = judging s.next s.counts s.text.now s.script s.expectations.now s.entries s.r s.number s.h s.bytes.now s.lists.now s.verdicts.now s.scratch.now n.result n.ensures c.if-n-ne0.false in let f = judging_fits s.next s.counts s.text.now s.script s.expectations.now s.entries s.r s.number s.h s.bytes.now s.lists.now s.verdicts.now s.scratch.now n.result n.ensures c.if-n-ne0.false w.result w.ensures in f.2
+judge_range-after-requires-clause-count_bound c = (begun_of (goal.at.judge_range-after-requires-clause-count_bound c).After-settled-q).among_first
 
 pub judge_range-after-requires-clause-passed_bound : goal.judge_range-after-requires-clause-passed_bound
-judge_range-after-requires-clause-passed_bound c =
-    let s = c.args in let n = c.refusal_of-n in let w = c.settled-q in let z = judging s.next s.counts s.text.now s.script s.expectations.now s.entries s.r s.number s.h s.bytes.now s.lists.now s.verdicts.now s.scratch.now n.result n.ensures c.if-n-ne0.false in let f = judging_fits s.next s.counts s.text.now s.script s.expectations.now s.entries s.r s.number s.h s.bytes.now s.lists.now s.verdicts.now s.scratch.now n.result n.ensures c.if-n-ne0.false w.result w.ensures in few_counts s.counts z.few
+judge_range-after-requires-clause-passed_bound c = (begun_of (goal.at.judge_range-after-requires-clause-passed_bound c).After-settled-q).few
 
 pub judge_range-after-requires-clause-r_value : goal.judge_range-after-requires-clause-r_value
-judge_range-after-requires-clause-r_value c =
-    let s = c.args in let n = c.refusal_of-n in let w = c.settled-q in let z = judging s.next s.counts s.text.now s.script s.expectations.now s.entries s.r s.number s.h s.bytes.now s.lists.now s.verdicts.now s.scratch.now n.result n.ensures c.if-n-ne0.false in let f = judging_fits s.next s.counts s.text.now s.script s.expectations.now s.entries s.r s.number s.h s.bytes.now s.lists.now s.verdicts.now s.scratch.now n.result n.ensures c.if-n-ne0.false w.result w.ensures in judging_values s.next s.counts s.text.now s.script s.expectations.now s.entries s.r s.number s.h s.bytes.now s.lists.now s.verdicts.now s.scratch.now n.result n.ensures c.if-n-ne0.false w.result w.ensures
+judge_range-after-requires-clause-r_value c = (begun_of (goal.at.judge_range-after-requires-clause-r_value c).After-settled-q).fit
 
-pub judged-requires : goal.judged-requires
-judged-requires c = let s = c.args in let n = c.refusal_of-n in omega (arith, judging_number s.next s.counts s.text.now s.script s.expectations.now s.entries s.r s.number s.h s.bytes.now s.lists.now s.verdicts.now s.scratch.now n.result n.ensures c.if-n-ne0.false, c.requires.entries_bound)
-
-pub returns : goal.returns
-returns c = record { verdicts_after = (let s = c.args in let n = c.refusal_of-n in let w = c.settled-q in let j = c.judge_range-after in judging_leaves s.next s.counts s.text.now s.script s.expectations.now s.entries s.r s.number s.h s.bytes.now s.lists.now s.verdicts.now s.scratch.now n.result n.ensures c.if-n-ne0.false w.result w.ensures j.result j.ensures.value _ j.ensures.verdicts_after _ j.ensures.scratch_after c.judged.result c.judged.ensures).0; scratch_after = (let s = c.args in let n = c.refusal_of-n in let w = c.settled-q in let j = c.judge_range-after in judging_leaves s.next s.counts s.text.now s.script s.expectations.now s.entries s.r s.number s.h s.bytes.now s.lists.now s.verdicts.now s.scratch.now n.result n.ensures c.if-n-ne0.false w.result w.ensures j.result j.ensures.value _ j.ensures.verdicts_after _ j.ensures.scratch_after c.judged.result c.judged.ensures).1 }
+pub overflow_add-result : goal.overflow_add-result
+overflow_add-result c = let b = begun_of (goal.at.overflow_add-result c).After-settled-q in omega (arith, b.is_next, b.is_entry, c.requires.entries_bound)

@@ -7,8 +7,8 @@ use Rattle.records.proofs.calls.framed_of.Goals as goal
 pub data_in-requires : goal.data_in-requires
 data_in-requires c = search (rules, said_in)
 
-pub returns-in-Absent : goal.returns-in-Absent
-returns-in-Absent c = search (rules, framed_absent)
+pub returns-in-None : goal.returns-in-None
+returns-in-None c = search (rules, framed_absent)
 
-pub returns-in-Is : goal.returns-in-Is
-returns-in-Is c = search (rules, framed_is)
+pub returns-in-Some : goal.returns-in-Some
+returns-in-Some c = search (rules, framed_is)

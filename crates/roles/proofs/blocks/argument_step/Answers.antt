@@ -3,8 +3,8 @@ use Rattle.roles.proofs.BlockLaws.{line-words}
 use borrow.Author.Rules.{rules}
 use Rattle.roles.proofs.blocks.argument_step.Goals as goal
 
-pub returns-in-No : goal.returns-in-No
-returns-in-No c = search (rules, line-words)
+pub returns-in-None : goal.returns-in-None
+returns-in-None c = search (rules, line-words)
 
-pub returns-in-By : goal.returns-in-By
-returns-in-By c = search (rules, line-words)
+pub returns-in-Some : goal.returns-in-Some
+returns-in-Some c = search (rules, line-words)

@@ -1,5 +1,4 @@
 -- `rows::parts::maybe_items` meets its contract. Assumes nothing.
-use borrow.Author.Rules.{rules}
 use borrow.Author.Tests.{eq-eqb, ne_eqb}
 use Rattle.rows.specs.Rows.{maybe_items_of}
 use Rattle.rows.proofs.parts.maybe_items.Goals as goal

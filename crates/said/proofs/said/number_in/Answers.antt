@@ -4,10 +4,10 @@ use Rattle.said.proofs.SaidLaws.{said_laws}
 use borrow.Author.Rules.{rules}
 use Rattle.said.proofs.said.number_in.Goals as goal
 
-pub returns-in-Value : goal.returns-in-Value
+pub returns-in-Some : goal.returns-in-Some
 unfolding bytes
-returns-in-Value c = search (rules, said_laws)
+returns-in-Some c = search (rules, said_laws)
 
-pub returns-in-Bad : goal.returns-in-Bad
+pub returns-in-None : goal.returns-in-None
 unfolding bytes
-returns-in-Bad c = search (rules, said_laws)
+returns-in-None c = search (rules, said_laws)

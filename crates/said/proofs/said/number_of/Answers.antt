@@ -6,8 +6,8 @@ use Rattle.said.proofs.said.number_of.Goals as goal
 pub number_in-requires : goal.number_in-requires
 number_in-requires c = search (rules, said_laws)
 
-pub returns-in-Absent : goal.returns-in-Absent
-returns-in-Absent c = search (rules, said_laws)
+pub returns-in-None : goal.returns-in-None
+returns-in-None c = search (rules, said_laws)
 
-pub returns-in-Is : goal.returns-in-Is
-returns-in-Is c = search (rules, said_laws)
+pub returns-in-Some : goal.returns-in-Some
+returns-in-Some c = search (rules, said_laws)

@@ -1,35 +1,96 @@
 -- `stamps::timestamps::no_finite` meets its contract. Assumes nothing.
-use Prim.Native.Nat.{ℕ}
-use mathlib.Core.Path.{◌≡◌}
+
+use Rattle.std.specs.Char.{to_ascii_lowercase}
+use Rattle.std.specs.List.{slice_range}
+use Rattle.std.proofs.lemmas.Slice.{between_to_end}
+use Rattle.std.proofs.lemmas.Slice.Eq.{bytes_eq-Decides}
+use Rattle.std.proofs.lemmas.Bool.Decides.{nat_tests}
+use Prim.Native.Nat.{ℕ, ◌≤◌}
+use Prim.Native.String.{String}
+use mathlib.Core.Path.{◌≡◌, refl, sym, ◌∙◌}
 use mathlib.Core.Bool.{Bool, true, false}
-use mathlib.Core.List.{List, map}
-use Rattle.text.specs.Parts.{same_bytes}
+use mathlib.Core.List.{List, [], ◌∷◌, map}
+use native.Mathlib.Omega.{arith}
+use lib.ListN.{length, drop}
+use Rattle.text.specs.Base.{within}
+use Rattle.text.specs.Literal.{spells}
+use Rattle.text.proofs.Scan.{rest-none, never}
 use Rattle.text.proofs.LiteralLaws.{codes, spells_as}
+use Rattle.text.proofs.StdLaws.{same_is}
 use Rattle.script.specs.Timestamps.{small, no_finite}
-use borrow.Author.Rules.{rules}
 use Rattle.stamps.proofs.timestamps.no_finite.Goals as goal
+use Rattle.stamps.proofs.timestamps.no_finite.Goals.{then-eq_ignore_ascii_case, else-eq_ignore_ascii_case}
 
-module _ (xs : List ℕ) (a : Bool) (p : a ≡ same_bytes (map small xs) (codes "inf")) where
-  first : a ≡ true → true ≡ no_finite xs
+lower_is : (x : ℕ) → to_ascii_lowercase x ≡ small x
+unfolding small within
+lower_is x = grind (arith, nat_tests)
+
+lowered : (xs : List ℕ) → map to_ascii_lowercase xs ≡ map small xs
+lowered [] = refl
+lowered (x ∷ xs) = rw (lower_is x, lowered xs)
+
+-- two answers to one question
+alike : {P : Type 0} (a b : Bool) → (a ≡ true → P) → (P → a ≡ true) → (b ≡ true → P) → (P → b ≡ true) → a ≡ b
+alike true b f g h k = sym (k (f refl))
+alike false true f g h k = g (h refl)
+alike false false f g h k = refl
+
+-- w has no capital letter
+told : (w : String) (xs : List ℕ) (r : Bool) → map to_ascii_lowercase (codes w) ≡ codes w
+    → (r ≡ true → map to_ascii_lowercase xs ≡ map to_ascii_lowercase (codes w)) × (map to_ascii_lowercase xs ≡ map to_ascii_lowercase (codes w) → r ≡ true)
+    → r ≡ spells w (map small xs)
+told w xs r l t =
+    let e = lowered xs in
+    let d = bytes_eq-Decides (map small xs) (codes w) in
+    let t' : (r ≡ true → map small xs ≡ codes w) × (map small xs ≡ codes w → r ≡ true) = rw (e, l) at t in
+    alike r _ t'.0 t'.1 d.0 d.1 ∙ same_is (map small xs) (codes w) ∙ sym (spells_as w (map small xs))
+
+module _ (xs : List ℕ) (a : Bool) (p : a ≡ spells "inf" (map small xs)) where
+  by-first : a ≡ true → true ≡ no_finite xs
   unfolding no_finite
-  first t = rw (spells_as "inf" (map small xs), ← p, t)
+  by-first t = rw (← p, t)
 
-  module _ (f : a ≡ false) (b : Bool) (q : b ≡ same_bytes (map small xs) (codes "infinity")) where
-    second : b ≡ true → true ≡ no_finite xs
+  module _ (b : Bool) (q : b ≡ spells "infinity" (map small xs)) (f : a ≡ false) where
+    by-second : b ≡ true → true ≡ no_finite xs
     unfolding no_finite
-    second t = rw (spells_as "inf" (map small xs), ← p, f, spells_as "infinity" (map small xs), ← q, t)
+    by-second t = rw (← p, f, ← q, t)
 
-    third : b ≡ false → (c : Bool) → c ≡ same_bytes (map small xs) (codes "nan") → c ≡ no_finite xs
+    by-third : b ≡ false → (r : Bool) → r ≡ spells "nan" (map small xs) → r ≡ no_finite xs
     unfolding no_finite
-    third g c r = rw (spells_as "inf" (map small xs), ← p, f, spells_as "infinity" (map small xs), ← q, g, spells_as "nan" (map small xs), ← r)
+    by-third g r e = rw (← p, f, ← q, g) e
 
-ruleset walk = (first, second, third)
+pub returns-in_default : goal.returns-in_default
+unfolding no_finite spells
+returns-in_default c = let h = c.in_default.ensures.lookup in let l : length c.args.s.now ≤ c.args.at = omega arith in rw (rest-none c.args.s.now c.args.at l)
 
-pub returns-then-is_small : goal.returns-then-is_small
-returns-then-is_small c = search (rules, walk)
+module _ (s word : List ℕ) (at : ℕ) (e : word ≡ slice_range s at (length s)) where
+  rest : word ≡ drop at s
+  rest = e ∙ between_to_end s at (length s) (omega arith)
 
-pub returns-then-is_small-2 : goal.returns-then-is_small-2
-returns-then-is_small-2 c = search (rules, walk)
+pub returns-then-eq_ignore_ascii_case-2 : goal.returns-then-eq_ignore_ascii_case-2
+returns-then-eq_ignore_ascii_case-2 c =
+    let first = c.eq_ignore_ascii_case in
+    let inf = told "inf" c.in-Some.word.now first.result refl first.ensures.test in
+    rw (← rest _ _ _ c.in-Some.ensures.lookup.0.2) (elim c.if-eq_ignore_ascii_case.branch [
+      | then-eq_ignore_ascii_case w ↦ w.value-is ∙ w.if-eq_ignore_ascii_case.true ∙ by-first _ _ inf w.if-eq_ignore_ascii_case.true
+      | else-eq_ignore_ascii_case w ↦
+          let second = w.eq_ignore_ascii_case-else-eq_ignore_ascii_case in
+          let infinity = told "infinity" c.in-Some.word.now second.result refl second.ensures.test in
+          let yes = c.if-eq_ignore_ascii_case-2.true in
+          yes ∙ by-second _ _ inf _ infinity w.if-eq_ignore_ascii_case.false (sym w.value-is ∙ yes)
+    ])
 
-pub returns : goal.returns
-returns c = search (rules, walk)
+pub returns-else-eq_ignore_ascii_case-2 : goal.returns-else-eq_ignore_ascii_case-2
+returns-else-eq_ignore_ascii_case-2 c =
+    let first = c.eq_ignore_ascii_case in
+    let third = c.eq_ignore_ascii_case-else-eq_ignore_ascii_case-2 in
+    let inf = told "inf" c.in-Some.word.now first.result refl first.ensures.test in
+    let nan = told "nan" c.in-Some.word.now third.result refl third.ensures.test in
+    let no = c.if-eq_ignore_ascii_case-2.false in
+    rw (← rest _ _ _ c.in-Some.ensures.lookup.0.2) (elim c.if-eq_ignore_ascii_case.branch [
+      | then-eq_ignore_ascii_case w ↦ never (sym w.if-eq_ignore_ascii_case.true ∙ sym w.value-is ∙ no)
+      | else-eq_ignore_ascii_case w ↦
+          let second = w.eq_ignore_ascii_case-else-eq_ignore_ascii_case in
+          let infinity = told "infinity" c.in-Some.word.now second.result refl second.ensures.test in
+          by-third _ _ inf _ infinity w.if-eq_ignore_ascii_case.false (sym w.value-is ∙ no) _ nan
+    ])

@@ -1,4 +1,5 @@
 -- `stamps::timestamps::time` meets its contract: each way out is a law of the places found up to there. Assumes nothing.
+use Rattle.std.specs.Prelude.{Err, Ok}
 use Prim.Native.Nat.{ℕ, ◌+◌, ◌-◌, ◌*◌, ◌^◌, ◌≤◌, ◌<◌}
 use mathlib.Core.Path.{◌≡◌, refl, sym, ap, ◌∙◌}
 use mathlib.Core.Bool.{Bool, true, false}
@@ -12,12 +13,11 @@ use mir.ValLaws.{to_z_pos}
 use borrow.Author.Tests.{eq-eqb, ne_eqb, le-leb, lt-leb}
 use Rattle.values.specs.Numbers.{decimal_from}
 use Rattle.text.proofs.Scan.{rest_more, rest-none}
-use Rattle.script.specs.Answers.{given, refused}
 use Rattle.script.specs.Timestamps.{run, digit_run, fraction, unsigned, negative, no_finite, exponent, carried, time}
-use Rattle.stamps.specs.TimeRead.{time_read}
 use Rattle.stamps.proofs.TimeLaws.{run-rest, room_after, room_of}
 use borrow.Author.Rules.{rules}
 use Rattle.stamps.proofs.timestamps.time.Goals as goal
+use Rattle.script.specs.declared.refusals.Reason.TheVariants.{NoF64, NotCarried}
 
 decimal-append : (v : ℕ) (xs ys : List ℕ) → decimal_from v (xs ++ ys) ≡ decimal_from (decimal_from v xs) ys
 unfolding decimal_from
@@ -28,7 +28,7 @@ module _ (s : List ℕ) (at : ℕ) where
   abbrev whole : List ℕ
   whole = (digit_run (drop at s)).digits
 
-  no_number : drop at s ≡ unsigned s → (b : Bool) → b ≡ no_finite (drop at s) → b ≡ true → refused 8 ≡ time s
+  no_number : drop at s ≡ unsigned s → (b : Bool) → b ≡ no_finite (drop at s) → b ≡ true → Err NotCarried ≡ time s
   unfolding time
   no_number a b e t = rw (← a, ← e, t)
 
@@ -56,7 +56,7 @@ module _ (s : List ℕ) (at : ℕ) where
       unfolding time
       as-carried = rw (← a, ← e, t, ← r, ← f, ← z)
 
-      nothing : end - at + (last - from) ≡ 0 → refused 7 ≡ time s
+      nothing : end - at + (last - from) ≡ 0 → Err NoF64 ≡ time s
       unfolding carried
       nothing c = sym (as-carried ∙ rw (eq-eqb _ _ (sym counted ∙ c)))
 
@@ -68,11 +68,11 @@ module _ (s : List ℕ) (at : ℕ) where
         more h = rw (rest_more s last h) (λ k. absurd (omega arith))
 
         module _ (h : last < length s) (x : Bool) (y : x ≡ exponent (drop last s)) where
-          with-exponent : x ≡ true → refused 8 ≡ time s
+          with-exponent : x ≡ true → Err NotCarried ≡ time s
           unfolding carried
           with-exponent k = sym (as-carried ∙ rw (ne_eqb _ _ some-digit, ne_eqb _ _ (more h), ← y, k))
 
-          no_form : x ≡ false → refused 7 ≡ time s
+          no_form : x ≡ false → Err NoF64 ≡ time s
           unfolding carried
           no_form k = sym (as-carried ∙ rw (ne_eqb _ _ some-digit, ne_eqb _ _ (more h), ← y, k))
 
@@ -80,14 +80,14 @@ module _ (s : List ℕ) (at : ℕ) where
           none_left : length (drop last s) ≡ 0
           none_left = rw (rest-none s last h)
 
-          too_many : 18 < end - at + (last - from) → refused 8 ≡ time s
+          too_many : 18 < end - at + (last - from) → Err NotCarried ≡ time s
           unfolding carried
           too_many k =
               let l : 18 < length (whole ++ decimals) = omega (arith, counted) in
               sym (as-carried ∙ rw (ne_eqb _ _ some-digit, eq-eqb _ _ none_left, lt-leb _ _ l))
 
           module _ (few : end - at + (last - from) ≤ 18) (v w : ℕ) (p : v ≡ decimal_from 0 (digit_run (drop at s)).digits) (q : w ≡ decimal_from v (digit_run (drop from s)).digits) where
-            all_read : (g : Bool) → g ≡ negative s → given (record { negative = g; digits = w; decimals = to_z w64 (last - from) }) ≡ time s
+            all_read : (g : Bool) → g ≡ negative s → Ok (record { negative = g; digits = w; decimals = to_z w64 (last - from) }) ≡ time s
             unfolding carried
             all_read g k =
                 let l : length (whole ++ decimals) ≤ 18 = omega (arith, counted) in
@@ -99,26 +99,21 @@ module _ (s : List ℕ) (at : ℕ) where
 ruleset walk = (no_number, stops, room, room-2, nothing, with-exponent, no_form, too_many, all_read)
 
 pub returns-then-no_finite : goal.returns-then-no_finite
-unfolding time_read
 returns-then-no_finite c = search (rules, walk)
 
 pub behind_dot-from-requires : goal.behind_dot-from-requires
 behind_dot-from-requires c = search (rules, walk)
 
 pub returns-then-count-eq0 : goal.returns-then-count-eq0
-unfolding time_read
 returns-then-count-eq0 c = search (rules, walk)
 
 pub returns-then-has_exponent : goal.returns-then-has_exponent
-unfolding time_read
 returns-then-has_exponent c = search (rules, walk)
 
 pub returns-then-last-s : goal.returns-then-last-s
-unfolding time_read
 returns-then-last-s c = search (rules, walk)
 
 pub returns-then-count-gt18 : goal.returns-then-count-gt18
-unfolding time_read
 returns-then-count-gt18 c = search (rules, walk)
 
 pub spelt-whole-requires : goal.spelt-whole-requires
@@ -128,5 +123,4 @@ pub spelt-requires : goal.spelt-requires
 spelt-requires c = search (rules, walk)
 
 pub returns : goal.returns
-unfolding time_read
 returns c = search (rules, walk)

@@ -8,8 +8,8 @@ use Rattle.stored.proofs.stored_values.put_raw_of.Goals as goal
 pub put_hex-requires : goal.put_hex-requires
 put_hex-requires c = search (rules, same_laws, said_laws, said_in)
 
-pub returns-in-Absent : goal.returns-in-Absent
-returns-in-Absent c = search (rules, none_laws, said_laws)
+pub returns-in-None : goal.returns-in-None
+returns-in-None c = search (rules, none_laws, said_laws)
 
-pub returns-in-Is : goal.returns-in-Is
-returns-in-Is c = search (rules, same_laws, said_laws)
+pub returns-in-Some : goal.returns-in-Some
+returns-in-Some c = search (rules, same_laws, said_laws)

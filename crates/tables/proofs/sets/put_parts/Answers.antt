@@ -1,16 +1,8 @@
 -- `tables::sets::put_parts` meets its contract. The loop's invariant: the items written, and those of the parts from `from` on if there are more, are all items.
 -- Assumes nothing.
-use Prim.Native.Nat.{◌+◌, ◌-◌, ◌≤◌}
-use mathlib.Core.Path.{◌≡◌}
-use mathlib.Core.Bool.{true}
-use Rattle.text.specs.Parts.{span}
 use Rattle.script.specs.Pieces.{bytes}
-use Rattle.script.specs.Sets.{trimmed_items}
-use Rattle.script.specs.Inside.{In}
-use Rattle.tables.specs.Items.{items_for}
-use Rattle.tables.specs.SetRead.{taken}
-use Rattle.written.proofs.WrittenLaws.{Filling, filling_begun, filling_length, filled}
-use Rattle.tables.proofs.ItemLaws.{parts_left, parts_over, part_laws, part-on, part_room, part_put}
+use Rattle.written.proofs.WrittenLaws.{filling_begun, filled}
+use Rattle.tables.proofs.ItemLaws.{parts_over, part_laws, part-on, part_room, part_put}
 use borrow.Author.Rules.{rules}
 use Rattle.tables.proofs.sets.put_parts.Goals as goal
 

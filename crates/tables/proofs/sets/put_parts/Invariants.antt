@@ -2,14 +2,12 @@ use Prim.Native.Nat.{◌+◌, ◌-◌, ◌≤◌}
 use mathlib.Core.Path.{◌≡◌}
 use mathlib.Core.Bool.{true}
 use Rattle.text.specs.Parts.{span}
-use Rattle.script.specs.Pieces.{bytes}
 use Rattle.script.specs.Sets.{trimmed_items}
 use Rattle.script.specs.Inside.{In}
 use Rattle.tables.specs.Items.{items_for}
 use Rattle.tables.specs.SetRead.{taken}
-use Rattle.written.proofs.WrittenLaws.{Filling, filling_begun, filling_length, filled}
-use Rattle.tables.proofs.ItemLaws.{parts_left, parts_over, part_laws, part-on, part_room, part_put}
-use borrow.Author.Rules.{rules}
+use Rattle.written.proofs.WrittenLaws.{Filling}
+use Rattle.tables.proofs.ItemLaws.{parts_left}
 use Rattle.tables.proofs.sets.put_parts.Given as goal
 
 abbrev pub invariant-loop-more : goal.invariant-loop-more

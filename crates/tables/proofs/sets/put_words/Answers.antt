@@ -1,11 +1,7 @@
 -- `tables::sets::put_words` meets its contract. The loop's invariant: the words written, and those from `from` on, are all words. Assumes nothing.
-use Prim.Native.Nat.{◌-◌, ◌≤◌}
-use Rattle.text.specs.Parts.{span}
-use Rattle.script.specs.Pieces.{bytes, words}
-use Rattle.script.specs.Inside.{In}
-use Rattle.tables.specs.Items.{items_for}
-use Rattle.written.proofs.WrittenLaws.{Filling, filling_begun, filling_length, filled}
-use Rattle.tables.proofs.ItemLaws.{words_left, words_over, word_none, word_laws}
+use Rattle.script.specs.Pieces.{bytes}
+use Rattle.written.proofs.WrittenLaws.{filling_begun, filled}
+use Rattle.tables.proofs.ItemLaws.{words_over, word_none, word_laws}
 use borrow.Author.Rules.{rules}
 use Rattle.tables.proofs.sets.put_words.Goals as goal
 

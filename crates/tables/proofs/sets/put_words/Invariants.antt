@@ -1,11 +1,10 @@
 use Prim.Native.Nat.{◌-◌, ◌≤◌}
 use Rattle.text.specs.Parts.{span}
-use Rattle.script.specs.Pieces.{bytes, words}
+use Rattle.script.specs.Pieces.{words}
 use Rattle.script.specs.Inside.{In}
 use Rattle.tables.specs.Items.{items_for}
-use Rattle.written.proofs.WrittenLaws.{Filling, filling_begun, filling_length, filled}
-use Rattle.tables.proofs.ItemLaws.{words_left, words_over, word_none, word_laws}
-use borrow.Author.Rules.{rules}
+use Rattle.written.proofs.WrittenLaws.{Filling}
+use Rattle.tables.proofs.ItemLaws.{words_left}
 use Rattle.tables.proofs.sets.put_words.Given as goal
 
 abbrev pub invariant-loop-from : goal.invariant-loop-from

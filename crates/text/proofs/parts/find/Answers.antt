@@ -1,4 +1,5 @@
 -- `text::parts::find` meets its contract. The loop's invariant: the search from here answers what the search of the whole answers. Assumes nothing.
+use Rattle.std.specs.Prelude.{None, Option, Some}
 use Prim.Native.Nat.{ℕ, ◌+◌, ◌≤◌, ◌<◌}
 use mathlib.Core.Path.{◌≡◌}
 use mathlib.Core.List.{List}
@@ -6,8 +7,7 @@ use lib.ListN.{length, get_or, drop}
 use borrow.Author.Tests.{eq-eqb, ne_eqb}
 use Rattle.text.proofs.Scan.{rest_more, rest-none}
 use Rattle.text.proofs.SkipLaws.{passed}
-use mathlib.Core.Option.{Option, none, some}
-use Rattle.text.specs.Parts.{position_from, found_of}
+use Rattle.text.specs.Parts.{position_from}
 use borrow.Author.Rules.{rules}
 use Rattle.text.proofs.parts.find.Goals as goal
 
@@ -15,11 +15,11 @@ module _ (s : List ℕ) (b i : ℕ) (whole : Option ℕ) where
   abbrev Here : Type 0
   Here = position_from b i (drop i s) ≡ whole
 
-  over : Here → length s ≤ i → none ≡ whole
+  over : Here → length s ≤ i → None ≡ whole
   unfolding position_from
   over e h = rw (rest-none s i h) at e
 
-  here : Here → i < length s → get_or s i 0 ≡ b → some i ≡ whole
+  here : Here → i < length s → get_or s i 0 ≡ b → Some i ≡ whole
   unfolding position_from
   here e h x = rw (rest_more s i h, eq-eqb _ _ x) at e
 
@@ -32,22 +32,11 @@ ruleset walk = (over, here, later)
 pub loop-i-init : goal.loop-i-init
 loop-i-init c = search (rules, passed)
 
-pub bounds-s-i : goal.bounds-s-i
-bounds-s-i c = search (rules, walk)
-
 pub returns-then-s-i : goal.returns-then-s-i
-unfolding found_of
 returns-then-s-i c = search (rules, walk)
-
-pub overflow_add-i : goal.overflow_add-i
-overflow_add-i c = search (rules, walk)
-
-pub loop-i-smaller : goal.loop-i-smaller
-loop-i-smaller c = search (rules, walk)
 
 pub loop-i-preserved : goal.loop-i-preserved
 loop-i-preserved c = search (rules, walk)
 
 pub returns : goal.returns
-unfolding found_of
 returns c = search (rules, walk)

@@ -1,79 +1,56 @@
 -- `text::parts::find_pair` meets its contract. The loop's invariant: the search from here answers what the search of the whole answers. Assumes nothing.
-use Prim.Native.Nat.{ℕ, ◌+◌, ◌-◌, ◌≤◌, ◌<◌}
-use mathlib.Core.Path.{◌≡◌, refl, ap, ◌∙◌}
+use Rattle.std.specs.Prelude.{None, Option, Some}
+use Prim.Native.Nat.{ℕ, ◌+◌, ◌≤◌, ◌<◌}
+use mathlib.Core.Path.{◌≡◌}
 use mathlib.Core.List.{List, [], ◌∷◌}
-use lib.Dec.{eqb}
-use lib.ListN.{length, get_or, drop, length-drop}
-use borrow.Author.Tests.{eq-eqb, ne_eqb}
-use Rattle.text.proofs.Scan.{rest_more}
-use mathlib.Core.Option.{Option, none, some}
 use native.Mathlib.Omega.{arith}
-use Rattle.text.specs.Parts.{starts_with, pair_position_from, pair_position, found_of}
-use Rattle.text.proofs.Scan.{and_false}
+use lib.Dec.{eqb}
+use lib.ListN.{length, get_or, take, drop}
+use borrow.Author.Tests.{eq-eqb}
 use borrow.Author.Rules.{rules}
+use Rattle.text.specs.Parts.{starts_with, pair_position_from, pair_position}
+use Rattle.text.proofs.Scan.{and_false}
 use Rattle.text.proofs.parts.find_pair.Goals as goal
+use Rattle.text.proofs.parts.find_pair.Goals.{else-pair-a-via-then-pair-a+else-pair-b, else-pair-a-via-else-pair-a}
 
-module _ (s : List ℕ) (a b i next : ℕ) (whole : Option ℕ) (e : pair_position_from a b i (drop i s) ≡ whole) (n : next ≡ i + 1) where
+module _ (a b i n : ℕ) (whole : Option ℕ) (two : n ≡ 2) where
   -- fewer than two bytes are left
-  over : length s ≤ next → none ≡ whole
+  over : (rest : List ℕ) → pair_position_from a b i rest ≡ whole → length rest < n → None ≡ whole
   unfolding pair_position_from starts_with
-  over h = go (drop i s) (length-drop i s) e
-    where
-      go : (rest : List ℕ) → length rest ≡ length s - i → pair_position_from a b i rest ≡ whole → none ≡ whole
-      go [] k e = e
-      go (x ∷ []) k e = rw (and_false (eqb x a)) at e
-      go (x ∷ y ∷ rest) k e = absurd (omega arith)
+  over [] e h = e
+  over (x ∷ []) e h = rw (and_false (eqb x a)) at e
+  over (x ∷ y ∷ rest) e h = absurd (omega arith)
 
-  module _ (h : next < length s) where
-    one : drop i s ≡ get_or s i 0 ∷ drop next s
-    one = rw n (rest_more s i (omega arith))
-
-    two : drop i s ≡ get_or s i 0 ∷ get_or s next 0 ∷ drop (next + 1) s
-    two = one ∙ ap (λ (r : List ℕ). get_or s i 0 ∷ r) (rest_more s next h)
-
-    here : get_or s i 0 ≡ a → get_or s next 0 ≡ b → some i ≡ whole
+  module _ (pair : List ℕ) where
+    here : (rest : List ℕ) → pair_position_from a b i rest ≡ whole → n ≤ length rest → pair ≡ take n rest → get_or pair 0 0 ≡ a → get_or pair 1 0 ≡ b → Some i ≡ whole
     unfolding pair_position_from starts_with
-    here x y = rw (two, eq-eqb _ _ x, eq-eqb _ _ y) at e
+    here [] e h p = absurd (omega arith)
+    here (x ∷ []) e h p = absurd (omega arith)
+    here (x ∷ y ∷ rest) e h p = rw (p, two) (λ f g. rw (eq-eqb _ _ f, eq-eqb _ _ g) at e)
 
-    later-1 : (get_or s i 0 ≡ a → ⊥) → pair_position_from a b next (drop next s) ≡ whole
+    other : (rest : List ℕ) → pair_position_from a b i rest ≡ whole → n ≤ length rest → pair ≡ take n rest → (get_or pair 0 0 ≡ a → get_or pair 1 0 ≡ b → ⊥)
+        → pair_position_from a b (i + 1) (drop 1 rest) ≡ whole
     unfolding pair_position_from starts_with
-    later-1 x = rw n (rw (one, ne_eqb _ _ x, n) at e)
+    other [] e h p = absurd (omega arith)
+    other (x ∷ []) e h p = absurd (omega arith)
+    other (x ∷ y ∷ rest) e h p = rw (p, two) (λ f. grind (arith, e, f))
 
-    later-2 : get_or s i 0 ≡ a → (get_or s next 0 ≡ b → ⊥) → pair_position_from a b next (drop next s) ≡ whole
-    unfolding pair_position_from starts_with
-    later-2 x y = rw (rest_more s next h) (rw (two, eq-eqb _ _ x, ne_eqb _ _ y, ← n) at e)
-
-ruleset walk = (over, here, later-1, later-2)
-
-pub loop-next-init : goal.loop-next-init
+pub loop-i-init : goal.loop-i-init
 unfolding pair_position
-loop-next-init c = (search rules, refl)
+loop-i-init c = record {
+  size = cc;
+  search = search rules;
+}
 
-pub bounds-s-next : goal.bounds-s-next
-bounds-s-next c = search (rules, walk)
+pub returns-then-pair-b : goal.returns-then-pair-b
+returns-then-pair-b c = let h = c.in-Some.ensures.steps in search (rules, here)
 
-pub overflow_add-next : goal.overflow_add-next
-overflow_add-next c = search (rules, walk)
-
-pub bounds-s-here : goal.bounds-s-here
-bounds-s-here c = search (rules, walk)
-
-pub returns-then-y-b : goal.returns-then-y-b
-unfolding found_of
-returns-then-y-b c = search (rules, walk)
-
-pub loop-next-smaller-else-y-b : goal.loop-next-smaller-else-y-b
-loop-next-smaller-else-y-b c = search (rules, walk)
-
-pub loop-next-preserved-else-y-b : goal.loop-next-preserved-else-y-b
-loop-next-preserved-else-y-b c = search (rules, walk)
-
-pub loop-next-smaller : goal.loop-next-smaller
-loop-next-smaller c = search (rules, walk)
-
-pub loop-next-preserved : goal.loop-next-preserved
-loop-next-preserved c = search (rules, walk)
+pub loop-i-preserved : goal.loop-i-preserved
+loop-i-preserved c =
+    let h = c.in-Some.ensures.steps in
+    let none : get_or c.in-Some.pair.now 0 0 ≡ c.args.a → get_or c.in-Some.pair.now 1 0 ≡ c.args.b → ⊥ =
+    elim c.else-pair-a.branch [ else-pair-a-via-then-pair-a+else-pair-b w ↦ λ f g. w.if-pair-b.false g | else-pair-a-via-else-pair-a w ↦ λ f g. w.if-pair-a.false f ] in
+    record { size = cc; search = search (rules, other) }
 
 pub returns : goal.returns
-unfolding found_of
-returns c = search (rules, walk)
+returns c = let h = c.in-None.ensures.steps in search (rules, over)

@@ -1,11 +1,11 @@
-use Prim.Native.Nat.{◌+◌, ◌-◌}
-use mathlib.Core.Path.{◌≡◌}
-use lib.ListN.{length, drop}
+use Rattle.std.proofs.Common.{◌≡◌}
+use Rattle.std.specs.Iterator.Adapters.{enumerate_source, enumerate_count}
+use Rattle.std.specs.Slice.Iter.{windows_rest, windows_size}
 use Rattle.text.specs.Parts.{pair_position_from, pair_position}
 use Rattle.text.proofs.parts.find_pair.Given as goal
 
-abbrev pub invariant-loop-next : goal.invariant-loop-next
-invariant-loop-next l = (l.next ≡ l.i + 1) × (pair_position_from l.a l.b l.i (drop l.i l.s) ≡ pair_position l.a l.b l.s)
-
-abbrev pub decreases-loop-next : goal.decreases-loop-next
-decreases-loop-next l = length l.s - l.next
+abbrev pub invariant-loop-i : goal.invariant-loop-i
+invariant-loop-i l = record {
+  size : windows_size (enumerate_source l.i-iterator) ≡ 2;
+  search : pair_position_from l.a l.b (enumerate_count l.i-iterator) (windows_rest (enumerate_source l.i-iterator)) ≡ pair_position l.a l.b l.s;
+}

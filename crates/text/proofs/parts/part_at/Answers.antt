@@ -33,20 +33,12 @@ pub loop-i-init : goal.loop-i-init
 unfolding part_at
 loop-i-init c = refl
 
-pub bounds-s-i : goal.bounds-s-i
-bounds-s-i c = search (rules, walk)
-
 pub returns-then-s-i : goal.returns-then-s-i
 returns-then-s-i c = search (rules, walk)
-
-pub overflow_add-i : goal.overflow_add-i
-overflow_add-i c = search (rules, walk)
-
-pub loop-i-smaller : goal.loop-i-smaller
-loop-i-smaller c = search (rules, walk)
 
 pub loop-i-preserved : goal.loop-i-preserved
 loop-i-preserved c = search (rules, walk)
 
 pub returns : goal.returns
+unfolding part_at
 returns c = search (rules, walk)

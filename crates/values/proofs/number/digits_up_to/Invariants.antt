@@ -1,12 +1,8 @@
-use Prim.Native.Nat.{ℕ, ◌+◌, ◌-◌, ◌*◌, ◌/◌, ◌≤◌, ◌<◌}
+use Prim.Native.Nat.{◌+◌, ◌-◌, ◌/◌, ◌≤◌, ◌<◌}
 use mathlib.Core.Path.{◌≡◌}
-use mathlib.Core.List.{List}
-use mathlib.Core.Option.{Option, none}
-use native.Mathlib.Omega.{arith}
-use lib.ListN.{length, get_or, drop}
-use borrow.Author.Rules.{rules}
-use Rattle.values.specs.Numbers.{digits, number_of}
-use Rattle.values.proofs.NumberLaws.{digits_from, Here, no_digit, begun, done, low, high, a_digit, too_large}
+use lib.ListN.{length, drop}
+use Rattle.values.specs.Numbers.{digits}
+use Rattle.values.proofs.NumberLaws.{digits_from}
 use Rattle.values.proofs.number.digits_up_to.Given as goal
 
 abbrev pub invariant-loop-i : goal.invariant-loop-i

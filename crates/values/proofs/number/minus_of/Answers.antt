@@ -7,7 +7,6 @@ use lib.IntN.{ℤ, pos, neg_ℤ, ◌-ℤ◌, +ℤ_idl}
 use mir.Syntax.{w64}
 use mir.Val.{SFits, to_z}
 use mir.ValLaws.{to_z_pos, to_z-of_z}
-use borrow.Author.Rules.{rules}
 use Rattle.values.specs.Numbers.{minus}
 use Rattle.values.proofs.number.minus_of.Goals as goal
 

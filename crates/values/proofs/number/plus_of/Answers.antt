@@ -1,5 +1,4 @@
 -- `values::number::plus_of` meets its contract: the lower half of the machine's numbers are read as they are. Assumes nothing.
-use borrow.Author.Rules.{rules}
 use mir.Syntax.{w64}
 use mir.ValLaws.{to_z_pos}
 use Rattle.values.proofs.number.plus_of.Goals as goal

@@ -1,12 +1,11 @@
 -- `wire::ops::code_hint` meets its contract: a text that is a name is long enough, and its sum leads to its code. Assumes nothing.
+use Rattle.std.specs.Prelude.{Some}
 use Prim.Native.Nat.{ℕ, ◌≤◌}
 use mathlib.Core.Path.{◌≡◌, refl}
 use mathlib.Core.List.{List}
-use mathlib.Core.Option.{some}
 use native.Mathlib.Omega.{arith}
 use lib.Dec.{leb}
 use lib.ListN.{length, get_or}
-use borrow.Author.Rules.{rules}
 use borrow.Author.Tests.{leb-true}
 use Rattle.text.proofs.LiteralLaws.{codes}
 use Rattle.wire.specs.Operations.{operation, named}
@@ -15,7 +14,7 @@ use Rattle.wire.specs.declared.ops.Op.{Op}
 use Rattle.wire.proofs.OperationLaws.{each, name-named}
 use Rattle.wire.proofs.ops.code_hint.Goals as goal
 
-module _ (s : List ℕ) (o : Op) (e : named s ≡ some o) where
+module _ (s : List ℕ) (o : Op) (e : named s ≡ Some o) where
   long : 6 ≤ length s
   unfolding operation
   long = rw (name-named s o e) (leb-true 6 _ (each (λ p. leb 6 (length (codes (operation p).name))) refl o))

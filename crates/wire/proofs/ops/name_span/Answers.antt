@@ -1,7 +1,6 @@
 -- `wire::ops::name_span` meets its contract, by the rule of the table; a code is below 48, so its next is in the table too. Assumes nothing.
 use Prim.Native.Nat.{◌<◌}
 use native.Mathlib.Omega.{arith}
-use borrow.Author.Rules.{rules}
 use Rattle.wire.proofs.OperationLaws.{few_codes}
 use Rattle.wire.proofs.ops.name_span.Goals as goal
 

@@ -1,14 +1,10 @@
 -- `writing::room::less` meets its contract. Assumes nothing.
-use native.Mathlib.Omega.{arith}
 use borrow.Author.Rules.{rules}
-use Rattle.writing.proofs.RoomLaws.{taken_off, too_short, short_still}
+use Rattle.writing.proofs.RoomLaws.{checked, short_still}
 use Rattle.writing.proofs.room.less.Goals as goal
 
-pub returns-then-n-k : goal.returns-then-n-k
-returns-then-n-k c = taken_off _ _ _ c.in-Left.is (omega arith)
+pub returns-in_err-room : goal.returns-in_err-room
+returns-in_err-room c = search (rules, short_still)
 
-pub returns-else-n-k : goal.returns-else-n-k
-returns-else-n-k c = too_short _ _ _ c.in-Left.is (omega arith)
-
-pub returns-in-Short : goal.returns-in-Short
-returns-in-Short c = short_still _ _ c.in-Short.is
+pub returns : goal.returns
+returns c = checked _ _ _ _ c.checked_sub.ensures c.in_ok-room.was

@@ -1,9 +1,0 @@
--- `exports::nwscript_u64` meets its contract. Assumes nothing.
-use Rattle.given.proofs.Giving.{given_of, taken_of}
-use Rattle.exports.proofs.nwscript_u64.Goals as goal
-
-pub returns-clause-value : goal.returns-clause-value
-returns-clause-value c = given_of _ _ c.parse_u64.ensures _ c.give.ensures.value
-
-pub returns-clause-value_after : goal.returns-clause-value_after
-returns-clause-value_after c = taken_of _ _ c.parse_u64.ensures _ _ c.give.ensures.value_after
