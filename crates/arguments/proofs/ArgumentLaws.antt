@@ -7,11 +7,12 @@ use mathlib.Core.List.{List, [], ◌∷◌}
 use types.Run.{OneOf, miss}
 use denote.Enum.Declared.{tag_of}
 use Rattle.text.specs.Base.{◌&◌, QUOTE}
-use Rattle.text.specs.Parts.{span, starts_with, position}
+use Rattle.text.specs.Parts.{span, starts_with}
 use Rattle.text.specs.declared.parts.Span.{Span}
 use Rattle.text.proofs.LiteralLaws.{codes}
 use Rattle.text.proofs.Scan.{never}
-use Rattle.script.specs.Pieces.{bytes, begins, trim, cut_at}
+use Rattle.script.specs.Answers.{◌>>=◌}
+use Rattle.script.specs.Pieces.{Cut, bytes, begins, behind, trim, cut, cut_into}
 use Rattle.script.specs.Operations.{keys_of, key_in}
 use Rattle.script.specs.Expectations.{COLON}
 use Rattle.script.specs.Roles.{pair_in, keyed, key_saying, raw_saying, option_saying, saying_in}
@@ -22,8 +23,8 @@ use Rattle.script.specs.declared.roles.Takes.TheVariants.{NoLines, Options, Garb
 use Rattle.script.specs.contracts.roles.Takes.{the_type}
 use Rattle.script.specs.declared.roles.Saying.{Saying}
 use Rattle.script.specs.declared.roles.Saying.TheVariants.{Known, Pair, NoColon, Unknown, NoPair, NoRaw}
-use Rattle.arguments.specs.ArgumentRead.{pair_saying, pair_value, pair_behind, listed}
-use Rattle.pieces.proofs.BehindLaws.{begins-is, behind-some, behind-none, cut-some, cut-none}
+use Rattle.arguments.specs.ArgumentRead.{pair_saying, quoted, listed}
+use Rattle.pieces.proofs.BehindLaws.{begins-is, behind-some, behind-none}
 
 -- the numbers of those operations whose lines have keys
 abbrev pub with_keys : List ℕ
@@ -43,64 +44,82 @@ module _ (text : List ℕ) where
 
   -- ---- key, colon, value
 
-  module _ (keys : List Key) (t : Span) (n : ℕ) (key : Span) (k : key ≡ trim text (span t.start (t.start + n))) (f : Option Key) (e : f ≡ key_in keys (bytes text key)) where
-    pub keyed_known : (value : Span) (w : Key) → value ≡ trim text (span (t.start + n + 1) t.end) → f ≡ Some w → Known w value ≡ keyed text keys (cut_at t n)
-    unfolding keyed cut_at
+  module _ (keys : List Key) (before after key : Span) (k : key ≡ trim text before) (f : Option Key) (e : f ≡ key_in keys (bytes text key)) where
+    pub keyed_known : (value : Span) (w : Key) → value ≡ trim text after → f ≡ Some w → Known w value ≡ keyed text keys (cut_into before after)
+    unfolding keyed
     keyed_known value w v h = rw (v, ← k, ← e, h, keyed)
 
-    pub keyed_unknown : (value : Span) → value ≡ trim text (span (t.start + n + 1) t.end) → f ≡ None → Unknown key value ≡ keyed text keys (cut_at t n)
-    unfolding keyed cut_at
+    pub keyed_unknown : (value : Span) → value ≡ trim text after → f ≡ None → Unknown key value ≡ keyed text keys (cut_into before after)
+    unfolding keyed
     keyed_unknown value v h =
-        let d : f ≡ key_in keys (bytes text (trim text (span t.start (t.start + n)))) = rw k at e in
+        let d : f ≡ key_in keys (bytes text (trim text before)) = rw k at e in
         rw (k, v, ← d, h, keyed)
 
-  module _ (keys : List Key) (t : Span) (f : Option ℕ) (e : f ≡ position COLON (bytes text t)) where
-    pub colon_found : (n : ℕ) (s : Saying) → f ≡ Some n → s ≡ keyed text keys (cut_at t n) → s ≡ key_saying text keys t
+  module _ (keys : List Key) (t : Span) where
+    pub colon_found : (c : Cut) (s : Saying) → Some c ≡ cut text COLON t → s ≡ keyed text keys c → s ≡ key_saying text keys t
     unfolding key_saying
-    colon_found n s h q = rw (cut-some text t.start t.end COLON f e n h, key_saying, q)
+    colon_found c s e q = q ∙ rw (← e, key_saying)
 
-    pub colon_missing : f ≡ None → NoColon ≡ key_saying text keys t
+    pub colon_missing : None ≡ cut text COLON t → NoColon ≡ key_saying text keys t
     unfolding key_saying
-    colon_missing h = rw (cut-none text t.start t.end COLON f e h, key_saying)
+    colon_missing e = rw (← e, key_saying)
 
-  -- ---- pairs: r and s are the answers of `pieces::begins`, f that of `pieces::find_in`
-
-  module _ (name after b : Span) (k : b ≡ trim text after) (r : Bool) (e : r ≡ starts_with (codes "=") (bytes text b)) where
-    pub no_equals : r ≡ false → NoPair ≡ pair_saying (pair_behind text name after)
-    unfolding pair_saying pair_behind
-    no_equals n = rw (← k, behind-none text b "=" r e n, pair_behind, pair_saying)
-
-    pub equals : (c : Span) (s : Saying) → r ≡ true → c ≡ trim text (span (b.start + 1) b.end) → s ≡ pair_saying (pair_value text name c) → s ≡ pair_saying (pair_behind text name after)
-    unfolding pair_behind
-    equals c s y j q = q ∙ rw (← k, behind-some text b "=" r e y, ← j, pair_behind)
-
-  module _ (name c : Span) (r : Bool) (e : r ≡ starts_with (codes "\"") (bytes text c)) where
-    pub no_quote : r ≡ false → NoPair ≡ pair_saying (pair_value text name c)
-    unfolding pair_saying pair_value
-    no_quote n = rw (behind-none text c "\"" r e n, pair_value, pair_saying)
-
-    module _ (y : r ≡ true) (f : Option ℕ) (h : f ≡ position QUOTE (bytes text (span (c.start + 1) c.end))) where
-      pub no_end : f ≡ None → NoPair ≡ pair_saying (pair_value text name c)
-      unfolding pair_saying pair_value
-      no_end g = rw (behind-some text c "\"" r e y, cut-none text (c.start + 1) c.end QUOTE f h g, pair_value, pair_saying)
-
-      pub pair_found : (n : ℕ) → f ≡ Some n → Pair name (span (c.start + 1) (c.start + 1 + n)) ≡ pair_saying (pair_value text name c)
-      unfolding pair_saying pair_value cut_at
-      pair_found n g = rw (behind-some text c "\"" r e y, cut-some text (c.start + 1) c.end QUOTE f h n g, pair_value, pair_saying)
+  -- ---- what stands in quotes: r is the answer of `Piece::starts_with`
 
   module _ (t : Span) (r : Bool) (e : r ≡ starts_with (codes "\"") (bytes text t)) where
-    pub no_name : r ≡ false → NoPair ≡ pair_saying (pair_in text t)
-    unfolding pair_saying pair_in
-    no_name n = rw (behind-none text t "\"" r e n, pair_in, pair_saying)
+    pub no_quote : r ≡ false → None ≡ quoted text t
+    unfolding quoted
+    no_quote n = rw (behind-none text t "\"" r e n)
 
-    module _ (y : r ≡ true) (f : Option ℕ) (h : f ≡ position QUOTE (bytes text (span (t.start + 1) t.end))) where
-      pub name_open : f ≡ None → NoPair ≡ pair_saying (pair_in text t)
-      unfolding pair_saying pair_in
-      name_open g = rw (behind-some text t "\"" r e y, cut-none text (t.start + 1) t.end QUOTE f h g, pair_in, pair_saying)
+    pub in_quotes : r ≡ true → (o : Option Cut) → o ≡ cut text QUOTE (span (t.start + 1) t.end) → o ≡ quoted text t
+    unfolding quoted
+    in_quotes y o q = q ∙ rw (behind-some text t "\"" r e y)
 
-      pub name_found : (n : ℕ) (s : Saying) → f ≡ Some n → s ≡ pair_saying (pair_behind text (cut_at (span (t.start + 1) t.end) n).before (cut_at (span (t.start + 1) t.end) n).after) → s ≡ pair_saying (pair_in text t)
-      unfolding pair_saying pair_in pair_behind pair_value cut_at
-      name_found n s g q = q ∙ rw (behind-some text t "\"" r e y, cut-some text (t.start + 1) t.end QUOTE f h n g, pair_in, pair_saying)
+  -- ---- pairs: r is what was found in quotes
+
+  -- a step whose answer is known
+  known : {A B C : Type 0} (o : Option A) (f : A → Option B) (g : B → Option C) (r : Option B) → r ≡ (o >>= f) → (o >>= λ x. f x >>= g) ≡ (r >>= g)
+  known None f g r e = rw e
+  known (Some x) f g r e = rw e
+
+  abbrev with_value : (name c : Span) → Option Saying
+  with_value name c = do
+    quote ← behind text "\"" c
+    value ← cut text QUOTE quote
+    Some (Pair name value.before)
+
+  abbrev with_name : Cut → Option Saying
+  with_name name = do
+    b ← behind text "=" (trim text name.after)
+    with_value name.before (trim text b)
+
+  name-known : (t : Span) (r : Option Cut) → r ≡ quoted text t → pair_in text t ≡ (r >>= with_name)
+  unfolding pair_in quoted
+  name-known t r e = known (behind text "\"" t) (cut text QUOTE) with_name r e
+
+  value-known : (name c : Span) (r : Option Cut) → r ≡ quoted text c → with_value name c ≡ (r >>= λ v. Some (Pair name v.before))
+  unfolding quoted
+  value-known name c r e = known (behind text "\"" c) (cut text QUOTE) (λ v. Some (Pair name v.before)) r e
+
+  module _ (t : Span) where
+    pub no_name : None ≡ quoted text t → NoPair ≡ pair_saying (pair_in text t)
+    unfolding pair_saying
+    no_name e = rw (name-known t None e)
+
+    module _ (name after : Span) (e : Some (cut_into name after) ≡ quoted text t) (b : Span) (k : b ≡ trim text after)
+        (r : Bool) (q : r ≡ starts_with (codes "=") (bytes text b)) where
+      pub no_equals : r ≡ false → NoPair ≡ pair_saying (pair_in text t)
+      unfolding pair_saying
+      no_equals n = rw (name-known t (Some (cut_into name after)) e, ← k, behind-none text b "=" r q n)
+
+      module _ (y : r ≡ true) (c : Span) (j : c ≡ trim text (span (b.start + 1) b.end)) where
+        pub no_value : None ≡ quoted text c → NoPair ≡ pair_saying (pair_in text t)
+        unfolding pair_saying
+        no_value v = rw (name-known t (Some (cut_into name after)) e, ← k, behind-some text b "=" r q y, ← j, value-known name c None v)
+
+        pub pair_found : (value rest : Span) → Some (cut_into value rest) ≡ quoted text c → Pair name value ≡ pair_saying (pair_in text t)
+        unfolding pair_saying
+        pair_found value rest v = rw (name-known t (Some (cut_into name after)) e, ← k, behind-some text b "=" r q y, ← j, value-known name c (Some (cut_into value rest)) v)
 
   -- ---- a line of an override list, and any other
 
@@ -175,8 +194,8 @@ pub ruleset keyed-words = (keyed_known, keyed_unknown)
 
 pub ruleset colon_words = (colon_found, colon_missing)
 
-pub ruleset pair-words = (no_equals, equals, no_quote, no_end, pair_found)
+pub ruleset quote_words = (no_quote, in_quotes)
 
-pub ruleset name-words = (no_name, name_open, name_found)
+pub ruleset pair-words = (no_name, no_equals, no_value, pair_found)
 
 pub ruleset list-words = (not_open, by_quote)

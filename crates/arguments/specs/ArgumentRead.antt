@@ -3,7 +3,7 @@ use Rattle.std.specs.Prelude.{ℕ, Bool, false, List, None, Option, Some}
 use Rattle.text.specs.Base.{◌&◌, QUOTE}
 use Rattle.text.specs.declared.parts.Span.{Span}
 use Rattle.script.specs.Answers.{◌>>=◌}
-use Rattle.script.specs.Pieces.{begins, behind, trim, cut}
+use Rattle.script.specs.Pieces.{Cut, begins, behind, cut}
 use Rattle.script.specs.declared.roles.Takes.{Takes}
 use Rattle.script.specs.declared.roles.Takes.TheVariants.{NoLines, Options, Garbage, Verify, Texts, Store, Multiple, FirstData, FirstRaw}
 use Rattle.script.specs.declared.roles.Saying.{Saying}
@@ -24,18 +24,11 @@ unfoldable pub pair_saying : Option Saying → Saying
 pair_saying None = NoPair
 pair_saying (Some p) = p
 
--- the pair of that name whose value stands in quotes at the front of `c`
-unfoldable pub pair_value : (text : List ℕ) → (name c : Span) → Option Saying
-pair_value text name c = do
-  quoted ← behind text "\"" c
-  value ← cut text QUOTE quoted
-  Some (Pair name value.before)
-
--- the pair whose name ended before `after`
-unfoldable pub pair_behind : (text : List ℕ) → (name after : Span) → Option Saying
-pair_behind text name after = do
-  b ← behind text "=" (trim text after)
-  pair_value text name (trim text b)
+-- what stands in quotes at the front of the piece, and what follows
+unfoldable pub quoted : (text : List ℕ) → Span → Option Cut
+quoted text t = do
+  a ← behind text "\"" t
+  cut text QUOTE a
 
 -- a line of an open override list that is a pair or none
 unfoldable pub listed : (text : List ℕ) → Takes → (list_open : Bool) → Span → Bool

@@ -3,11 +3,10 @@ ghost use Rattle.std.specs.Prelude.{◌≡◌, ◌≤◌, ◌<◌};
 ghost use Rattle.text.specs.Parts.{same_bytes};
 ghost use Rattle.script.specs.Pieces.{bytes};
 ghost use Rattle.script.specs.Operations.{keys_of, key_in};
-ghost use Rattle.script.specs.Inside.{In};
 ghost use Rattle.arguments.specs.KeyTables.{argument_keys, key_at, name_at, letters, Starts, shift_of, Meant, Hints};
 
+use pieces::pieces::Piece;
 use script::roles::{Key, Takes};
-use text::parts::Span;
 
 // The names of the 26 keys, one behind the other.
 const NAMES: [u8; 257] = *b"\
@@ -142,31 +141,29 @@ fn shift(takes: Takes) -> usize
 }
 
 // The place of the only key of the operation that the piece can name: no two have the same length and the same first byte.
-fn key_hint(text: &[u8], takes: Takes, p: Span) -> usize
-    requires { In text.now p }
-    ensures { Meant takes (bytes text.now p) result }
+fn key_hint(takes: Takes, p: Piece<'_>) -> usize
+    ensures { Meant takes (bytes p.entry.text.now p.entry.at) result }
 {
-    let first = pieces::fronts::first_byte(text, p) as usize;
-    let sum = shift(takes) + (p.end - p.start) + 7 * first;
+    let first = p.first_byte() as usize;
+    let sum = shift(takes) + p.bytes().len() + 7 * first;
     let hints = hints();
     hints[sum % 36] as usize
 }
 
 // Whether the piece is the name of the key at that place.
-fn is_named(text: &[u8], p: Span, place: usize) -> bool
-    requires fact { In text.now p }
-    requires place_bound { place < 26 }
-    ensures { result ≡ same_bytes (bytes text.now p) (name_at place) }
+fn is_named(p: Piece<'_>, place: usize) -> bool
+    requires { place < 26 }
+    ensures { result ≡ same_bytes (bytes p.entry.text.now p.entry.at) (name_at place) }
 {
     let starts = starts();
     let start = starts[place] as usize;
     let end = starts[place + 1] as usize;
     // Most lines that name no key differ in length: then the names need not be laid out.
-    if p.end - p.start != end - start {
+    if p.bytes().len() != end - start {
         return false;
     }
     let names = names();
-    pieces::pieces::is_word(text, p, &names[start..end])
+    p.is_word(&names[start..end])
 }
 
 fn key_at(place: usize) -> Key
@@ -204,12 +201,11 @@ fn key_at(place: usize) -> Key
 }
 
 // The key of that name among those of the operation: one can have it, and one comparison tells whether it has.
-pub fn key_in(text: &[u8], takes: Takes, p: Span) -> Option<Key>
-    requires { In text.now p }
-    ensures { result ≡ key_in (keys_of takes) (bytes text.now p) }
+pub fn key_in(takes: Takes, p: Piece<'_>) -> Option<Key>
+    ensures { result ≡ key_in (keys_of takes) (bytes p.entry.text.now p.entry.at) }
 {
-    let place = key_hint(text, takes, p);
-    if is_named(text, p, place) {
+    let place = key_hint(takes, p);
+    if is_named(p, place) {
         return Some(key_at(place));
     }
     None

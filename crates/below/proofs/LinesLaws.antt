@@ -26,14 +26,13 @@ use Rattle.script.specs.declared.refusals.Reason.{Reason}
 use Rattle.script.specs.declared.roles.Role.{Role}
 use Rattle.script.specs.declared.roles.Role.TheVariants.{Nothing, Says, Expects, Opens, Bad}
 use Rattle.script.proofs.RolesInside.{role_in}
-use Rattle.said.specs.Said.{piece_at}
+use Rattle.said.specs.Said.{said_of}
+use Rattle.said.specs.declared.said.Heard.{Heard}
 use Rattle.written.specs.Written.{written_at}
 use Rattle.tables.specs.Items.{item_of, items_for}
 use Rattle.written.proofs.WrittenLaws.{Filling, filling_begun, filling_length, filled, filling_room, filling_on, filling_place, filling_more, written_one}
-use Rattle.below.specs.Below.{below_of, roles_at, ahead, ahead_of, NextIn, pairs_items}
+use Rattle.below.specs.Below.{roles_at, ahead, pairs_items}
 use Rattle.says.specs.Says.{pair_items, Forward}
-use Rattle.below.specs.declared.lines_below.Below.{Below}
-use Rattle.below.specs.declared.lines_below.Ahead.{Ahead}
 
 -- ---- one line, and those below it
 
@@ -92,49 +91,43 @@ pairs_more true s ss = ap (map item_of) (map-append place (pair_of s) (pairs ss)
 -- ---- the loop
 
 -- What holds at a line: what the tables and the values hold so far. `all` are the lines from the first on, `left` those that are still to come.
-pub record Led (options : Bool) (i x : ℕ) (starts₀ ends₀ : List ℕ) (items₀ : List (List ℕ)) (expectations₀ : List Expectation) (all : List Marked) (starts ends : List ℕ)
+pub record Led (options : Bool) (i x : ℕ) (heard₀ : Heard) (items₀ : List (List ℕ)) (expectations₀ : List Expectation) (all : List Marked) (heard : Heard)
     (items : List (List ℕ)) (expects : List Expectation) (pairs count : ℕ) (left : List Marked) : Type 0 where
   pub items_so_far : Filling i (pairs_items options (sayings (lead all))) items₀ items pairs (pairs_items options (sayings (lead left)))
   pub expects_so_far : Filling x (expectations (lead all)) expectations₀ expects count (expectations (lead left))
-  pub starts_kept : length starts ≡ length starts₀
-  pub ends_kept : length ends ≡ length ends₀
-  pub values : (k : Key) → last_of k (piece_at starts ends k) (sayings (lead left)) ≡ last_of k (piece_at starts₀ ends₀ k) (sayings (lead all))
+  pub values : (k : Key) → last_of k (said_of heard k) (sayings (lead left)) ≡ last_of k (said_of heard₀ k) (sayings (lead all))
   pub onward : ahead left ≡ ahead all
 
-module _ (options : Bool) (i x : ℕ) (starts₀ ends₀ : List ℕ) (items₀ : List (List ℕ)) (expectations₀ : List Expectation) (all : List Marked) where
+module _ (options : Bool) (i x : ℕ) (heard₀ : Heard) (items₀ : List (List ℕ)) (expectations₀ : List Expectation) (all : List Marked) where
   pub led_first : i + length (pairs_items options (sayings (lead all))) ≤ length items₀ → x + length (expectations (lead all)) ≤ length expectations₀
-      → Led options i x starts₀ ends₀ items₀ expectations₀ all starts₀ ends₀ items₀ expectations₀ 0 0 all
+      → Led options i x heard₀ items₀ expectations₀ all heard₀ items₀ expectations₀ 0 0 all
   led_first a b = record {
     items_so_far = filling_begun i _ items₀ _ refl a;
     expects_so_far = filling_begun x _ expectations₀ _ refl b;
-    starts_kept = refl;
-    ends_kept = refl;
     values = λ k. refl;
     onward = refl;
   }
 
-  module _ (starts ends : List ℕ) (items : List (List ℕ)) (expects : List Expectation) (pairs count : ℕ) (left : List Marked)
-      (led : Led options i x starts₀ ends₀ items₀ expectations₀ all starts ends items expects pairs count left) where
-    abbrev Turn : (starts ends : List ℕ) (items : List (List ℕ)) (expects : List Expectation) (pairs count : ℕ) (left : List Marked) → Type 0
-    Turn = Led options i x starts₀ ends₀ items₀ expectations₀ all
+  module _ (heard : Heard) (items : List (List ℕ)) (expects : List Expectation) (pairs count : ℕ) (left : List Marked)
+      (led : Led options i x heard₀ items₀ expectations₀ all heard items expects pairs count left) where
+    abbrev Turn : (heard : Heard) (items : List (List ℕ)) (expects : List Expectation) (pairs count : ℕ) (left : List Marked) → Type 0
+    Turn = Led options i x heard₀ items₀ expectations₀ all
 
     module _ (n : ℕ) (r : Role) (later : List Marked) (e : left ≡ marked n r ∷ later) where
       -- a line that says nothing, or is refused
-      silent : sayings (lead left) ≡ sayings (lead later) → expectations (lead left) ≡ expectations (lead later) → ahead left ≡ ahead later → Turn starts ends items expects pairs count later
+      silent : sayings (lead left) ≡ sayings (lead later) → expectations (lead left) ≡ expectations (lead later) → ahead left ≡ ahead later → Turn heard items expects pairs count later
       silent a b o = record {
         items_so_far = rw a at led.items_so_far;
         expects_so_far = rw b at led.expects_so_far;
-        starts_kept = led.starts_kept;
-        ends_kept = led.ends_kept;
         values = rw a at led.values;
         onward = sym o ∙ led.onward;
       }
 
-      pub led_nothing : r ≡ Nothing → Turn starts ends items expects pairs count later
+      pub led_nothing : r ≡ Nothing → Turn heard items expects pairs count later
       unfolding lead is_opening sayings saying_of expectations expectation_of ahead
       led_nothing q = silent (rw (e, q)) (rw (e, q)) (rw (e, q))
 
-      pub led_bad : (k : Reason) → r ≡ Bad k → Turn starts ends items expects pairs count later
+      pub led_bad : (k : Reason) → r ≡ Bad k → Turn heard items expects pairs count later
       unfolding lead is_opening sayings saying_of expectations expectation_of ahead
       led_bad k q = silent (rw (e, q)) (rw (e, q)) (rw (e, q))
 
@@ -153,16 +146,14 @@ module _ (options : Bool) (i x : ℕ) (starts₀ ends₀ : List ℕ) (items₀ :
         pub says-fits : (m : ℕ) → i + length (pairs_items options (sayings (lead all))) ≤ m → i + (pairs + length (pair_items options s)) ≤ m
         says-fits m h = omega (arith, led.items_so_far.count, ap length pairs-left ∙ length-append (pair_items options s) (pairs_items options (sayings (lead later))))
 
-        pub led_says : (starts' ends' : List ℕ) (items' : List (List ℕ)) → items' ≡ written_at (i + pairs) (pair_items options s) items
-            → length starts' ≡ length starts → length ends' ≡ length ends → ((k : Key) → piece_at starts' ends' k ≡ value_or k s (piece_at starts ends k))
-            → Turn starts' ends' items' expects (pairs + length (pair_items options s)) count later
+        pub led_says : (heard' : Heard) (items' : List (List ℕ)) → items' ≡ written_at (i + pairs) (pair_items options s) items
+            → ((k : Key) → said_of heard' k ≡ value_or k s (said_of heard k))
+            → Turn heard' items' expects (pairs + length (pair_items options s)) count later
         unfolding lead is_opening expectations expectation_of ahead last_of
-        led_says starts' ends' items' a b c d = record {
+        led_says heard' items' a d = record {
           items_so_far = filling_on i _ items₀ items pairs _ led.items_so_far (pair_items options s) _ pairs-left items' a;
           expects_so_far = rw (e, q) at led.expects_so_far;
-          starts_kept = b ∙ led.starts_kept;
-          ends_kept = c ∙ led.ends_kept;
-          values = λ k. ap (λ (v : Option Span). last_of k v (sayings (lead later))) (d k) ∙ ap (last_of k (piece_at starts ends k)) (sym says_more) ∙ led.values k;
+          values = λ k. ap (λ (v : Option Span). last_of k v (sayings (lead later))) (d k) ∙ ap (last_of k (said_of heard k)) (sym says_more) ∙ led.values k;
           onward = (rw (e, q) at led.onward);
         }
 
@@ -181,24 +172,22 @@ module _ (options : Bool) (i x : ℕ) (starts₀ ends₀ : List ℕ) (items₀ :
         pub expects-fits : (m : ℕ) → x + length (expectations (lead all)) ≤ m → x + count < m
         expects-fits m h = omega (arith, led.expects_so_far.count, ap length expects-left)
 
-        pub led_expects : (expects' : List Expectation) → expects' ≡ set expects (x + count) expectation → Turn starts ends items expects' pairs (count + 1) later
+        pub led_expects : (expects' : List Expectation) → expects' ≡ set expects (x + count) expectation → Turn heard items expects' pairs (count + 1) later
         unfolding lead is_opening sayings saying_of ahead
         led_expects expects' a = record {
           items_so_far = rw (e, q) at led.items_so_far;
           expects_so_far = filling_more x _ expectations₀ expects count _ led.expects_so_far expectation _ expects-left expects' (a ∙ sym (written_one (x + count) expectation expects expects-room));
-          starts_kept = led.starts_kept;
-          ends_kept = led.ends_kept;
           values = rw (e, q) at led.values;
           onward = rw (e, q) at led.onward;
         }
 
     -- the same under other names
-    pub led_same : (starts' ends' : List ℕ) (items' : List (List ℕ)) (expects' : List Expectation) (pairs' count' : ℕ)
-        → starts' ≡ starts → ends' ≡ ends → items' ≡ items → expects' ≡ expects → pairs' ≡ pairs → count' ≡ count → Turn starts' ends' items' expects' pairs' count' left
-    led_same starts' ends' items' expects' pairs' count' a b c d f g = rw (a, b, c, d, f, g) led
+    pub led_same : (heard' : Heard) (items' : List (List ℕ)) (expects' : List Expectation) (pairs' count' : ℕ)
+        → heard' ≡ heard → items' ≡ items → expects' ≡ expects → pairs' ≡ pairs → count' ≡ count → Turn heard' items' expects' pairs' count' left
+    led_same heard' items' expects' pairs' count' a c d f g = rw (a, c, d, f, g) led
 
     -- and with the place of the next line under another name
-    pub led_at : (text : List ℕ) (w w' : Where) (at number : ℕ) → left ≡ roles_at text w at number → w' ≡ w → Turn starts ends items expects pairs count (roles_at text w' at number)
+    pub led_at : (text : List ℕ) (w w' : Where) (at number : ℕ) → left ≡ roles_at text w at number → w' ≡ w → Turn heard items expects pairs count (roles_at text w' at number)
     led_at text w w' at number e f = rw (f, ← e) led
 
     -- the tables keep their lengths
@@ -234,7 +223,7 @@ module _ (options : Bool) (i x : ℕ) (starts₀ ends₀ : List ℕ) (items₀ :
       pub done_expects : expects ≡ written_at x (expectations (lead all)) expectations₀
       done_expects = (filled x _ expectations₀ expects count _ led.expects_so_far no_expects).1
 
-      pub done_values : (k : Key) → piece_at starts ends k ≡ last_of k (piece_at starts₀ ends₀ k) (sayings (lead all))
+      pub done_values : (k : Key) → said_of heard k ≡ last_of k (said_of heard₀ k) (sayings (lead all))
       unfolding sayings last_of
       done_values k = rw o at (led.values k)
 
@@ -258,19 +247,5 @@ module _ (left : List Marked) (e : left ≡ []) where
   pub over_ahead : ahead left ≡ []
   unfolding ahead
   over_ahead = rw e
-
--- what the answer says
-module _ (text : List ℕ) (r : Below) (pairs expects : ℕ) (next : Option Ahead) (e : r ≡ below_of pairs expects next) where
-  pub says-pairs : (n : ℕ) → pairs ≡ n → r.pairs ≡ n
-  says-pairs n q = ap (λ (b : Below). b.pairs) e ∙ q
-
-  pub says-expects : (n : ℕ) → expects ≡ n → r.expects ≡ n
-  says-expects n q = ap (λ (b : Below). b.expects) e ∙ q
-
-  pub says-ahead : (ms : List Marked) → ahead_of text next ≡ ms → ahead_of text r.next ≡ ms
-  says-ahead ms q = ap (λ (b : Below). ahead_of text b.next) e ∙ q
-
-  pub says_in : (from : ℕ) → NextIn text from next → NextIn text from r.next
-  says_in from q = rw e q
 
 pub ruleset turn_laws = (roles_more, line-forward, says-room, expects-room, led_items, led_expectations)

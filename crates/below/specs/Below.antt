@@ -9,11 +9,7 @@ use Rattle.script.specs.declared.roles.Where.{Where}
 use Rattle.script.specs.declared.roles.Saying.{Saying}
 use Rattle.script.specs.declared.roles.Role.TheVariants.{Opens}
 use Rattle.tables.specs.Items.{items_for}
-use Rattle.below.specs.declared.lines_below.Below.{Below}
 use Rattle.below.specs.declared.lines_below.Ahead.{Ahead}
-
-abbrev pub below_of : (pairs expects : ℕ) → Option Ahead → Below
-below_of pairs expects next = record { pairs = pairs; expects = expects; next = next }
 
 -- what the lines from a place on are
 unfoldable pub roles_at : (text : List ℕ) → Where → (at number : ℕ) → List Marked

@@ -1,12 +1,9 @@
-// Words written into a lent slice, many bytes at a time. Each function writes from `at` on and says where the next byte goes. Bytes go through an array
-// of their own: for all the compiler knows, what is written may be read next, and it would test that at each word.
+// Words copied many bytes at a time. Bytes go through an array of their own: for all the compiler knows, what is written may be read next, and it would test
+// that at each word. `copy_from_slice` takes longer on words of 3 to 60 bytes (measured: 1.1 to 1.6 times as long).
 #![tactic(auto)]
 
 ghost use Rattle.std.specs.Prelude.{◌≡◌, ◌+◌, ◌*◌, ◌≤◌, length};
 ghost use Rattle.text.specs.Base.{part};
-ghost use Rattle.written.specs.Written.{written_at};
-
-use written::put_bytes;
 
 // The N bytes from i on.
 fn block_at<const N: usize>(s: &[u8], i: usize) -> [u8; N]
@@ -18,31 +15,47 @@ fn block_at<const N: usize>(s: &[u8], i: usize) -> [u8; N]
     bytes
 }
 
-// Writes a word of N to 2 N bytes: its first N and its last N, which may overlap.
-pub fn put_ends<const N: usize>(word: &[u8], out: &mut [u8], at: usize) -> usize
+// Copies a word of N to 2 N bytes: its first N and its last N, which may overlap.
+fn copy_ends<const N: usize>(word: &[u8], out: &mut [u8])
     requires in_bounds { N ≤ length word.now }
     requires word_len_bound { length word.now ≤ 2 * N }
-    requires word_in_bounds { at + length word.now ≤ length out.old }
-    ensures value { result ≡ at + length word.now }
-    ensures out_after { out.new ≡ written_at at word.now out.old }
+    requires same_length { length out.old ≡ length word.now }
+    ensures { out.new ≡ word.now }
 {
     let last = word.len() - N;
-    put_bytes(&block_at::<N>(word, 0), out, at);
-    put_bytes(&block_at::<N>(word, last), out, at + last)
+    out[..N].copy_from_slice(&block_at::<N>(word, 0));
+    out[last..].copy_from_slice(&block_at::<N>(word, last));
 }
 
-// Writes a word of any length from 16 on. Its last sixteen bytes may overlap those before.
-pub fn put_blocks(word: &[u8], out: &mut [u8], at: usize) -> usize
+// Copies a word of any length from 16 on. Its last sixteen bytes may overlap those before.
+// By an index: nothing is known of the elements that `chunks_exact_mut` lends once it ends.
+fn copy_blocks(word: &[u8], out: &mut [u8])
     requires in_bounds { 16 ≤ length word.now }
-    requires word_in_bounds { at + length word.now ≤ length out.old }
-    ensures value { result ≡ at + length word.now }
-    ensures out_after { out.new ≡ written_at at word.now out.old }
+    requires same_length { length out.old ≡ length word.now }
+    ensures { out.new ≡ word.now }
 {
     let last = word.len() - 16;
     let mut i: usize = 0;
     while i < last {
-        put_bytes(&block_at::<16>(word, i), out, at + i);
+        out[i..i + 16].copy_from_slice(&block_at::<16>(word, i));
         i += 16;
     }
-    put_bytes(&block_at::<16>(word, last), out, at + last)
+    out[last..].copy_from_slice(&block_at::<16>(word, last));
+}
+
+// Copies a word, many bytes at a time where it has as many. One of 32 to 64 bytes, as a store path has, takes no loop.
+pub fn copy(word: &[u8], out: &mut [u8])
+    requires { length out.old ≡ length word.now }
+    ensures { out.new ≡ word.now }
+{
+    match word.len() {
+        0..8 => {
+            for (i, byte) in word.iter().enumerate() {
+                out[i] = *byte;
+            }
+        }
+        8..16 => copy_ends::<8>(word, out),
+        32..=64 => copy_ends::<32>(word, out),
+        _ => copy_blocks(word, out),
+    }
 }

@@ -1,4 +1,5 @@
-// The numbers of an operation by its fields, 16 of them: its kind, its code, the fields, and zeros behind them.
+// The numbers of an operation by its fields, 16 of them: its kind, its code, the fields, and zeros behind them. Kinds are numbers here, since a host is
+// given rows of numbers (the C interface).
 #![tactic(auto)]
 
 ghost use Rattle.std.specs.Prelude.{◌≡◌, [], ◌∷◌, ◌++◌};
@@ -10,7 +11,7 @@ use script::records::{FramedData, Items, Options, Place};
 pub fn flag(b: bool) -> u64
     ensures { result ≡ CallFields.flag b }
 {
-    if b { 1 } else { 0 }
+    u64::from(b)
 }
 
 fn data_numbers(d: FramedData) -> [u64; 3]

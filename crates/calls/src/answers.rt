@@ -6,6 +6,7 @@ use script::records::Refusal;
 use tallies::calls::Answer;
 use tallies::tally::Outcome;
 
+// No `From`: both types are of other crates, and the numbers are those of a host's rows alone (the C interface).
 #[tactic(auto, unfolding(crate::specs::CallRows::outcome_code))]
 fn outcome_code(o: Outcome) -> u64
     ensures { result ≡ outcome_code o }

@@ -7,7 +7,7 @@ ghost use Rattle.cases.specs.Cases.{counted, total};
 
 use script::records::{Counts, Refusal};
 
-// An answer of Measure, in the numbers of a line.
+// An answer of Measure, in the numbers of a line of stored answers: 0 or the refusal's number first, and no `Result`, since a line may have any numbers.
 #[derive(Clone, Copy, PartialEq, Eq)]
 pub struct Answer {
     pub number: u64,

@@ -39,12 +39,9 @@ use Rattle.judge.proofs.tally.Tally.entry.Met as entry-theorem
 use Rattle.judge.specs.contracts.tally.Tally.close as close
 use Rattle.judge.proofs.tally.Tally.close.Symbol as close-code
 use Rattle.judge.proofs.tally.Tally.close.Met as close-theorem
-use Rattle.tell.specs.contracts.message.entry_message_at as entry-message
-use Rattle.tell.proofs.message.entry_message_at.Symbol as entry-message-code
-use Rattle.tell.proofs.message.entry_message_at.Met as entry-message-theorem
-use Rattle.tell.specs.contracts.message.handshake_message_at as handshake-message
-use Rattle.tell.proofs.message.handshake_message_at.Symbol as handshake-message-code
-use Rattle.tell.proofs.message.handshake_message_at.Met as handshake-message-theorem
+use Rattle.tell.specs.contracts.message.message_at as message
+use Rattle.tell.proofs.message.message_at.Symbol as message-code
+use Rattle.tell.proofs.message.message_at.Met as message-theorem
 use Rattle.listing.specs.contracts.whole.list as list
 use Rattle.listing.proofs.whole.list.Symbol as list-code
 use Rattle.listing.proofs.whole.list.Met as list-theorem
@@ -63,8 +60,8 @@ use Rattle.claims.proofs.WhiteSpace.{trimmed-is}
 -- Whatever text, table or response a public entry is handed, it ends, does not trap, and reads and writes nothing outside what it was lent (`Total`,
 -- specs/Total.antt, says it of the machine's run; `TotalWherever`, wherever its code stands, so on the machine that runs a program which has that code:
 -- DemandOne.antt `in_programs`). Shown by each function's theorem, that it meets its contract; no contract here has a `requires`.
--- In this order: Measure; Read; a fresh tally; Judge, of the handshake and of an entry; Close; Message, of an entry and of the handshake; a text
--- read and judged by a list of calls; the listing.
+-- In this order: Measure; Read; a fresh tally; Judge, of the handshake and of an entry; Close; Message, whether judged against a response or against
+-- what the handshake told; a text read and judged by a list of calls; the listing.
 pub demand_one :
     TotalWherever measure.signature measure-code.code measure-code.name
     × TotalWherever read.signature read-code.code read-code.name
@@ -72,8 +69,7 @@ pub demand_one :
     × TotalWherever handshake.signature handshake-code.code handshake-code.name
     × TotalWherever entry.signature entry-code.code entry-code.name
     × TotalWherever close.signature close-code.code close-code.name
-    × TotalWherever entry-message.signature entry-message-code.code entry-message-code.name
-    × TotalWherever handshake-message.signature handshake-message-code.code handshake-message-code.name
+    × TotalWherever message.signature message-code.code message-code.name
     × TotalWherever run.signature run-code.code run-code.name
     × TotalWherever list.signature list-code.code list-code.name
 demand_one = (
@@ -83,8 +79,7 @@ demand_one = (
   total handshake.signature handshake-code.code handshake-code.name (λ M 𝓤 𝓛. handshake.spec 𝓛) (λ M. handshake-theorem.met) (λ M 𝓤 𝓛 mem run κs a. (tt, refl)),
   total entry.signature entry-code.code entry-code.name (λ M 𝓤 𝓛. entry.spec 𝓛) (λ M. entry-theorem.met) (λ M 𝓤 𝓛 mem run κs a. (tt, refl)),
   total close.signature close-code.code close-code.name (λ M 𝓤 𝓛. close.spec 𝓛) (λ M. close-theorem.met) (λ M 𝓤 𝓛 mem run κs a. (tt, refl)),
-  total entry-message.signature entry-message-code.code entry-message-code.name (λ M 𝓤 𝓛. entry-message.spec 𝓛) (λ M. entry-message-theorem.met) (λ M 𝓤 𝓛 mem run κs a. (tt, refl)),
-  total handshake-message.signature handshake-message-code.code handshake-message-code.name (λ M 𝓤 𝓛. handshake-message.spec 𝓛) (λ M. handshake-message-theorem.met) (λ M 𝓤 𝓛 mem run κs a. (tt, refl)),
+  total message.signature message-code.code message-code.name (λ M 𝓤 𝓛. message.spec 𝓛) (λ M. message-theorem.met) (λ M 𝓤 𝓛 mem run κs a. (tt, refl)),
   total run.signature run-code.code run-code.name (λ M 𝓤 𝓛. run.spec 𝓛) (λ M. run-theorem.met) (λ M 𝓤 𝓛 mem run κs a. (tt, refl)),
   total list.signature list-code.code list-code.name (λ M 𝓤 𝓛. list.spec 𝓛) (λ M. list-theorem.met) (λ M 𝓤 𝓛 mem run κs a. (tt, refl)),
 )

@@ -4,9 +4,10 @@ ghost use Rattle.script.specs.Contents.{features_in, or_none};
 ghost use Rattle.script.specs.declared.roles.Key.TheVariants as Key;
 ghost use Rattle.written.specs.Written.{written_at};
 ghost use Rattle.tables.specs.Items.{items_for};
-ghost use Rattle.said.specs.Said.{piece_at, SaidIn};
+ghost use Rattle.said.specs.Said.{said_of};
 ghost use Rattle.stored.specs.Closing.{front_of};
 
+use said::said::Said;
 use script::roles::Key;
 
 // How many features the client has, and how many the server.
@@ -16,35 +17,28 @@ pub struct Fronts {
     pub server: usize,
 }
 
-// Writes the items of the key's feature set, and says how many they are; none where it was not said.
-fn put_features_of(
-    text: &[u8],
-    starts: &[usize],
-    ends: &[usize],
-    k: Key,
-    items: &mut [[usize; 2]],
-    at: usize,
-) -> usize
-    requires said_in { SaidIn text.now starts.now ends.now }
-    requires k_in_bounds { at + length (or_none (features_in text.now (piece_at starts.now ends.now k))) ≤ length items.old }
-    ensures value { result ≡ length (or_none (features_in text.now (piece_at starts.now ends.now k))) }
-    ensures after { items.new ≡ written_at at (items_for (or_none (features_in text.now (piece_at starts.now ends.now k)))) items.old }
+// Writes the items of the key's feature set, and says how many they are; none where it was not said. It is a `match` for the reason at
+// `stored_values::put_unquoted`.
+#[tactic(auto, using(stored::proofs::WriteLaws::features_none, stored::proofs::WriteLaws::features_absent, stored::proofs::WriteLaws::features_room, stored::proofs::WriteLaws::features_count))]
+fn put_features_of(said: Said<'_>, k: Key, items: &mut [[usize; 2]], at: usize) -> usize
+    requires { at + length (or_none (features_in said.text.now (said_of said.heard.now k))) ≤ length items.old }
+    ensures value { result ≡ length (or_none (features_in said.entry.text.now (said_of said.entry.heard.now k))) }
+    ensures after { items.new ≡ written_at at (items_for (or_none (features_in said.entry.text.now (said_of said.entry.heard.now k)))) items.old }
 {
-    match said::said::value_of(starts, ends, k) {
+    match said.value(k) {
         None => 0,
-        Some(v) => item_sets::put_features(text, v, items, at),
+        Some(v) => item_sets::put_features(v, items, at),
     }
 }
 
 // Writes the features of the client, then those of the server.
-pub fn put_front(text: &[u8], starts: &[usize], ends: &[usize], items: &mut [[usize; 2]]) -> Fronts
-    requires said_in { SaidIn text.now starts.now ends.now }
-    requires ends_in_bounds { length (front_of text.now (piece_at starts.now ends.now)) ≤ length items.old }
-    ensures features_value { result.features ≡ length (or_none (features_in text.now (piece_at starts.now ends.now Key.Features))) }
-    ensures server_value { result.server ≡ length (or_none (features_in text.now (piece_at starts.now ends.now Key.ServerFeatures))) }
-    ensures after { items.new ≡ written_at 0 (items_for (front_of text.now (piece_at starts.now ends.now))) items.old }
+pub fn put_front(said: Said<'_>, items: &mut [[usize; 2]]) -> Fronts
+    requires { length (front_of said.text.now (said_of said.heard.now)) ≤ length items.old }
+    ensures features_value { result.features ≡ length (or_none (features_in said.entry.text.now (said_of said.entry.heard.now Key.Features))) }
+    ensures server_value { result.server ≡ length (or_none (features_in said.entry.text.now (said_of said.entry.heard.now Key.ServerFeatures))) }
+    ensures after { items.new ≡ written_at 0 (items_for (front_of said.entry.text.now (said_of said.entry.heard.now))) items.old }
 {
-    let features = put_features_of(text, starts, ends, Key::Features, items, 0);
-    let server = put_features_of(text, starts, ends, Key::ServerFeatures, items, features);
+    let features = put_features_of(said, Key::Features, items, 0);
+    let server = put_features_of(said, Key::ServerFeatures, items, features);
     Fronts { features, server }
 }

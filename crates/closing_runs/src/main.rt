@@ -6,7 +6,7 @@ use ran::RunError;
 use std::io;
 use std::io::Read;
 
-// An answer by its number (calls/specs/CallRows.antt).
+// An answer by its number (calls/specs/CallRows.antt): a run answers its calls in numbers, as a host is given them (the C interface).
 fn print_answer(rt: &impl Print, code: u64) -> io::Result<()> {
     match code {
         101 => rt.write_all(b"passed\n"),

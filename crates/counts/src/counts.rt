@@ -1,15 +1,13 @@
 // How many items and bytes of the store a value takes.
 ghost use Rattle.std.specs.Prelude.{◌≡◌, ◌+◌, ◌≤◌, length};
 ghost use Rattle.text.specs.Parts.{split};
-ghost use Rattle.text.specs.Words.{words};
 ghost use Rattle.script.specs.Operations.{form_of};
-ghost use Rattle.script.specs.Sets.{COMMA, non_empty, trimmed_items, path_items};
-ghost use Rattle.script.specs.Inside.{In};
+ghost use Rattle.script.specs.Sets.{COMMA, path_items};
 ghost use Rattle.tables.specs.SetRead.{braced_items};
 ghost use Rattle.counts.specs.Counts.{set_count, quoted_count, data_count, raw_count, feature_count, inline_items};
 
-use openings::SetPlace;
-use text::parts::Span;
+use pieces::pieces::Piece;
+use tables::walks::{FilledItems, Words};
 use wire::ops::Op;
 
 // How many parts stand between the commas: one more than there are commas.
@@ -20,168 +18,91 @@ fn part_count(s: &[u8]) -> usize
 }
 
 // The items between the braces of a path set; where nothing stands there it has none. The piece is trimmed.
-fn path_count(text: &[u8], p: Span) -> usize
-    requires { In text.now p }
-    ensures { result ≡ length (path_items text.now p) }
+#[tactic(auto, using(crate::proofs::CountLaws::items_none, crate::proofs::CountLaws::items_counted))]
+fn path_count(p: Piece<'_>) -> usize
+    ensures { result ≡ length (path_items p.entry.text.now p.entry.at) }
 {
-    let start = p.start;
-    let end = p.end;
-    if start == end {
+    if p.is_empty() {
         return 0;
     }
-    part_count(&text[start..end])
+    part_count(p.bytes())
 }
 
 // The items of a path set behind its opening brace; none where it is not closed.
-fn braced_count(text: &[u8], p: Span) -> usize
-    requires { In text.now p }
-    ensures { result ≡ length (braced_items text.now p) }
+#[tactic(auto, using(crate::proofs::CountLaws::not_braced, crate::proofs::CountLaws::braced))]
+fn braced_count(p: Piece<'_>) -> usize
+    ensures { result ≡ length (braced_items p.entry.text.now p.entry.at) }
 {
-    let Some(n) = pieces::pieces::find_in(text, p, 0x7D) else {
-        return 0;
-    };
-    let start = p.start;
-    let items = pieces::pieces::trimmed(
-        text,
-        Span {
-            start,
-            end: start + n,
-        },
-    );
-    path_count(text, items)
+    match p.find(b'}') {
+        None => 0,
+        Some(n) => path_count(p.front(n).trimmed()),
+    }
 }
 
 // The items of a path set.
-pub fn set_count(text: &[u8], v: Span) -> usize
-    requires { In text.now v }
-    ensures value { result ≡ set_count text.now v }
-    ensures result_bound { v.start + result ≤ v.end }
+pub fn set_count(v: Piece<'_>) -> usize
+    ensures value { result ≡ set_count v.entry.text.now v.entry.at }
+    ensures result_bound { v.entry.at.start + result ≤ v.entry.at.end }
 {
-    let q = pieces::pieces::trimmed(text, v);
-    if pieces::pieces::begins(text, q, b"{") {
-        return braced_count(
-            text,
-            Span {
-                start: q.start + 1,
-                end: q.end,
-            },
-        );
+    let q = v.trimmed();
+    if q.starts_with(b"{") {
+        return braced_count(q.behind(1));
     }
-    if q.start == q.end {
+    if q.is_empty() {
         return 0;
     }
     1
 }
 
-// The items between commas that are not empty once trimmed.
-fn filled_count(text: &[u8], p: Span) -> usize
-    requires { In text.now p }
-    ensures { result ≡ length (non_empty (trimmed_items text.now p)) }
-{
-    let first = p.start;
-    let last = p.end;
-    let mut at: usize = 0;
-    let mut n: usize = 0;
-    let mut more = true;
-    while more {
-        let part = text::parts::part_at(&text[first..last], 0x2C, at);
-        let start = first + part.start;
-        let end = first + part.end;
-        let item = pieces::pieces::trimmed(text, Span { start, end });
-        at = part.end + 1;
-        more = part.more;
-        if item.start != item.end {
-            n += 1;
-        }
-    }
-    n
-}
-
-// How many words a text has.
-fn word_count(s: &[u8]) -> usize
-    ensures { result ≡ length (words s.now) }
-{
-    let mut at: usize = 0;
-    let mut n: usize = 0;
-    loop {
-        let w = words::word_at(s, at);
-        if w.start == w.end {
-            return n;
-        }
-        at = w.end;
-        n += 1;
-    }
-}
-
 // The items of a feature set.
-pub fn feature_count(text: &[u8], v: Span) -> usize
-    requires { In text.now v }
-    ensures value { result ≡ feature_count text.now v }
-    ensures result_bound { v.start + result ≤ v.end }
+pub fn feature_count(v: Piece<'_>) -> usize
+    ensures value { result ≡ feature_count v.entry.text.now v.entry.at }
+    ensures result_bound { v.entry.at.start + result ≤ v.entry.at.end }
 {
-    let q = pieces::pieces::trimmed(text, v);
-    let start = q.start;
-    let end = q.end;
-    if item_sets::in_braces(text, q) {
-        return filled_count(
-            text,
-            Span {
-                start: start + 1,
-                end: end - 1,
-            },
-        );
+    let q = v.trimmed();
+    match item_sets::in_braces(q) {
+        Some(p) => FilledItems::of(p).count(),
+        None => Words::of(q).count(),
     }
-    word_count(&text[start..end])
 }
 
 // The bytes of a value that is unquoted.
-pub fn quoted_count(text: &[u8], v: Span) -> usize
-    requires { In text.now v }
-    ensures value { result ≡ quoted_count text.now v }
-    ensures result_bound { v.start + result ≤ v.end }
+#[tactic(auto, using(crate::proofs::CountLaws::quoted_counted, crate::proofs::CountLaws::quoted_fits))]
+pub fn quoted_count(v: Piece<'_>) -> usize
+    ensures value { result ≡ quoted_count v.entry.text.now v.entry.at }
+    ensures result_bound { v.entry.at.start + result ≤ v.entry.at.end }
 {
-    let start = v.start;
-    let end = v.end;
-    unquote::unquoted_len(&text[start..end])
+    unquote::unquoted_len(v.bytes())
 }
 
 // The bytes of what follows `x"`. Quotes at its end are no hex digits, so they count for nothing.
-pub fn raw_count(text: &[u8], v: Span) -> usize
-    requires { In text.now v }
-    ensures value { result ≡ raw_count text.now v }
-    ensures result_bound { v.start + result ≤ v.end }
+#[tactic(auto, using(crate::proofs::CountLaws::raw_counted, crate::proofs::CountLaws::hex_fits))]
+pub fn raw_count(v: Piece<'_>) -> usize
+    ensures value { result ≡ raw_count v.entry.text.now v.entry.at }
+    ensures result_bound { v.entry.at.start + result ≤ v.entry.at.end }
 {
-    let start = v.start;
-    let end = v.end;
-    hexadecimal::hex_len(&text[start..end])
+    hexadecimal::hex_len(v.bytes())
 }
 
 // The bytes of data that stands in the store; a file's name does not.
-pub fn data_count(text: &[u8], v: Span) -> usize
-    requires { In text.now v }
-    ensures value { result ≡ data_count text.now v }
-    ensures result_bound { v.start + result ≤ v.end }
+#[tactic(auto, using(crate::proofs::CountLaws::data_counted, crate::proofs::CountLaws::no_data, crate::proofs::CountLaws::data_fits, crate::proofs::CountLaws::nothing_fits))]
+pub fn data_count(v: Piece<'_>) -> usize
+    ensures value { result ≡ data_count v.entry.text.now v.entry.at }
+    ensures result_bound { v.entry.at.start + result ≤ v.entry.at.end }
 {
-    if pieces::pieces::begins(text, v, b"x\"") {
-        let start = v.start + 2;
-        let end = v.end;
-        return hexadecimal::hex_len(&text[start..end]);
+    if v.starts_with(b"x\"") {
+        return hexadecimal::hex_len(v.behind(2).bytes());
     }
     0
 }
 
 // The items on an opening line.
-pub fn inline_items(text: &[u8], op: Op, args: Span) -> usize
-    requires { In text.now args }
-    ensures value { result ≡ inline_items text.now (form_of op).shape args }
-    ensures result_bound { args.start + result ≤ args.end }
+pub fn inline_items(op: Op, args: Piece<'_>) -> usize
+    ensures value { result ≡ inline_items args.entry.text.now (form_of op).shape args.entry.at }
+    ensures result_bound { args.entry.at.start + result ≤ args.entry.at.end }
 {
-    match openings::set_place(op) {
-        SetPlace::NoSet => 0,
-        SetPlace::AllOf => set_count(text, args),
-        SetPlace::BehindBlank => {
-            let c = openings::cut_or(text, args, 0x20);
-            set_count(text, c.after)
-        }
+    match openings::set_on(op, args) {
+        None => 0,
+        Some(p) => set_count(p),
     }
 }

@@ -14,6 +14,7 @@ fn maybe_numbers(m: Option<Place>) -> [u64; 3]
     }
 }
 
+// Beside `maybe_numbers`: one function for both would take places and ranges apart at each call.
 #[tactic(auto, unfolding(numbers::specs::Numbers::maybe_items_numbers, call_fields::specs::CallFields::items_numbers))]
 fn maybe_items_numbers(m: Option<Items>) -> [u64; 3]
     ensures { result ≡ maybe_items_numbers m }

@@ -1,11 +1,14 @@
 // The dump of a reading into lent tables, and into tables of its own.
 ghost use Rattle.std.specs.Prelude.{◌≡◌, ◌+◌, ◌*◌, ◌≤◌, min, length};
 ghost use Rattle.text.specs.Base.{overlaid};
-ghost use Rattle.written.specs.Written.{written_at};
-ghost use Rattle.numbers.specs.Numbers.{in_bytes, head_numbers};
-ghost use Rattle.dump.specs.Dump.{dump_into, read_dump};
+ghost use Rattle.written.specs.Writing.{Room, wrote};
+ghost use Rattle.dump.specs.Dump.{dump_of, dump_into, read_dump};
 
+use crate::answers::head_numbers;
+use crate::lists::{put_entries, put_expectations, put_items};
+use numbers::bytes::put_numbers;
 use script::records::{Entry, Expectation, Refusal, Script};
+use written::Writer;
 
 // How many bytes a dump has.
 fn dump_size(entries: usize, items: usize, expectations: usize, store: usize) -> usize
@@ -15,14 +18,23 @@ fn dump_size(entries: usize, items: usize, expectations: usize, store: usize) ->
     160 + 184 * entries + 16 * items + 56 * expectations + store
 }
 
-// Writes the answer at the front, and says where it ends.
-fn put_answer(out: &mut [u8], a: Result<Script, Refusal>) -> usize
-    requires { 160 ≤ length out.old }
-    ensures value { result ≡ length (in_bytes (head_numbers a)) }
-    ensures out_after { out.new ≡ written_at 0 (in_bytes (head_numbers a)) out.old }
+// Writes the answer and the tables.
+fn put_dump(
+    a: Result<Script, Refusal>,
+    entries: &[Entry],
+    items: &[[usize; 2]],
+    expectations: &[Expectation],
+    store: &[u8],
+    w: &mut Writer<u8>,
+)
+    requires { Room (length (dump_of a entries.now items.now expectations.now store.now)) w.old }
+    ensures { w.new ≡ wrote (dump_of a entries.now items.now expectations.now store.now) w.old }
 {
-    let numbers = crate::answers::head_numbers(a);
-    numbers::bytes::put_numbers(out, 0, &numbers)
+    put_numbers(&head_numbers(a), w);
+    put_entries(entries, w);
+    put_items(items, w);
+    put_expectations(expectations, w);
+    w.put(store);
 }
 
 // Reads a text into the lent tables, and writes the dump at the front of out, if there is room; how many bytes it has.
@@ -46,11 +58,9 @@ pub fn dump_into(
     if out.len() < size {
         return size;
     }
-    let p = put_answer(out, a);
-    let p = crate::lists::put_entries(out, p, entries);
-    let p = crate::lists::put_items(out, p, items);
-    let p = crate::lists::put_expectations(out, p, expectations);
-    numbers::bytes::put_bytes(out, p, store)
+    let mut w = Writer::new(out);
+    put_dump(a, entries, items, expectations, store, &mut w);
+    w.position()
 }
 
 // At most so many.

@@ -23,12 +23,10 @@ pub fn read_times(text: &[u8], times: u64) -> u64
     let mut is = blanks::many_items();
     let mut xs = blanks::many_expectations();
     let mut bs = blanks::blank_store();
-    let mut n: u64 = 0;
     let mut last: u64 = 0;
-    while n < times {
+    for _n in 0..times {
         let a = read::reading::read(text, &mut es, &mut is, &mut xs, &mut bs);
         last = number_of(a);
-        n += 1;
     }
     last
 }

@@ -5,7 +5,7 @@ use mathlib.Core.Path.{◌≡◌, refl, sym, ap, ◌∙◌}
 use mathlib.Core.Bool.{Bool}
 use mathlib.Core.List.{List, ◌++◌, map}
 use native.Mathlib.Omega.{arith}
-use lib.ListN.{length, set, replicate, length-append, length-map}
+use lib.ListN.{length, set, length-append, length-map}
 use Rattle.text.specs.declared.parts.Span.{Span}
 use Rattle.script.specs.Operations.{Shape, single_path, single_string, path_set, path_set_flag, path_set_mode, no_args, set_options, collect_garbage, verify_store, add_perm_root, add_signatures, add_text_to_store, add_to_store, add_multiple_to_store, add_build_log, register_drv_output, query_realisation, query_substitutable_path_info, query_substitutable_path_infos, raw_bytes, form_of}
 use Rattle.script.specs.Pieces.{place}
@@ -15,17 +15,16 @@ use Rattle.script.specs.Layout.{laid}
 use Rattle.script.specs.declared.records.Entry.{Entry}
 use Rattle.script.specs.declared.roles.Key.{Key}
 use Rattle.script.specs.declared.roles.Saying.{Saying}
-use Rattle.said.specs.Said.{piece_at, SaidIn}
+use Rattle.said.specs.Said.{said_of, SaidIn}
+use Rattle.said.specs.declared.said.Heard.{Heard}
 use Rattle.records.specs.declared.calls.Sizes.{Sizes}
-use Rattle.said.proofs.SaidLaws.{said-none}
 use Rattle.written.specs.Written.{written_at}
 use Rattle.tables.specs.Items.{item_of, items_for}
 use Rattle.written.proofs.WrittenLaws.{written_length, written_twice}
 use Rattle.stored.specs.Closing.{set_items, stored, sizes_for, pairs_for, entry_record}
 use Rattle.stored.proofs.ClosingLaws.{laid-items, laid-store, laid_item_count, laid_store_count, sizes-sum, sizes-room, laid_entry_lem}
 use Rattle.stored.proofs.WriteLaws.{items-length, items-append}
-use Rattle.below.specs.Below.{roles_at, pairs_items, ahead_of, NextIn}
-use Rattle.entries.specs.declared.entries.Advance.{Advance}
+use Rattle.below.specs.Below.{roles_at, pairs_items}
 use Rattle.below.specs.declared.lines_below.Ahead.{Ahead}
 use Rattle.entries.specs.Entries.{takes_pairs, entry_at, laid_entry}
 use Rattle.entries.proofs.InsideLaws.{values_in}
@@ -91,25 +90,22 @@ module _ (text : List ℕ) (a : Ahead) (i x b : ℕ) where
 
     -- ---- once they are read: the values that they leave
 
-    module _ (starts ends : List ℕ) (v : (k : Key) → piece_at starts ends k ≡ last_of k (piece_at (replicate 33 1) (replicate 33 0) k) ss) where
+    module _ (heard : Heard) (v : (k : Key) → said_of heard k ≡ last_of k None ss) where
       abbrev value : Key → Option Span
-      value = piece_at starts ends
-
-      left_by : (k : Key) → value k ≡ last_of k None ss
-      left_by k = v k ∙ ap (λ (p : Option Span). last_of k p ss) (said-none k)
+      value = said_of heard
 
       said : (k : Key) → value k ≡ value_of k ss
       unfolding value_of
-      said k = left_by k
+      said k = v k
 
-      pub said_in : a.at ≤ length text → SaidIn text starts ends
-      said_in h = values_in text a.stands a.at (a.line + 1) h starts ends left_by
+      pub said_in : a.at ≤ length text → SaidIn text heard
+      said_in h = values_in text a.stands a.at (a.line + 1) h heard v
 
       all_items : (laid i b call).items ≡ map place (pairs_for sh ss ++ set_items text args value sh)
       unfolding entry_at entry_of
       all_items = laid-items text sh a.opening.op args value i b ss said
 
-      all_stored : (laid i b call).store ≡ stored text args value sh
+      all_stored : (laid i b call).store ≡ stored text value sh
       unfolding entry_at entry_of
       all_stored = laid-store text sh a.opening.op args value i b ss said
 
@@ -123,7 +119,7 @@ module _ (text : List ℕ) (a : Ahead) (i x b : ℕ) where
         pub set_room : (m : ℕ) → i + length (laid i b call).items ≤ m → i + pairs + length (set_items text args value sh) ≤ m
         set_room m h = omega (arith, counted, pairs_count)
 
-        pub stored-room : (m : ℕ) → b + length (laid i b call).store ≤ m → b + length (stored text args value sh) ≤ m
+        pub stored-room : (m : ℕ) → b + length (laid i b call).store ≤ m → b + length (stored text value sh) ≤ m
         stored-room m h = rw (← all_stored) h
 
         -- ---- once its values are written
@@ -174,25 +170,8 @@ module _ (text : List ℕ) (a : Ahead) (i x b : ℕ) where
             ap length (items_written items items' items'' h q r) ∙ written_length i (map item_of (laid i b call).items) items (omega (arith, length-map (laid i b call).items item_of))
 
       -- the store
-      pub store_written : (store store' : List ℕ) → store' ≡ written_at b (stored text args value sh) store → store' ≡ written_at b (laid i b call).store store
+      pub store_written : (store store' : List ℕ) → store' ≡ written_at b (stored text value sh) store → store' ≡ written_at b (laid i b call).store store
       store_written store store' q = rw all_stored q
-
--- what the answer says
-module _ (text : List ℕ) (z : Sizes) (n : ℕ) (next : Option Ahead) (r : Advance) (e : r ≡ record { items = z.items; expects = n; store = z.first + z.second + z.third; next = next }) where
-  pub says-items : (m : ℕ) → z.items ≡ m → r.items ≡ m
-  says-items m h = ap (λ (s : Advance). s.items) e ∙ h
-
-  pub says-expects : (m : ℕ) → n ≡ m → r.expects ≡ m
-  says-expects m h = ap (λ (s : Advance). s.expects) e ∙ h
-
-  pub says-store : (m : ℕ) → z.first + z.second + z.third ≡ m → r.store ≡ m
-  says-store m h = ap (λ (s : Advance). s.store) e ∙ h
-
-  pub says-ahead : (later : List Marked) → ahead_of text next ≡ later → ahead_of text r.next ≡ later
-  says-ahead later h = ap (λ (s : Advance). ahead_of text s.next) e ∙ h
-
-  pub says-next : (from : ℕ) → NextIn text from next → NextIn text from r.next
-  says-next from h = rw e h
 
 pub entry_stored : (entries entries' : List Entry) (n : ℕ) (e e' : Entry) → entries' ≡ set entries n e → e ≡ e' → entries' ≡ set entries n e'
 entry_stored entries entries' n e e' q f = q ∙ ap (set entries n) f

@@ -1,6 +1,6 @@
 -- What the lines from a place of the text on hand on lies inside the text. Assumes nothing.
 use Prim.Native.Nat.{ℕ, ◌≤◌}
-use mathlib.Core.Path.{◌≡◌}
+use mathlib.Core.Path.{◌≡◌, sym, ap, ◌∙◌}
 use mathlib.Core.Bool.{Bool, true, false}
 use mathlib.Core.List.{List, [], ◌∷◌, ◌++◌}
 use native.Mathlib.Omega.{arith}
@@ -13,7 +13,7 @@ use Rattle.script.specs.Operations.{same_key}
 use Rattle.script.specs.Values.{plain_rules}
 use Rattle.script.specs.Roles.{Marked, step_of, roles_from}
 use Rattle.script.specs.Contents.{saying_of, sayings, value_or, last_of, is_opening, lead}
-use Rattle.script.specs.Inside.{SayingIn, RoleIn}
+use Rattle.script.specs.Inside.{In, SayingIn, RoleIn}
 use Rattle.script.specs.declared.roles.Key.{Key}
 use Rattle.script.specs.declared.roles.Where.{Where}
 use Rattle.script.specs.declared.roles.Saying.{Saying}
@@ -22,7 +22,8 @@ use Rattle.script.specs.declared.roles.Role.{Role}
 use Rattle.script.specs.declared.roles.Role.TheVariants.{Nothing, Says, Expects, Opens, Bad}
 use Rattle.script.proofs.Inside.{LinesIn, lines_in}
 use Rattle.script.proofs.RolesInside.{role_in}
-use Rattle.said.specs.Said.{piece_at, OptIn, SaidIn}
+use Rattle.said.specs.Said.{said_of, SaidIn}
+use Rattle.said.specs.declared.said.Heard.{Heard}
 use Rattle.below.specs.Below.{roles_at}
 
 module _ (text : List ℕ) where
@@ -33,6 +34,11 @@ module _ (text : List ℕ) where
   abbrev SayingsIn : List Saying → Type 0
   SayingsIn [] = Unit {0}
   SayingsIn (s ∷ ss) = SayingIn text s × SayingsIn ss
+
+  -- a value that was said lies in the text
+  abbrev ValueIn : Option Span → Type 0
+  ValueIn None = Unit {0}
+  ValueIn (Some v) = In text v
 
   roles_in : (w : Where) (ls : List Line) → LinesIn text ls → RolesIn (roles_from plain_rules text w ls)
   unfolding roles_from
@@ -66,11 +72,11 @@ module _ (text : List ℕ) where
       go (Bad n) j rest = rest
 
   -- and so the last value of each key
-  value_in : (k : Key) (s : Saying) (v : Option Span) → SayingIn text s → OptIn text v → OptIn text (value_or k s v)
-  unfolding SayingIn OptIn value_or
+  value_in : (k : Key) (s : Saying) (v : Option Span) → SayingIn text s → ValueIn v → ValueIn (value_or k s v)
+  unfolding SayingIn value_or
   value_in k (Known k' p) v i j = go (same_key k k')
     where
-      go : (b : Bool) → OptIn text (if b then Some p else v)
+      go : (b : Bool) → ValueIn (if b then Some p else v)
       go true = i
       go false = j
   value_in k (Pair a b) v i j = j
@@ -79,14 +85,18 @@ module _ (text : List ℕ) where
   value_in k NoPair v i j = j
   value_in k NoRaw v i j = j
 
-  last_in : (k : Key) (v : Option Span) (ss : List Saying) → OptIn text v → SayingsIn ss → OptIn text (last_of k v ss)
+  last_in : (k : Key) (v : Option Span) (ss : List Saying) → ValueIn v → SayingsIn ss → ValueIn (last_of k v ss)
   unfolding last_of
   last_in k v [] j i = j
   last_in k v (s ∷ ss) j i = last_in k (value_or k s v) ss (value_in k s v i.0 j) i.1
 
   module _ (w : Where) (at number : ℕ) (h : at ≤ length text) where
     -- the values that the lines up to the next opening line leave, where there was none before them
-    pub values_in : (starts ends : List ℕ) → ((k : Key) → piece_at starts ends k ≡ last_of k None (sayings (lead (roles_at text w at number)))) → SaidIn text starts ends
-    unfolding SaidIn OptIn
-    values_in starts ends v k =
-        rw (v k) (last_in k None (sayings (lead (roles_at text w at number))) tt (sayings_in (lead (roles_at text w at number)) (lead_in (roles_at text w at number) (at_in w at number h))))
+    pub values_in : (heard : Heard) → ((k : Key) → said_of heard k ≡ last_of k None (sayings (lead (roles_at text w at number)))) → SaidIn text heard
+    values_in heard l k v e =
+        rw (sym (l k) ∙ e) at (last_in k None (sayings (lead (roles_at text w at number))) tt (sayings_in (lead (roles_at text w at number)) (lead_in (roles_at text w at number) (at_in w at number h))))
+
+-- some lines leave the last value of each key, where nothing was said before them
+pub left_by : (g h : Heard) (ss : List Saying) → ((k : Key) → said_of g k ≡ None) → ((k : Key) → said_of h k ≡ last_of k (said_of g k) ss)
+    → (k : Key) → said_of h k ≡ last_of k None ss
+left_by g h ss z v k = v k ∙ ap (λ (o : Option Span). last_of k o ss) (z k)

@@ -6,7 +6,7 @@ use mathlib.Core.Bool.{false}
 use mathlib.Core.List.{List, [], ◌++◌, map, map-append}
 use native.Mathlib.Omega.{arith}
 use native.Mathlib.Nat.{zero-add}
-use lib.ListN.{length, replicate, length-append, length-map}
+use lib.ListN.{length, length-append, length-map}
 use Rattle.text.specs.Lines.{lines}
 use Rattle.text.specs.declared.parts.Span.{Span}
 use Rattle.script.specs.Pieces.{place}
@@ -22,9 +22,9 @@ use Rattle.script.specs.declared.records.Preamble.{Preamble}
 use Rattle.script.specs.declared.records.Script.{Script}
 use Rattle.script.specs.declared.roles.Key.{Key}
 use Rattle.script.specs.declared.roles.Where.TheVariants.{InPreamble}
-use Rattle.said.specs.Said.{piece_at, SaidIn}
+use Rattle.said.specs.Said.{said_of, SaidIn}
+use Rattle.said.specs.declared.said.Heard.{Heard}
 use Rattle.records.specs.Records.{preamble_record}
-use Rattle.said.proofs.SaidLaws.{said-none}
 use Rattle.records.proofs.RecordLaws.{preamble-is, preamble_same}
 use Rattle.written.specs.Written.{written_at}
 use Rattle.tables.specs.Items.{item_of, items_for}
@@ -97,19 +97,16 @@ module _ (text : List ℕ) where
 
   -- ---- what they say
 
-  module _ (starts ends : List ℕ) (v : (k : Key) → piece_at starts ends k ≡ last_of k (piece_at (replicate 33 1) (replicate 33 0) k) (sayings above)) where
+  module _ (heard : Heard) (v : (k : Key) → said_of heard k ≡ last_of k None (sayings above)) where
     abbrev value : Key → Option Span
-    value = piece_at starts ends
-
-    left_by : (k : Key) → value k ≡ last_of k None (sayings above)
-    left_by k = v k ∙ ap (λ (p : Option Span). last_of k p (sayings above)) (said-none k)
+    value = said_of heard
 
     said : (k : Key) → value k ≡ value_of k (sayings above)
     unfolding value_of
-    said k = left_by k
+    said k = v k
 
-    pub said_in : SaidIn text starts ends
-    said_in = values_in text InPreamble 0 1 (omega arith) starts ends left_by
+    pub said_in : SaidIn text heard
+    said_in = values_in text InPreamble 0 1 (omega arith) heard v
 
     front_is : front ≡ front_of text value
     front_is = laid_front text value above said

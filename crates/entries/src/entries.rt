@@ -12,7 +12,7 @@ ghost use Rattle.entries.specs.Entries.{takes_pairs, entry_at, laid_entry, entri
 use below::lines_below::{Ahead, read_lines};
 use closing::entry::entry_of;
 use kept::Kept;
-use records::calls::Sizes;
+use said::said::{Heard, Said};
 use script::records::{Entry, Expectation};
 use stored::stored_values::put_values;
 use wire::ops::Op;
@@ -27,6 +27,7 @@ pub struct Advance {
 }
 
 // Whether the operation takes an override list.
+#[tactic(auto, unfolding(script::specs::Operations::form_of, crate::specs::Entries::takes_pairs))]
 fn takes_pairs(op: Op) -> bool
     ensures { result ≡ takes_pairs (form_of op).shape }
 {
@@ -36,23 +37,10 @@ fn takes_pairs(op: Op) -> bool
     }
 }
 
-// What was taken, and what comes next.
-fn advanced(z: Sizes, expects: usize, next: Option<Ahead>) -> Advance
-    requires { z.first + z.second + z.third < 0x1_0000_0000_0000_0000 }
-    ensures { result ≡ record { items = z.items; expects = expects; store = z.first + z.second + z.third; next = next } }
-{
-    Advance {
-        items: z.items,
-        expects,
-        store: z.first + z.second + z.third,
-        next,
-    }
-}
-
 // Reads one entry, whose opening line is ahead, behind n entries, i items, x expectations and b bytes of the store.
 pub fn read_entry(
     text: &[u8],
-    kept: &[Kept],
+    kept: &[Option<Kept>],
     a: Ahead,
     entries: &mut [Entry],
     n: usize,
@@ -85,36 +73,39 @@ pub fn read_entry(
     ensures store_after { store.new ≡ written_at b (laid i b (entry_at text.now a).call).store store.old }
 {
     let p = a.opening;
-    let op = p.op;
-    let args = p.args;
-    let stands = a.stands;
-    let mut starts = [1usize; 33];
-    let mut ends = [0usize; 33];
+    let mut heard = Heard::new();
     let ls = read_lines(
         text,
         kept,
         a.at,
         a.line + 1,
-        stands,
-        &mut starts,
-        &mut ends,
-        takes_pairs(op),
+        a.stands,
+        &mut heard,
+        takes_pairs(p.op),
         items,
         i,
         expectations,
         x,
     );
-    let z = put_values(text, op, args, &starts, &ends, ls.pairs, items, i, store, b);
-    let e = entry_of(text, a.line, p, &starts, &ends, i, b, z, x, ls.expects);
+    let said = Said {
+        text,
+        heard: &heard,
+    };
+    let z = put_values(p.op, p.args, said, ls.pairs, items, i, store, b);
+    let e = entry_of(a.line, p, said, i, b, z, x, ls.expects);
     slots::put(entries, n, e);
-    let next = ls.next;
-    advanced(z, ls.expects, next)
+    Advance {
+        items: z.items,
+        expects: ls.expects,
+        store: z.first + z.second + z.third,
+        next: ls.next,
+    }
 }
 
 // Reads the entries from the one that comes next on.
 pub fn read_entries(
     text: &[u8],
-    kept: &[Kept],
+    kept: &[Option<Kept>],
     first: Option<Ahead>,
     entries: &mut [Entry],
     items: &mut [[usize; 2]],
@@ -143,6 +134,7 @@ pub fn read_entries(
     let mut i = front;
     let mut x = early;
     let mut b: usize = 0;
+    // No iterator gives the entries: only when one has been read is it known where the next one stands.
     while let Some(a) = next {
         let r = read_entry(
             text,

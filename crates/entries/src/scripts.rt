@@ -9,19 +9,14 @@ use crate::entries::read_entries;
 use below::lines_below::read_lines;
 use kept::Kept;
 use preamble_records::preamble_of;
-use script::records::{Counts, Entry, Expectation, Preamble, Script};
+use said::said::{Heard, Said};
+use script::records::{Counts, Entry, Expectation, Script};
 use script::roles::Where;
-
-fn script_of(preamble: Preamble, counts: Counts) -> Script
-    ensures { result ≡ record { preamble = preamble; counts = counts } }
-{
-    Script { preamble, counts }
-}
 
 // Reads a text that is not refused into tables that are long enough.
 pub fn read_script(
     text: &[u8],
-    kept: &[Kept],
+    kept: &[Option<Kept>],
     counts: Counts,
     entries: &mut [Entry],
     items: &mut [[usize; 2]],
@@ -44,30 +39,31 @@ pub fn read_script(
     ensures expectations_after { expectations.new ≡ written_at 0 (reading_of text.now).tables.expectations expectations.old }
     ensures store_after { store.new ≡ written_at 0 (reading_of text.now).tables.store store.old }
 {
-    let mut starts = [1usize; 33];
-    let mut ends = [0usize; 33];
+    let mut heard = Heard::new();
     let led = read_lines(
         text,
         kept,
         0,
         1,
         Where::InPreamble,
-        &mut starts,
-        &mut ends,
+        &mut heard,
         false,
         items,
         0,
         expectations,
         0,
     );
-    let f = closing::front::put_front(text, &starts, &ends, items);
-    let preamble = preamble_of(text, &starts, &ends, f.features, f.server, led.expects);
-    let next = led.next;
+    let said = Said {
+        text,
+        heard: &heard,
+    };
+    let f = closing::front::put_front(said, items);
+    let preamble = preamble_of(said, f.features, f.server, led.expects);
     let front = f.features + f.server;
     read_entries(
         text,
         kept,
-        next,
+        led.next,
         entries,
         items,
         front,
@@ -75,5 +71,5 @@ pub fn read_script(
         led.expects,
         store,
     );
-    script_of(preamble, counts)
+    Script { preamble, counts }
 }

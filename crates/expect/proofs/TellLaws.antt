@@ -12,20 +12,21 @@ use Rattle.text.specs.Base.{overlaid}
 use Rattle.script.specs.Refusals.{refusal}
 use Rattle.writing.specs.Room.{left}
 use Rattle.writing.proofs.RoomLaws.{left-fits, left_short}
-use Rattle.writing.proofs.PutLaws.{front_taken}
+use Rattle.written.proofs.WrittenLaws.{front_taken}
 use Rattle.script.specs.declared.records.Expect.{Expect}
-use Rattle.script.specs.declared.response.DaemonResponse.{DaemonResponse}
-use Rattle.script.specs.declared.response.HandshakeInfo.{HandshakeInfo}
 use Rattle.script.specs.declared.records.Refusal.{Refusal}
-use Rattle.verdicts.specs.Held.{expected_of, response_of, info_of, expect_in, response_in, info_in}
-use Rattle.verdicts.specs.Told.{greeting, reply}
-use Rattle.verdicts.specs.Lookup.{looked, looked_in, told_in, present_bytes}
+use Rattle.verdicts.specs.Held.{expected_of, expect_in}
+use Rattle.verdicts.specs.Lookup.{looked, present_bytes}
 use Rattle.verdicts.specs.Verdicts.{verdict}
-use Rattle.verdicts.specs.Messages.{message, entry_message, handshake_message}
+use Rattle.verdicts.specs.Messages.{message}
+use Rattle.verdicts.specs.Subjects.{held_by, parts_in}
 use Rattle.verdicts.specs.declared.Verdict.{Verdict}
-use Rattle.frames.specs.Frames.{is_missing, frame_bytes, entry_frame, handshake_frame}
+use Rattle.verdicts.specs.declared.handed.Handed.{Handed}
+use Rattle.verdicts.specs.declared.handed.Handed.TheVariants.{Info, Response}
+use Rattle.frames.specs.Frames.{is_missing, frame_bytes}
 use Rattle.frames.specs.declared.frames.Frame.{Frame}
 use Rattle.frames.proofs.FrameLaws.{entry_says, handshake-says}
+use Rattle.message_frames.specs.MessageFrames.{message_frame}
 use Rattle.messages.specs.Lengths.{frame_length}
 use Rattle.messages.proofs.MessageLaws.{frame_length_lem}
 use Rattle.sought.specs.Values.{value_bytes, value_text}
@@ -106,64 +107,41 @@ frame_long text bytes value f s k room r h e p q = omega (arith, room_short room
 
 -- ---- whole answers
 
-module _ (text bytes : List ℕ) (x : Expect) (scratch buffer : List ℕ) (lists table : List (List ℕ)) (same : table ≡ counted lists) where
+-- the frame of an expectation is what document 01 says of it
+subject-says : (text bytes : List ℕ) (lists : List (List ℕ)) (h : Handed) (x : Expect) (missing : Bool) (v : Verdict)
+    → missing ≡ is_missing (looked (held_by bytes lists h) (expected_of text x))
+    → v ≡ verdict (held_by bytes lists h) (expected_of text x)
+    → frame_bytes text bytes (present_bytes (looked (held_by bytes lists h) (expected_of text x))) (message_frame x missing v h) ≡ message (held_by bytes lists h) (expected_of text x)
+unfolding held_by looked message message_frame
+subject-says text bytes lists (Info i) x missing v k e = handshake-says text bytes lists i x v e
+subject-says text bytes lists (Response r) x missing v k e = entry_says text bytes lists r x missing v k e
+
+module _ (text bytes : List ℕ) (x : Expect) (h : Handed) (scratch buffer : List ℕ) (lists table : List (List ℕ)) (same : table ≡ counted lists) where
   -- by a table that is the one that counts
-  module _ (r : DaemonResponse) where
-    abbrev pub EntryTold : List (List ℕ) → Result Told Refusal → (scr buf : List ℕ) → Type 0
-    EntryTold T t scr buf =
-        (t ≡ told_of (expect_in (length text) x) (response_in (length bytes) T r) (reply (response_of bytes T r)) (expected_of text x) (length scratch) (length buffer))
-        × ((scr ≡ unless_refused t (present_bytes (looked_in (response_of bytes T r) (expected_of text x))) scratch) × (buf ≡ unless_refused t (entry_message (response_of bytes T r) (expected_of text x)) buffer))
+  abbrev MessageTold : List (List ℕ) → Result Told Refusal → (scr buf : List ℕ) → Type 0
+  MessageTold T t scr buf =
+      (t ≡ told_of (expect_in (length text) x) (parts_in bytes T h) (held_by bytes T h) (expected_of text x) (length scratch) (length buffer))
+      × ((scr ≡ unless_refused t (present_bytes (looked (held_by bytes T h) (expected_of text x))) scratch) × (buf ≡ unless_refused t (message (held_by bytes T h) (expected_of text x)) buffer))
 
-    pub entry_judged : (a b missing : Bool) (value : Value) (v : Verdict) (f : Frame) (t : Result Told Refusal) (scr buf : List ℕ) → a ≡ expect_in (length text) x → a ≡ true
-        → b ≡ response_in (length bytes) table r → b ≡ true
-        → value_bytes bytes table value ≡ looked_in (response_of bytes table r) (expected_of text x)
-        → v ≡ verdict (reply (response_of bytes table r)) (expected_of text x)
-        → missing ≡ no_value value
-        → f ≡ entry_frame x missing v r.terminal
-        → Answers v (value_text bytes table value) (frame_bytes text bytes (value_text bytes table value) f) scratch buffer t scr buf
-        → EntryTold (counted lists) t scr buf
-    unfolding looked message
-    entry_judged a b missing value v f t scr buf p p' q q' l h k g w =
-        let y = text-is bytes table value _ l in
-        let m = k ∙ missing-is bytes table value ∙ ap is_missing l in
-        let says =
-        ap (frame_bytes text bytes (value_text bytes table value)) g
-        ∙ ap (λ (z : List ℕ). frame_bytes text bytes z (entry_frame x missing v r.terminal)) y
-        ∙ entry_says text bytes table r x missing v m h in
-        subst (λ (T : List (List ℕ)). EntryTold T t scr buf) same
-        (judged (expect_in (length text) x) (response_in (length bytes) table r) (reply (response_of bytes table r)) (expected_of text x) scratch buffer v (value_text bytes table value) (frame_bytes text bytes (value_text bytes table value) f) scr buf t (sym p ∙ p') (sym q ∙ q') h y says w)
+  pub message-judged : (a b missing : Bool) (value : Value) (v : Verdict) (f : Frame) (t : Result Told Refusal) (scr buf : List ℕ) → a ≡ expect_in (length text) x → a ≡ true
+      → b ≡ parts_in bytes table h → b ≡ true
+      → value_bytes bytes table value ≡ looked (held_by bytes table h) (expected_of text x)
+      → v ≡ verdict (held_by bytes table h) (expected_of text x)
+      → missing ≡ no_value value
+      → f ≡ message_frame x missing v h
+      → Answers v (value_text bytes table value) (frame_bytes text bytes (value_text bytes table value) f) scratch buffer t scr buf
+      → MessageTold (counted lists) t scr buf
+  message-judged a b missing value v f t scr buf p p' q q' l i k g w =
+      let y = text-is bytes table value _ l in
+      let m = k ∙ missing-is bytes table value ∙ ap is_missing l in
+      let says =
+      ap (frame_bytes text bytes (value_text bytes table value)) g
+      ∙ ap (λ (z : List ℕ). frame_bytes text bytes z (message_frame x missing v h)) y
+      ∙ subject-says text bytes table h x missing v m i in
+      subst (λ (T : List (List ℕ)). MessageTold T t scr buf) same
+      (judged (expect_in (length text) x) (parts_in bytes table h) (held_by bytes table h) (expected_of text x) scratch buffer v (value_text bytes table value) (frame_bytes text bytes (value_text bytes table value) f) scr buf t (sym p ∙ p') (sym q ∙ q') i y says w)
 
-    pub entry_refused : (a b : Bool) (t : Result Told Refusal) → a ≡ expect_in (length text) x → a ≡ true → b ≡ response_in (length bytes) table r → b ≡ false → t ≡ Err (refusal PartOutside 0) → EntryTold (counted lists) t scratch buffer
-    unfolding looked message
-    entry_refused a b t p p' q q' h =
-        subst (λ (T : List (List ℕ)). EntryTold T t scratch buffer) same
-        (outside_bytes (expect_in (length text) x) (response_in (length bytes) table r) (reply (response_of bytes table r)) (expected_of text x) scratch buffer t (sym p ∙ p') (sym q ∙ q') h)
-
-  module _ (i : HandshakeInfo) where
-    abbrev pub HandshakeTold : List (List ℕ) → Result Told Refusal → (scr buf : List ℕ) → Type 0
-    HandshakeTold T t scr buf =
-        (t ≡ told_of (expect_in (length text) x) (info_in (length bytes) T i) (greeting (info_of bytes T i)) (expected_of text x) (length scratch) (length buffer))
-        × ((scr ≡ unless_refused t (present_bytes (told_in (info_of bytes T i) (expected_of text x))) scratch) × (buf ≡ unless_refused t (handshake_message (info_of bytes T i) (expected_of text x)) buffer))
-
-    pub handshake-judged : (a b : Bool) (value : Value) (v : Verdict) (f : Frame) (t : Result Told Refusal) (scr buf : List ℕ) → a ≡ expect_in (length text) x → a ≡ true
-        → b ≡ info_in (length bytes) table i → b ≡ true
-        → value_bytes bytes table value ≡ told_in (info_of bytes table i) (expected_of text x)
-        → v ≡ verdict (greeting (info_of bytes table i)) (expected_of text x)
-        → f ≡ handshake_frame x v
-        → Answers v (value_text bytes table value) (frame_bytes text bytes (value_text bytes table value) f) scratch buffer t scr buf
-        → HandshakeTold (counted lists) t scr buf
-    unfolding looked message
-    handshake-judged a b value v f t scr buf p p' q q' l h g w =
-        let y = text-is bytes table value _ l in
-        let says =
-        ap (frame_bytes text bytes (value_text bytes table value)) g
-        ∙ ap (λ (z : List ℕ). frame_bytes text bytes z (handshake_frame x v)) y
-        ∙ handshake-says text bytes table i x v h in
-        subst (λ (T : List (List ℕ)). HandshakeTold T t scr buf) same
-        (judged (expect_in (length text) x) (info_in (length bytes) table i) (greeting (info_of bytes table i)) (expected_of text x) scratch buffer v (value_text bytes table value) (frame_bytes text bytes (value_text bytes table value) f) scr buf t (sym p ∙ p') (sym q ∙ q') h y says w)
-
-    pub handshake-refused : (a b : Bool) (t : Result Told Refusal) → a ≡ expect_in (length text) x → a ≡ true → b ≡ info_in (length bytes) table i → b ≡ false → t ≡ Err (refusal PartOutside 0) → HandshakeTold (counted lists) t scratch buffer
-    unfolding looked message
-    handshake-refused a b t p p' q q' h =
-        subst (λ (T : List (List ℕ)). HandshakeTold T t scratch buffer) same
-        (outside_bytes (expect_in (length text) x) (info_in (length bytes) table i) (greeting (info_of bytes table i)) (expected_of text x) scratch buffer t (sym p ∙ p') (sym q ∙ q') h)
+  pub message-refused : (a b : Bool) (t : Result Told Refusal) → a ≡ expect_in (length text) x → a ≡ true → b ≡ parts_in bytes table h → b ≡ false → t ≡ Err (refusal PartOutside 0) → MessageTold (counted lists) t scratch buffer
+  message-refused a b t p p' q q' r =
+      subst (λ (T : List (List ℕ)). MessageTold T t scratch buffer) same
+      (outside_bytes (expect_in (length text) x) (parts_in bytes table h) (held_by bytes table h) (expected_of text x) scratch buffer t (sym p ∙ p') (sym q ∙ q') r)

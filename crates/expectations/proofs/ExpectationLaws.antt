@@ -6,14 +6,13 @@ use Prim.Native.String.{String}
 use mathlib.Core.Path.{◌≡◌, refl, sym, ◌∙◌}
 use mathlib.Core.Bool.{Bool, true, false}
 use mathlib.Core.List.{List, [], ◌∷◌}
-use native.Mathlib.Omega.{arith}
 use lib.ListN.{length, get_or}
 use borrow.Author.Tests.{ne_eqb}
-use Rattle.text.specs.Parts.{span, starts_with, position}
+use Rattle.text.specs.Parts.{span, starts_with}
 use Rattle.text.specs.declared.parts.Span.{Span}
 use Rattle.text.proofs.LiteralLaws.{codes}
 use Rattle.script.specs.Answers.{first_of, Answer}
-use Rattle.script.specs.Pieces.{place, bytes, behind, trim, cut_at}
+use Rattle.script.specs.Pieces.{place, bytes, behind, trim, cut, cut_into}
 use Rattle.script.specs.Expectations.{COLON, about, matcher, matching, terminal, field, result, expectation}
 use Rattle.script.specs.Roles.{expecting, expect_role}
 use Rattle.script.specs.declared.records.Place.{Place}
@@ -22,31 +21,20 @@ use Rattle.script.specs.declared.records.Expect.{Expect}
 use Rattle.script.specs.declared.records.Expect.TheVariants as expect
 use Rattle.script.specs.declared.roles.Role.{Role}
 use Rattle.script.specs.declared.roles.Role.TheVariants.{Bad}
-use Rattle.script.specs.Inside.{In}
-use Rattle.expectations.specs.ExpectAnswers.{expect_about, about_behind, about_word, field_at, by_sign}
+use Rattle.expectations.specs.ExpectAnswers.{expect_about, about_in, about_word, by_sign}
 use Rattle.expectations.specs.declared.Subject.{Subject}
 use Rattle.expectations.specs.declared.Subject.TheVariants.{Result, Field, Error, StderrCount, Daemon, Trust, ServerFeatures}
-use Rattle.pieces.proofs.BehindLaws.{fronts, front_behind, front_is, front_fits, behind-some, behind-none, cut-some, cut-none}
+use Rattle.pieces.proofs.BehindLaws.{fronts, front_behind, front_is, behind-some, behind-none}
 use Rattle.script.specs.declared.refusals.Reason.{Reason}
 use Rattle.script.specs.declared.refusals.Reason.TheVariants.{UnknownExpectation}
 
--- what is made of the matcher that was read
-module _ (text : List ℕ) (r : Span) (n : ℕ) (s : Subject) (t : Span) (e : t ≡ trim text (span (r.start + n) r.end)) (a : Answer Matcher) (q : a ≡ matcher text t) where
-  pub matcher-given : (m : Matcher) → a ≡ Ok m → (x : Expect) → x ≡ expect_about s m → Ok x ≡ about_behind text r n s
-  unfolding about about_behind
-  matcher-given m g x k = rw (← e, ← q, g, k)
-
-  pub matcher-refused : (why : Reason) → a ≡ Err why → (b : Answer Expect) → b ≡ Err why → b ≡ about_behind text r n s
-  unfolding about about_behind
-  matcher-refused why g b h = rw (← e, ← q, g, h)
-
--- and of the word: b is the answer of `pieces::begins`
+-- what stands behind a word: b is the answer of `Piece::starts_with`
 module _ (text : List ℕ) (r : Span) (word : List ℕ) (s : Subject) (b : Bool) (e : b ≡ starts_with word (bytes text r)) where
   pub word_none : b ≡ false → Err UnknownExpectation ≡ about_word text r word s
   unfolding about_word
   word_none f = rw (sym e ∙ f)
 
-  pub word_some : b ≡ true → (a : Answer Expect) → a ≡ about_behind text r (length word) s → a ≡ about_word text r word s
+  pub word_some : b ≡ true → (a : Answer Expect) → a ≡ about_in text (span (r.start + length word) r.end) s → a ≡ about_word text r word s
   unfolding about_word
   word_some t a h = rw (sym e ∙ t) h
 
@@ -90,7 +78,7 @@ module _ (text : List ℕ) (r : Span) where
   worded w s = matching text (expect_about s) (behind text w r)
 
   word_is : (w : String) (s : Subject) (os : List (Option (Answer Expect))) → first_of os (Err UnknownExpectation) ≡ Err UnknownExpectation → about_word text r (codes w) s ≡ first_of (worded w s ∷ os) (Err UnknownExpectation)
-  unfolding about_word about_behind matching first_of
+  unfolding about_word about_in matching first_of
   word_is w s os l = go (starts_with (codes w) (bytes text r)) refl
     where
       go : (b : Bool) → b ≡ starts_with (codes w) (bytes text r) → about_word text r (codes w) s ≡ first_of (worded w s ∷ os) (Err UnknownExpectation)
@@ -111,8 +99,8 @@ module _ (text : List ℕ) (r : Span) where
     a_trust x h = h ∙ word_is "trust:" Trust (None ∷ []) refl ∙ sym (simp (no 116 (sym x)))
 
     module _ (x : get_or (bytes text r) 0 0 ≡ 115) (b : Bool) (e : b ≡ starts_with (codes "stderr.count:") (bytes text r)) where
-      pub a_count : b ≡ true → a ≡ about_behind text r 13 StderrCount → a ≡ expectation text r
-      unfolding expectation terminal matching first_of expect_about about_behind
+      pub a_count : b ≡ true → a ≡ about_in text (span (r.start + 13) r.end) StderrCount → a ≡ expectation text r
+      unfolding expectation terminal matching first_of expect_about about_in
       a_count t h = h ∙ sym (simp (no 115 (sym x), behind-some text r "stderr.count:" b e t))
 
       pub some-features : b ≡ false → a ≡ about_word text r (codes "server_features:") ServerFeatures → a ≡ expectation text r
@@ -140,28 +128,20 @@ module _ (text : List ℕ) (q : Span) (y : ℕ) (g : y ≡ get_or (bytes text q)
   unfolding by_sign matching field first_of
   no_sign d c = rw (front_behind text q y g ":" (ne_eqb y 58 c), front_behind text q y g "." (ne_eqb y 46 d))
 
-  pub a_colon : y ≡ 58 → (a : Answer Expect) → a ≡ about_behind text q 1 Result → a ≡ by_sign text q
-  unfolding by_sign matching first_of about_behind expect_about
+  pub a_colon : y ≡ 58 → (a : Answer Expect) → a ≡ about_in text (span (q.start + 1) q.end) Result → a ≡ by_sign text q
+  unfolding by_sign matching first_of about_in expect_about
   a_colon c a h = rw (front_is text q y g ":" 58 refl c refl) h
 
--- a field, behind its dot
-pub dot_in : (text : List ℕ) (q : Span) → get_or (bytes text q) 0 0 ≡ 46 → In text q → In text (span (q.start + 1) q.end)
-dot_in text q x i = record { forward = front_fits text q 46 i x refl; inside = i.inside }
-
-module _ (text : List ℕ) (q : Span) (x : get_or (bytes text q) 0 0 ≡ 46) (f : Option ℕ) (e : f ≡ position COLON (bytes text (span (q.start + 1) q.end))) where
-  pub no_name : f ≡ None → Err UnknownExpectation ≡ first_of (field text (behind text "." q) ∷ []) (Err UnknownExpectation)
+-- a field, behind its dot: its name and its matcher stand around the colon
+module _ (text : List ℕ) (q : Span) (x : get_or (bytes text q) 0 0 ≡ 46) where
+  pub no_name : None ≡ cut text COLON (span (q.start + 1) q.end) → Err UnknownExpectation ≡ first_of (field text (behind text "." q) ∷ []) (Err UnknownExpectation)
   unfolding field first_of
-  no_name h = rw (front_is text q 46 (sym x) "." 46 refl refl refl, cut-none text (q.start + 1) q.end COLON f e h)
+  no_name e = rw (front_is text q 46 (sym x) "." 46 refl refl refl, ← e)
 
-  pub a_name : (n : ℕ) → f ≡ Some n → (a : Answer Expect) → a ≡ field_at text (span (q.start + 1) q.end) n → a ≡ first_of (field text (behind text "." q) ∷ []) (Err UnknownExpectation)
-  unfolding field matching first_of field_at
-  a_name n h a k = rw (front_is text q 46 (sym x) "." 46 refl refl refl, cut-some text (q.start + 1) q.end COLON f e n h) k
-
--- its name and its matcher
-pub a_cut : (text : List ℕ) (p : Span) (n : ℕ) (name : Place) → name ≡ place (trim text (span p.start (p.start + n)))
-    → (a : Answer Expect) → a ≡ about_behind text p (n + 1) (Field name) → a ≡ field_at text p n
-unfolding about_behind expect_about field_at cut_at
-a_cut text p n name k a h = let e : p.start + n + 1 ≡ p.start + (n + 1) = omega arith in rw (e, ← k) h
+  pub a_name : (name rest : Span) → Some (cut_into name rest) ≡ cut text COLON (span (q.start + 1) q.end) → (l : Place) → l ≡ place (trim text name)
+      → (a : Answer Expect) → a ≡ about_in text rest (Field l) → a ≡ first_of (field text (behind text "." q) ∷ []) (Err UnknownExpectation)
+  unfolding field matching first_of about_in expect_about
+  a_name name rest e l k a h = h ∙ rw (front_is text q 46 (sym x) "." 46 refl refl refl, ← e, k)
 
 -- a line that begins with `expect`
 module _ (text : List ℕ) (t : Span) (b : Bool) (e : b ≡ starts_with (codes "expect") (bytes text t)) where
@@ -179,4 +159,4 @@ pub ruleset result_words = (no_result, a_result)
 
 pub ruleset result-signs = (a_field, no_sign, a_colon)
 
-pub ruleset field-words = (a_name, dot_in, a_cut)
+pub ruleset field-words = (a_name, no_name)

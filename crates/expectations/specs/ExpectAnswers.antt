@@ -3,7 +3,7 @@ use Rattle.std.specs.Prelude.{ℕ, ◌+◌, List, [], ◌∷◌, length, if◌th
 use Rattle.text.specs.Parts.{span, starts_with}
 use Rattle.text.specs.declared.parts.Span.{Span}
 use Rattle.script.specs.Answers.{first_of, Answer}
-use Rattle.script.specs.Pieces.{place, bytes, behind, trim, cut_at}
+use Rattle.script.specs.Pieces.{bytes, behind, trim}
 use Rattle.script.specs.Expectations.{about, matcher, matching, field}
 use Rattle.script.specs.declared.records.Matcher.{Matcher}
 use Rattle.script.specs.declared.records.Expect.{Expect}
@@ -23,17 +23,13 @@ expect_about Trust = expect.Trust
 expect_about ServerFeatures = expect.ServerFeatures
 
 module _ (text : List ℕ) where
-  -- the matcher that stands behind the first n bytes
-  unfoldable pub about_behind : Span → (n : ℕ) → Subject → Answer Expect
-  about_behind r n s = about (expect_about s) (matcher text (trim text (span (r.start + n) r.end)))
+  -- the matcher that stands there, without the White_Space around it
+  unfoldable pub about_in : Span → Subject → Answer Expect
+  about_in p s = about (expect_about s) (matcher text (trim text p))
 
   -- the same behind a word, given as bytes; refused where it does not stand there
   unfoldable pub about_word : Span → (word : List ℕ) → Subject → Answer Expect
-  about_word r word s = if starts_with word (bytes text r) then about_behind r (length word) s else Err UnknownExpectation
-
-  -- a field's name and its matcher: the two parts of a piece, with the colon at its n-th byte
-  unfoldable pub field_at : Span → (n : ℕ) → Answer Expect
-  field_at p n = about (expect.ResultField (place (trim text (cut_at p n).before))) (matcher text (trim text (cut_at p n).after))
+  about_word r word s = if starts_with word (bytes text r) then about_in (span (r.start + length word) r.end) s else Err UnknownExpectation
 
   -- by the sign behind the word `result`: `: matcher`, or `.field: matcher`
   unfoldable pub by_sign : Span → Answer Expect

@@ -1,20 +1,18 @@
 // What a line expects (`parse_expect` of script/parse.rs of the Rust): the first byte tells which words may stand there.
 #![tactic(auto)]
 
-ghost use Rattle.std.specs.Prelude.{◌≡◌, [], ◌∷◌, ◌+◌, ◌≤◌, ◌<◌, get_or, Err};
-ghost use Rattle.text.specs.Parts.{span};
+ghost use Rattle.std.specs.Prelude.{◌≡◌, [], ◌∷◌, get_or, Err};
 ghost use Rattle.script.specs.Answers.{first_of};
-ghost use Rattle.script.specs.Pieces.{bytes, place, trim, behind};
+ghost use Rattle.script.specs.Pieces.{bytes, behind};
 ghost use Rattle.script.specs.Expectations.{field, expectation};
 ghost use Rattle.script.specs.Roles.{expecting, expect_role};
-ghost use Rattle.script.specs.Inside.{In};
-ghost use Rattle.expectations.specs.ExpectAnswers.{expect_about, about_behind, about_word, field_at, by_sign};
+ghost use Rattle.expectations.specs.ExpectAnswers.{expect_about, about_in, about_word, by_sign};
 ghost use Rattle.script.specs.declared.refusals.Reason.TheVariants.{UnknownExpectation};
 
+use pieces::pieces::Piece;
 use script::records::{Expect, Matcher, Place};
 use script::refusals::Reason;
 use script::roles::Role;
-use text::parts::Span;
 
 // What a matcher is held against.
 #[derive(Clone, Copy)]
@@ -42,151 +40,115 @@ fn expect_about(s: Subject, m: Matcher) -> Expect
     }
 }
 
-// The matcher that stands behind the first n bytes.
-fn about_behind(text: &[u8], r: Span, n: usize, s: Subject) -> Result<Expect, Reason>
-    requires fact { In text.now r }
-    requires n_bound { r.start + n ≤ r.end }
-    ensures { result ≡ about_behind text.now r n s }
+// The matcher that stands there, without the White_Space around it.
+fn about(p: Piece<'_>, s: Subject) -> Result<Expect, Reason>
+    ensures { result ≡ about_in p.entry.text.now p.entry.at s }
 {
-    let t = pieces::fronts::behind_trimmed(text, r, n);
-    let m = matchers::matchers::matcher(text, t)?;
+    let m = matchers::matchers::matcher(p.trimmed())?;
     Ok(expect_about(s, m))
 }
 
 // The same behind a word.
-fn about_word(text: &[u8], r: Span, word: &[u8], s: Subject) -> Result<Expect, Reason>
-    requires { In text.now r }
-    ensures { result ≡ about_word text.now r word.now s }
+fn about_word(r: Piece<'_>, word: &[u8], s: Subject) -> Result<Expect, Reason>
+    ensures { result ≡ about_word r.entry.text.now r.entry.at word.now s }
 {
-    if pieces::pieces::begins(text, r, word) {
-        return about_behind(text, r, word.len(), s);
+    if r.starts_with(word) {
+        return about(r.behind(word.len()), s);
     }
     Err(Reason::UnknownExpectation)
 }
 
 // `: Last`
-fn terminal(text: &[u8], r: Span) -> Result<Expect, Reason>
-    requires fact { In text.now r }
-    requires r_value { get_or (bytes text.now r) 0 0 ≡ 58 }
-    ensures { result ≡ expectation text.now r }
+fn terminal(r: Piece<'_>) -> Result<Expect, Reason>
+    requires { get_or (bytes r.text.now r.at) 0 0 ≡ 58 }
+    ensures { result ≡ expectation r.entry.text.now r.entry.at }
 {
-    let t = pieces::fronts::behind_trimmed(text, r, 1);
-    Ok(Expect::Terminal(matchers::matchers::place_of(t)))
+    let t = r.behind(1).trimmed();
+    Ok(Expect::Terminal(matchers::matchers::place_of(t.at)))
 }
 
 // `daemon: matcher`
-fn on_daemon(text: &[u8], r: Span) -> Result<Expect, Reason>
-    requires fact { In text.now r }
-    requires r_value { get_or (bytes text.now r) 0 0 ≡ 100 }
-    ensures { result ≡ expectation text.now r }
+fn on_daemon(r: Piece<'_>) -> Result<Expect, Reason>
+    requires { get_or (bytes r.text.now r.at) 0 0 ≡ 100 }
+    ensures { result ≡ expectation r.entry.text.now r.entry.at }
 {
-    about_word(text, r, b"daemon:", Subject::Daemon)
+    about_word(r, b"daemon:", Subject::Daemon)
 }
 
 // `error: matcher`
-fn on_error(text: &[u8], r: Span) -> Result<Expect, Reason>
-    requires fact { In text.now r }
-    requires r_value { get_or (bytes text.now r) 0 0 ≡ 101 }
-    ensures { result ≡ expectation text.now r }
+fn on_error(r: Piece<'_>) -> Result<Expect, Reason>
+    requires { get_or (bytes r.text.now r.at) 0 0 ≡ 101 }
+    ensures { result ≡ expectation r.entry.text.now r.entry.at }
 {
-    about_word(text, r, b"error:", Subject::Error)
+    about_word(r, b"error:", Subject::Error)
 }
 
 // `trust: matcher`
-fn on_trust(text: &[u8], r: Span) -> Result<Expect, Reason>
-    requires fact { In text.now r }
-    requires r_value { get_or (bytes text.now r) 0 0 ≡ 116 }
-    ensures { result ≡ expectation text.now r }
+fn on_trust(r: Piece<'_>) -> Result<Expect, Reason>
+    requires { get_or (bytes r.text.now r.at) 0 0 ≡ 116 }
+    ensures { result ≡ expectation r.entry.text.now r.entry.at }
 {
-    about_word(text, r, b"trust:", Subject::Trust)
+    about_word(r, b"trust:", Subject::Trust)
 }
 
 // `stderr.count: matcher`, or `server_features: matcher`
-fn on_count_or_features(text: &[u8], r: Span) -> Result<Expect, Reason>
-    requires fact { In text.now r }
-    requires r_value { get_or (bytes text.now r) 0 0 ≡ 115 }
-    ensures { result ≡ expectation text.now r }
+fn on_count_or_features(r: Piece<'_>) -> Result<Expect, Reason>
+    requires { get_or (bytes r.text.now r.at) 0 0 ≡ 115 }
+    ensures { result ≡ expectation r.entry.text.now r.entry.at }
 {
-    if pieces::pieces::begins(text, r, b"stderr.count:") {
-        return about_behind(text, r, 13, Subject::StderrCount);
+    if r.starts_with(b"stderr.count:") {
+        return about(r.behind(13), Subject::StderrCount);
     }
-    about_word(text, r, b"server_features:", Subject::ServerFeatures)
-}
-
-// A field's name, with the colon at the n-th byte.
-fn field_name(text: &[u8], p: Span, n: usize) -> Place
-    requires fact { In text.now p }
-    requires n_bound { p.start + n < p.end }
-    ensures { result ≡ place (trim text.now (span p.start (p.start + n))) }
-{
-    let start = p.start;
-    let before = Span {
-        start,
-        end: start + n,
-    };
-    matchers::matchers::place_of(pieces::pieces::trimmed(text, before))
-}
-
-// A field's name and its matcher, with the colon at the n-th byte.
-fn field_cut(text: &[u8], p: Span, n: usize) -> Result<Expect, Reason>
-    requires fact { In text.now p }
-    requires n_bound { p.start + n < p.end }
-    ensures { result ≡ field_at text.now p n }
-{
-    let name = field_name(text, p, n);
-    about_behind(text, p, n + 1, Subject::Field(name))
+    about_word(r, b"server_features:", Subject::ServerFeatures)
 }
 
 // `.field: matcher`
-fn field(text: &[u8], q: Span) -> Result<Expect, Reason>
-    requires fact { In text.now q }
-    requires q_value { get_or (bytes text.now q) 0 0 ≡ 46 }
-    ensures { result ≡ first_of (field text.now (behind text.now "." q) ∷ []) (Err UnknownExpectation) }
+fn field(q: Piece<'_>) -> Result<Expect, Reason>
+    requires { get_or (bytes q.text.now q.at) 0 0 ≡ 46 }
+    ensures { result ≡ first_of (field q.entry.text.now (behind q.entry.text.now "." q.entry.at) ∷ []) (Err UnknownExpectation) }
 {
-    let rest = Span {
-        start: q.start + 1,
-        end: q.end,
+    let Some((name, rest)) = q.behind(1).split_once(b':') else {
+        return Err(Reason::UnknownExpectation);
     };
-    let n = pieces::pieces::find_in(text, rest, b':').ok_or(Reason::UnknownExpectation)?;
-    field_cut(text, rest, n)
+    about(
+        rest,
+        Subject::Field(matchers::matchers::place_of(name.trimmed().at)),
+    )
 }
 
 // By the sign behind the word `result`.
-fn by_sign(text: &[u8], q: Span) -> Result<Expect, Reason>
-    requires { In text.now q }
-    ensures { result ≡ by_sign text.now q }
+fn by_sign(q: Piece<'_>) -> Result<Expect, Reason>
+    ensures { result ≡ by_sign q.entry.text.now q.entry.at }
 {
-    match pieces::fronts::first_byte(text, q) {
-        b':' => about_behind(text, q, 1, Subject::Result),
-        b'.' => field(text, q),
+    match q.first_byte() {
+        b':' => about(q.behind(1), Subject::Result),
+        b'.' => field(q),
         _ => Err(Reason::UnknownExpectation),
     }
 }
 
 // `result: matcher`, or `result.field: matcher`
-fn on_result(text: &[u8], r: Span) -> Result<Expect, Reason>
-    requires fact { In text.now r }
-    requires r_value { get_or (bytes text.now r) 0 0 ≡ 114 }
-    ensures { result ≡ expectation text.now r }
+fn on_result(r: Piece<'_>) -> Result<Expect, Reason>
+    requires { get_or (bytes r.text.now r.at) 0 0 ≡ 114 }
+    ensures { result ≡ expectation r.entry.text.now r.entry.at }
 {
-    if pieces::pieces::begins(text, r, b"result") {
-        return by_sign(text, pieces::fronts::behind_trimmed(text, r, 6));
+    if r.starts_with(b"result") {
+        return by_sign(r.behind(6).trimmed());
     }
     Err(Reason::UnknownExpectation)
 }
 
 // What is expected; `r` is what follows `expect`, trimmed.
-pub fn expectation(text: &[u8], r: Span) -> Result<Expect, Reason>
-    requires { In text.now r }
-    ensures { result ≡ expectation text.now r }
+pub fn expectation(r: Piece<'_>) -> Result<Expect, Reason>
+    ensures { result ≡ expectation r.entry.text.now r.entry.at }
 {
-    match pieces::fronts::first_byte(text, r) {
-        b':' => terminal(text, r),
-        b'r' => on_result(text, r),
-        b'e' => on_error(text, r),
-        b's' => on_count_or_features(text, r),
-        b'd' => on_daemon(text, r),
-        b't' => on_trust(text, r),
+    match r.first_byte() {
+        b':' => terminal(r),
+        b'r' => on_result(r),
+        b'e' => on_error(r),
+        b's' => on_count_or_features(r),
+        b'd' => on_daemon(r),
+        b't' => on_trust(r),
         _ => Err(Reason::UnknownExpectation),
     }
 }
@@ -201,13 +163,11 @@ fn role_of(a: Result<Expect, Reason>) -> Role
 }
 
 // What a line is that begins with `expect`.
-pub fn expect_role(text: &[u8], t: Span) -> Role
-    requires { In text.now t }
-    ensures { result ≡ expect_role text.now t }
+pub fn expect_role(t: Piece<'_>) -> Role
+    ensures { result ≡ expect_role t.entry.text.now t.entry.at }
 {
-    if pieces::pieces::begins(text, t, b"expect") {
-        let rest = pieces::fronts::behind_trimmed(text, t, 6);
-        return role_of(expectation(text, rest));
+    if t.starts_with(b"expect") {
+        return role_of(expectation(t.behind(6).trimmed()));
     }
     Role::Bad(Reason::UnknownExpectation)
 }

@@ -202,7 +202,7 @@ pub extern "C" fn nwscript_pattern(pattern: &[u8], value: &[u8]) -> u8
     decisions::hosted::pattern(pattern, value)
 }
 
-// And an ordering matcher with the number n; the kinds 1 to 4 are `>`, `<`, `>=`, `<=`, and any other reads as `<=`.
+// And an ordering matcher with the number n; the kinds 1 to 4 are `>`, `<`, `>=`, `<=`, and any other reads as `<=`: through C a kind comes as a number.
 #[unsafe(no_mangle)]
 pub extern "C" fn nwscript_ordering(kind: u8, n: i64, value: &[u8]) -> u8
     ensures { result ≡ code (decides (matching (order_of kind) n) value.now) }

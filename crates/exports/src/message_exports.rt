@@ -8,6 +8,9 @@ ghost use Rattle.told.specs.Told.{counted, unless_refused};
 ghost use Rattle.given.specs.Told.{refusal_of, verdict_of, length_of};
 ghost use Rattle.row_messages.specs.Messages.{entry_told, handshake_told};
 
+use row_messages::message;
+use verdicts::handed::Handed;
+
 // The message of an expectation that is judged against a response, at the front of the buffer; a present value at the front of the scratch. On a
 // refusal both are as they were.
 #[unsafe(no_mangle)]
@@ -29,23 +32,12 @@ pub extern "C" fn nwscript_entry_message(
     ensures scratch_after { scratch.new ≡ unless_refused (entry_told text.now (expect_row expectation.now n) bytes.now lists.now (response_row response.now) (length scratch.old) (length buffer.old)) (present_bytes (looked_in (response_of bytes.now (counted lists.now) (response_row response.now)) (expected_of text.now (expect_row expectation.now n)))) scratch.old }
     ensures buffer_after { buffer.new ≡ unless_refused (entry_told text.now (expect_row expectation.now n) bytes.now lists.now (response_row response.now) (length scratch.old) (length buffer.old)) (entry_message (response_of bytes.now (counted lists.now) (response_row response.now)) (expected_of text.now (expect_row expectation.now n))) buffer.old }
 {
-    given::give_told(
-        row_messages::entry_message(
-            text,
-            expectation,
-            n,
-            response,
-            bytes,
-            lists,
-            scratch,
-            buffer,
-        ),
-        verdict,
-        len,
-    )
+    let h = Handed::Response(row_responses::response_of(response));
+    let told = message(text, expectation, n, h, bytes, lists, scratch, buffer);
+    given::give_told(told, verdict, len)
 }
 
-// And of one that is judged against what the handshake told.
+// And of one that is judged against what the handshake told: a function of its own, for no enum with data goes through C.
 #[unsafe(no_mangle)]
 pub extern "C" fn nwscript_handshake_message(
     text: &[u8],
@@ -65,18 +57,7 @@ pub extern "C" fn nwscript_handshake_message(
     ensures scratch_after { scratch.new ≡ unless_refused (handshake_told text.now (expect_row expectation.now n) bytes.now lists.now (info_row information.now) (length scratch.old) (length buffer.old)) (present_bytes (told_in (info_of bytes.now (counted lists.now) (info_row information.now)) (expected_of text.now (expect_row expectation.now n)))) scratch.old }
     ensures buffer_after { buffer.new ≡ unless_refused (handshake_told text.now (expect_row expectation.now n) bytes.now lists.now (info_row information.now) (length scratch.old) (length buffer.old)) (handshake_message (info_of bytes.now (counted lists.now) (info_row information.now)) (expected_of text.now (expect_row expectation.now n))) buffer.old }
 {
-    given::give_told(
-        row_messages::handshake_message(
-            text,
-            expectation,
-            n,
-            information,
-            bytes,
-            lists,
-            scratch,
-            buffer,
-        ),
-        verdict,
-        len,
-    )
+    let h = Handed::Info(row_infos::info_of(information));
+    let told = message(text, expectation, n, h, bytes, lists, scratch, buffer);
+    given::give_told(told, verdict, len)
 }

@@ -5,7 +5,7 @@ use Rattle.text.specs.Words.{word_at}
 use Rattle.text.specs.declared.parts.Span.{Span}
 use Rattle.values.specs.Numbers.{number, signed}
 use Rattle.values.specs.Hex.{hex_decoded}
-use Rattle.fields.specs.declared.numbers.Field.{Field}
+use Rattle.fields.specs.Field.{Field}
 
 abbrev pub field : {A : Type 0} → A → (end : ℕ) → Field A
 field a end = record { value = a; end = end }
@@ -58,11 +58,6 @@ bytes_at most line at = let w = word_at line at in field_of (marked_hex most (wo
 
 -- ---- what the code's answers say
 
--- the numbers that were lent, and where the word of the last ends
-abbrev pub numbers_field : (out : List ℕ) → Option ℕ → Option (Field (List ℕ))
-numbers_field out (Some end) = Some (field out end)
-numbers_field out None = None
-
 -- the bytes at the front of the room
 abbrev pub bytes_in : (room : List ℕ) → Option ℕ → Option (List ℕ)
 bytes_in room (Some n) = Some (take n room)
@@ -71,11 +66,3 @@ bytes_in room None = None
 abbrev pub byte_count : Option ℕ → ℕ
 byte_count (Some n) = n
 byte_count None = 0
-
-abbrev pub bytes_field : (room : List ℕ) → Option (Field ℕ) → Option (Field (List ℕ))
-bytes_field room (Some f) = Some (field (take f.value room) f.end)
-bytes_field room None = None
-
-abbrev pub field_count : Option (Field ℕ) → ℕ
-field_count (Some f) = f.value
-field_count None = 0

@@ -2,4 +2,4 @@
 #![tactic(auto)]
 
 pub mod bytes;
-pub mod numbers;
+pub mod rest;

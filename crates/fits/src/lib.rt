@@ -38,7 +38,7 @@ pub fn room_for(needed: Counts, lent: Counts) -> Result<(), Refusal>
     Ok(())
 }
 
-// What the caller lends.
+// What the caller lends: four lengths, which no one type holds that a `From` could take.
 pub fn lent_of(entries: usize, items: usize, expectations: usize, store: usize) -> Counts
     ensures { result ≡ record { entries = entries; items = items; expectations = expectations; store = store } }
 {

@@ -9,6 +9,7 @@ use frames::words::{Head, Middle};
 use script::records::{Matcher, Place};
 use verdicts::Verdict;
 
+#[tactic(auto, unfolding(frames::specs::Frames::shown_as))]
 pub fn shown_as(m: Matcher) -> Shown
     ensures { result ≡ shown_as m }
 {
@@ -46,6 +47,7 @@ pub fn shown_as(m: Matcher) -> Shown
     }
 }
 
+#[tactic(auto, unfolding(frames::specs::Frames::word_frame))]
 pub fn word_frame(first: Head, a: Place, second: Middle, b: Piece) -> Frame
     ensures { result ≡ word_frame first a second b }
 {
@@ -59,35 +61,18 @@ pub fn word_frame(first: Head, a: Place, second: Middle, b: Piece) -> Frame
 }
 
 // Only a pattern can be undecided.
+#[tactic(auto, unfolding(frames::specs::Frames::undecided_frame, frames::specs::Frames::no_frame))]
 pub fn undecided_frame(m: Matcher) -> Frame
     ensures { result ≡ undecided_frame m }
 {
     match m {
-        Matcher::Exact(_) => word_frame(Head::Nothing, NOWHERE, Middle::Nothing, Piece::Nothing),
         Matcher::Regex(p) => word_frame(Head::UndecidedWord, p, Middle::Slash, Piece::Nothing),
-        Matcher::GreaterThan(_) => word_frame(
-            Head::Nothing,
-            NOWHERE,
-            Middle::Nothing,
-            Piece::Nothing,
-        ),
-        Matcher::LessThan(_) => word_frame(Head::Nothing, NOWHERE, Middle::Nothing, Piece::Nothing),
-        Matcher::GreaterOrEqual(_) => word_frame(
-            Head::Nothing,
-            NOWHERE,
-            Middle::Nothing,
-            Piece::Nothing,
-        ),
-        Matcher::LessOrEqual(_) => word_frame(
-            Head::Nothing,
-            NOWHERE,
-            Middle::Nothing,
-            Piece::Nothing,
-        ),
+        _ => word_frame(Head::Nothing, NOWHERE, Middle::Nothing, Piece::Nothing),
     }
 }
 
 // Of a value that was looked up.
+#[tactic(auto, unfolding(frames::specs::Frames::valued_frame, frames::specs::Frames::failed_frame))]
 pub fn valued_frame(h: Heading, m: Matcher, v: Verdict) -> Frame
     ensures { result ≡ valued_frame h m v }
 {
@@ -117,6 +102,7 @@ pub fn valued_frame(h: Heading, m: Matcher, v: Verdict) -> Frame
 }
 
 // Of the name of the last message, which is never undecided.
+#[tactic(auto, unfolding(frames::specs::Frames::terminal_frame, frames::specs::Frames::no_frame))]
 pub fn terminal_frame(name: Place, got: Place, v: Verdict) -> Frame
     ensures { result ≡ terminal_frame name got v }
 {
@@ -128,6 +114,7 @@ pub fn terminal_frame(name: Place, got: Place, v: Verdict) -> Frame
 }
 
 // Of a value that may be missing.
+#[tactic(auto, unfolding(frames::specs::Frames::missing_or))]
 pub fn missing_or(missing: bool, absent: Frame, h: Heading, m: Matcher, v: Verdict) -> Frame
     ensures { result ≡ missing_or missing absent h m v }
 {
@@ -138,6 +125,7 @@ pub fn missing_or(missing: bool, absent: Frame, h: Heading, m: Matcher, v: Verdi
 }
 
 // `WORD = value`, `WORD: expected ..`
+#[tactic(auto, unfolding(frames::specs::Frames::headed))]
 pub fn headed(w: Head, field: Place) -> Heading
     ensures { result ≡ Rattle.frames.specs.Frames.headed w field }
 {
@@ -149,6 +137,7 @@ pub fn headed(w: Head, field: Place) -> Heading
     }
 }
 
+#[tactic(auto, unfolding(frames::specs::Frames::error_headed))]
 pub fn error_headed() -> Heading
     ensures { result ≡ error_headed }
 {

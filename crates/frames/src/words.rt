@@ -1,4 +1,4 @@
-// The fixed words of messages (script/expect.rs), and how long each is.
+// The fixed words of messages (script/expect.rs), their letters and how long each is.
 ghost use Rattle.std.specs.Prelude.{◌≡◌, length};
 ghost use Rattle.frames.specs.Words.{head_bytes, middle_bytes};
 
@@ -40,44 +40,59 @@ pub enum Middle {
     Slash, // /
 }
 
+// Each arm has its letters.
+#[tactic(auto, unfolding(crate::specs::Words::head_bytes, text::specs::Literal::utf8, text::specs::Unicode::encoded))]
+pub fn head_word(w: Head) -> &'static [u8]
+    ensures { result.now ≡ head_bytes w }
+{
+    match w {
+        Head::Nothing => b"",
+        Head::TerminalIs => b"terminal = ",
+        Head::ExpectedTerminal => b"expected terminal ",
+        Head::ResultWord => b"result",
+        Head::ResultDot => b"result.",
+        Head::NoResult => b"result field result not found",
+        Head::NoField => b"result field result.",
+        Head::ErrorMatched => b"error matched: ",
+        Head::ErrorWord => b"error",
+        Head::NoError => b"expected error but none received",
+        Head::CountWord => b"stderr.count",
+        Head::DaemonWord => b"daemon",
+        Head::TrustWord => b"trust",
+        Head::FeaturesWord => b"server_features",
+        Head::InEntry => b"handshake expect used in op context",
+        Head::InPreamble => b"non-handshake expect in preamble: ",
+        Head::UndecidedWord => b"undecided: /",
+    }
+}
+
 pub fn head_len(w: Head) -> usize
     ensures { result ≡ length (head_bytes w) }
 {
+    head_word(w).len()
+}
+
+#[tactic(auto, unfolding(crate::specs::Words::middle_bytes, text::specs::Literal::utf8, text::specs::Unicode::encoded))]
+pub fn middle_word(w: Middle) -> &'static [u8]
+    ensures { result.now ≡ middle_bytes w }
+{
     match w {
-        Head::Nothing => 0,
-        Head::TerminalIs => 11,
-        Head::ExpectedTerminal => 18,
-        Head::ResultWord => 6,
-        Head::ResultDot => 7,
-        Head::NoResult => 29,
-        Head::NoField => 20,
-        Head::ErrorMatched => 15,
-        Head::ErrorWord => 5,
-        Head::NoError => 32,
-        Head::CountWord => 12,
-        Head::DaemonWord => 6,
-        Head::TrustWord => 5,
-        Head::FeaturesWord => 15,
-        Head::InEntry => 35,
-        Head::InPreamble => 34,
-        Head::UndecidedWord => 12,
+        Middle::Nothing => b"",
+        Middle::Got => b", got ",
+        Middle::Is => b" = ",
+        Middle::ExpectedWord => b": expected ",
+        Middle::ExpectedPattern => b": expected /",
+        Middle::ExpectedAbove => b": expected > ",
+        Middle::ExpectedBelow => b": expected < ",
+        Middle::ExpectedAtLeast => b": expected >= ",
+        Middle::ExpectedAtMost => b": expected <= ",
+        Middle::NotFound => b" not found",
+        Middle::Slash => b"/",
     }
 }
 
 pub fn middle_len(w: Middle) -> usize
     ensures { result ≡ length (middle_bytes w) }
 {
-    match w {
-        Middle::Nothing => 0,
-        Middle::Got => 6,
-        Middle::Is => 3,
-        Middle::ExpectedWord => 11,
-        Middle::ExpectedPattern => 12,
-        Middle::ExpectedAbove => 13,
-        Middle::ExpectedBelow => 13,
-        Middle::ExpectedAtLeast => 14,
-        Middle::ExpectedAtMost => 14,
-        Middle::NotFound => 10,
-        Middle::Slash => 1,
-    }
+    middle_word(w).len()
 }

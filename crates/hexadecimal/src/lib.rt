@@ -57,6 +57,7 @@ pub fn hex_value(x: u8) -> u8
 }
 
 // A byte that is no hex digit.
+#[tactic(auto, unfolding(crate::specs::HexWalk::on_other))]
 fn on_other(held: usize, x: u8) -> HexStep
     ensures { result ≡ on_other held x }
 {
@@ -99,15 +100,10 @@ fn hex_count(table: &[u8], s: &[u8]) -> usize
     ensures { result ≡ length (hex_decoded s.now) }
 {
     let mut held: usize = 17;
-    let mut i: usize = 0;
     let mut n: usize = 0;
-    while i < s.len() {
-        let step = hex_step(table, held, s[i]);
-        i += 1;
-        match step {
-            HexStep::Held(h) => {
-                held = h;
-            }
+    for x in s {
+        match hex_step(table, held, *x) {
+            HexStep::Held(h) => held = h,
             HexStep::Byte(_) => {
                 held = 17;
                 n += 1;
@@ -124,15 +120,10 @@ fn hex_fill(table: &[u8], s: &[u8], out: &mut [u8])
     ensures { out.new ≡ hex_decoded s.now }
 {
     let mut held: usize = 17;
-    let mut i: usize = 0;
     let mut o: usize = 0;
-    while i < s.len() {
-        let step = hex_step(table, held, s[i]);
-        i += 1;
-        match step {
-            HexStep::Held(h) => {
-                held = h;
-            }
+    for x in s {
+        match hex_step(table, held, *x) {
+            HexStep::Held(h) => held = h,
             HexStep::Byte(b) => {
                 out[o] = b;
                 held = 17;
@@ -150,6 +141,7 @@ pub fn hex_len(s: &[u8]) -> usize
 }
 
 // Writes the bytes that s spells at the front of out, if there is room for all, and says how many they are.
+#[tactic(auto, using(text::proofs::Front::fronts))]
 pub fn hex_decode(s: &[u8], out: &mut [u8]) -> usize
     ensures value { result ≡ length (hex_decoded s.now) }
     ensures out_after { out.new ≡ overlaid (hex_decoded s.now) out.old }

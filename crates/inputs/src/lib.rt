@@ -13,6 +13,7 @@ pub fn read_full(input: &mut impl Read, room: &mut [u8]) -> io::Result<usize>
     ensures { ReadsAtMost result room.new }
 {
     let mut done = 0;
+    // std's `read_exact` refuses a shorter input, and `read_to_end` wants a heap.
     while done < room.len() {
         let n = input.read(&mut room[done..])?;
         if n == 0 {
@@ -67,7 +68,7 @@ fn run_argument<R: Env + Files + Print + Eprint, F: Fn(&R, &mut R::File) -> io::
     Ok(true)
 }
 
-// Runs each file that an argument names, in their order.
+// Runs each file that an argument names, in their order. It promises nothing of its own: what it does is seen in the programs' stored runs alone.
 pub fn run_files<R: Env + Files + Print + Eprint, F: Fn(&R, &mut R::File) -> io::Result<()>>(
     rt: &R,
     behind: &[u8],

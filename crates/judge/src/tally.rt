@@ -13,7 +13,9 @@ use ranges::checks::counting;
 use ranges::steps::{entry_range, judge_on};
 use script::records::{Entry, Expectation, Script};
 use script::response::{DaemonResponse, HandshakeInfo};
+use subjects::handed::Subject;
 use tallies::tally::Counts;
+use texts::Held;
 use told::counted_of;
 use verdicts::handed::Handed;
 
@@ -39,7 +41,7 @@ impl Tally {
         }
     }
 
-    // Judges the expectations of the preamble against what the handshake told. No entry is looked at.
+    // Judges the expectations of the preamble against what the handshake told. No entry is looked at. The bytes and the table come apart, as a host lends them.
     #[tactic(auto, unfolding(judging::specs::Judge::judge_step, judging::specs::Judge::judged, judging::specs::Judge::judged_on, judging::specs::Judge::refusal_on, judging::specs::Judge::range_for, judging::specs::Calls::wrong_number, judging::specs::Scratch::scratch_after, judging::specs::Scratch::scratch_on))]
     pub fn handshake(
         self,
@@ -56,9 +58,11 @@ impl Tally {
         ensures verdicts_after { turned result verdicts.new ≡ judge_step (lent_of text.now script [] expectations.now) (state_of self verdicts.old) (judge (asked_of number (Info i) bytes.now (counted lists.now) (length scratch.old))) }
         ensures scratch_after { scratch.new ≡ scratch_after (lent_of text.now script [] expectations.now) (state_of self verdicts.old) (asked_of number (Info i) bytes.now (counted lists.now) (length scratch.old)) scratch.old }
     {
-        let r = script.preamble.expects;
-        let h = Handed::Info(i);
-        let table = counted_of(lists);
+        let lists = counted_of(lists);
+        let subject = Subject {
+            handed: Handed::Info(i),
+            held: Held { bytes, lists },
+        };
         let step = judge_on(
             self.next,
             self.counts,
@@ -66,11 +70,9 @@ impl Tally {
             script,
             expectations,
             0,
-            r,
+            script.preamble.expects,
             number,
-            h,
-            bytes,
-            table,
+            subject,
             verdicts,
             scratch,
         );
@@ -96,9 +98,11 @@ impl Tally {
         ensures scratch_after { scratch.new ≡ scratch_after (lent_of text.now script entries.now expectations.now) (state_of self verdicts.old) (asked_of number (Response response) bytes.now (counted lists.now) (length scratch.old)) scratch.old }
     {
         let n = counting(script.counts.entries, entries.len());
-        let r = entry_range(entries, number);
-        let h = Handed::Response(response);
-        let table = counted_of(lists);
+        let lists = counted_of(lists);
+        let subject = Subject {
+            handed: Handed::Response(response),
+            held: Held { bytes, lists },
+        };
         let step = judge_on(
             self.next,
             self.counts,
@@ -106,11 +110,9 @@ impl Tally {
             script,
             expectations,
             n,
-            r,
+            entry_range(entries, number),
             number,
-            h,
-            bytes,
-            table,
+            subject,
             verdicts,
             scratch,
         );

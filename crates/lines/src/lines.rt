@@ -1,9 +1,9 @@
 // Lines of a text.
-ghost use Rattle.std.specs.Prelude.{◌≡◌, ◌+◌, ◌≤◌, ◌<◌, length};
-ghost use Rattle.text.specs.Base.{LF};
+ghost use Rattle.std.specs.Prelude.{◌≡◌, ◌+◌, ◌<◌, length};
+ghost use Rattle.std.specs.Iterator.{YieldsFirst, item_count};
 ghost use Rattle.text.specs.Lines.{line, line_at, lines, indented, trimmed_length};
 ghost use Rattle.text.specs.LinesWalk.{end_at};
-ghost use Rattle.text.specs.Skip.{Without};
+ghost use Rattle.lines.specs.Walk.{left, begun, few};
 
 use text::lines::Line;
 
@@ -26,27 +26,15 @@ fn ended(text: &[u8], at: usize, number: usize, lf: usize) -> Line
     }
 }
 
-// A place up to which no LF stands from `at` on.
-#[tactic(auto, unfolding(text::specs::Skip::Without))]
-fn skip_plain(text: &[u8], at: usize) -> usize
-    ensures lower_bound { at ≤ result }
-    ensures upper_bound { at < result → result ≤ length text.now }
-    ensures without { Without LF text.now at result }
-{
-    if at < text.len() {
-        text::skip::skip_others(text, b'\n', at)
-    } else {
-        at
-    }
-}
-
 // The line that begins at `at`, called by the number given. At the end of the text, or past it, it has no bytes.
+#[tactic(auto, using(text::proofs::LineLaws::first_lf, text::proofs::LineLaws::no_lf, text::proofs::LineLaws::at_end))]
 pub fn line_at(text: &[u8], at: usize, number: usize) -> Line
     ensures { result ≡ line_at text.now at number }
 {
-    for i in skip_plain(text, at)..text.len() {
-        if text[i] == b'\n' {
-            return ended(text, at, number, i);
+    if at < text.len() {
+        let lf = text::skip::skip_others(text, b'\n', at);
+        if lf < text.len() {
+            return ended(text, at, number, lf);
         }
     }
     let end = at.max(text.len());
@@ -58,17 +46,55 @@ pub fn line_at(text: &[u8], at: usize, number: usize) -> Line
     }
 }
 
+// The lines of a text that are left: the place where the next one begins, and its number.
+#[derive(Clone, Copy, Drop)]
+pub struct Lines<'a> {
+    text: &'a [u8],
+    at: usize,
+    number: usize,
+}
+
+impl<'a> Lines<'a> {
+    // All of them.
+    #[tactic(auto, unfolding(text::specs::Lines::lines, crate::specs::Walk::left))]
+    pub fn new(text: &'a [u8]) -> Lines<'a>
+        ensures value { result ≡ begun text.entry }
+        ensures all { left result ≡ lines text.now }
+    {
+        Lines {
+            text,
+            at: 0,
+            number: 1,
+        }
+    }
+}
+
+impl<'a> Iterator for Lines<'a> {
+    type Item = Line;
+
+    ghost can_next = { λ w. few w };
+
+    ghost next_gives = { YieldsFirst left };
+
+    ghost remaining = { item_count left };
+
+    #[tactic(auto, using(text::proofs::LineLaws::lines_none, text::proofs::LineLaws::known), unfolding(crate::specs::Walk::left))]
+    fn next(&mut self) -> Option<Line> {
+        if self.text.len() <= self.at {
+            return None;
+        }
+        let line = line_at(self.text, self.at, self.number);
+        self.at = line.next;
+        self.number += 1;
+        Some(line)
+    }
+}
+
 // How many lines the text has.
 pub fn count_lines(text: &[u8]) -> usize
     ensures { result ≡ length (lines text.now) }
 {
-    let mut n: usize = 0;
-    let mut at: usize = 0;
-    while at < text.len() {
-        n += 1;
-        at = line_at(text, at, n).next;
-    }
-    n
+    Lines::new(text).count()
 }
 
 // How many bytes the lines have once each is trimmed.
@@ -76,13 +102,8 @@ pub fn trimmed_bytes(text: &[u8]) -> usize
     ensures { result ≡ trimmed_length text.now (lines text.now) }
 {
     let mut sum: usize = 0;
-    let mut number: usize = 1;
-    let mut at: usize = 0;
-    while at < text.len() {
-        let l = line_at(text, at, number);
-        sum += trimming::trim(&text[l.start..l.end]).len();
-        number += 1;
-        at = l.next;
+    for line in Lines::new(text) {
+        sum += trimming::trim(&text[line.start..line.end]).len();
     }
     sum
 }

@@ -1,64 +1,41 @@
 // A list as it is shown, compared with a pattern.
-ghost use Rattle.std.specs.Prelude.{◌≡◌, [], ◌+◌, ◌≤◌, ◌<◌, length, get_or};
-ghost use Rattle.text.specs.Parts.{starts_with, same_bytes};
-ghost use Rattle.verdicts.specs.Held.{texts_in};
-ghost use Rattle.list_pieces.specs.Lists.{list_text};
-ghost use Rattle.list_pieces.specs.Pieces.{pieces_of, piece_count, row_from, opens};
+ghost use Rattle.std.specs.Prelude.{◌≡◌, ◌++◌};
+ghost use Rattle.text.specs.Parts.{same_bytes};
+ghost use Rattle.list_pieces.specs.Pieces.{row, opens};
+ghost use Rattle.list_pieces.specs.Left.{left, shown};
 
-use script::records::Items;
+use crate::pieces::Pieces;
+use text::parts::starts_with;
 
-// Whether the list, from the byte at o of its piece at j on, is the pattern, or only begins with it.
-pub fn opens_at<'a>(
-    bytes: &'a [u8],
-    lists: &[[usize; 2]],
-    signs: &'a [u8],
-    n: usize,
-    r: Items,
-    j: usize,
-    o: usize,
-    pattern: &[u8],
-    whole: bool,
-) -> bool
-    requires count_in_bounds { r.first + r.count ≤ length lists.now }
-    requires count_bound { r.count ≤ 0x8000 }
-    requires n_bound { n ≤ 2 }
-    requires j_bound { j < piece_count r.count }
-    requires o_in_bounds { o ≤ length (get_or (pieces_of bytes.now lists.now signs.now n r) j []) }
-    ensures { result ≡ opens whole pattern.now (row_from (pieces_of bytes.now lists.now signs.now n r) j o) }
+// Whether a piece, and what is behind it, is the pattern, or only begins with it. The first piece comes apart from those behind, which are asked for one by one
+// as long as the pattern goes on, so a `loop` takes them and no `for`.
+#[tactic(auto, using(crate::proofs::OpenLaws::list_turns), unfolding(crate::specs::Pieces::row))]
+pub fn opens_at<'a>(piece: &'a [u8], mut behind: Pieces<'a>, pattern: &[u8], whole: bool) -> bool
+    ensures { result ≡ opens whole pattern.now (piece.now ++ row (left behind.entry)) }
 {
-    let end = crate::pieces::piece_count(r.count);
-    let mut k = j;
-    let mut from = o;
-    let mut p: usize = 0;
-    while k < end {
-        let piece = crate::pieces::piece_at(bytes, lists, signs, n, r, k);
-        let here = &piece[from..];
-        let left = &pattern[p..];
-        if left.len() < here.len() {
-            if whole {
-                return false;
-            }
-            return text::parts::starts_with(here, left);
+    let mut here = piece;
+    let mut rest = pattern;
+    loop {
+        if rest.len() < here.len() {
+            return !whole && starts_with(here, rest);
         }
-        if text::parts::starts_with(left, here) {
-            p += here.len();
-            k += 1;
-            from = 0;
-        } else {
+        if !starts_with(rest, here) {
             return false;
         }
+        rest = &rest[here.len()..];
+        match behind.next() {
+            Some(piece) => here = piece,
+            None => return rest.is_empty(),
+        }
     }
-    p == pattern.len()
 }
 
-// Whether the list is the text.
-pub fn same(text: &[u8], braces: bool, r: Items, bytes: &[u8], lists: &[[usize; 2]]) -> bool
-    requires count_in_bounds { r.first + r.count ≤ length lists.now }
-    requires count_bound { r.count ≤ 0x8000 }
-    ensures { result ≡ same_bytes (list_text braces (texts_in bytes.now lists.now r)) text.now }
-{
-    if braces {
-        return opens_at(bytes, lists, b"{ ,  }", 2, r, 0, 0, text, true);
+impl<'a> Pieces<'a> {
+    // Whether the list is the text.
+    #[tactic(auto, unfolding(crate::specs::Pieces::opens))]
+    pub fn equals(self, text: &[u8]) -> bool
+        ensures { result ≡ same_bytes (shown self.entry) text.now }
+    {
+        opens_at(b"", self, text, true)
     }
-    opens_at(bytes, lists, b"[, ]", 1, r, 0, 0, text, true)
 }

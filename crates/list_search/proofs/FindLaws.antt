@@ -1,11 +1,11 @@
 -- The laws of looking for a pattern in a row of pieces, a piece at a time: it may begin in one piece and go on in the next. Assumes nothing.
-use Prim.Native.Nat.{ℕ, zero, suc, ◌+◌, ◌≤◌, ◌<◌}
+use Prim.Native.Nat.{ℕ, zero, suc, ◌+◌, ◌-◌, ◌≤◌, ◌<◌}
 use mathlib.Core.Path.{◌≡◌, refl, sym, ap, ◌∙◌}
 use mathlib.Core.Bool.{Bool, true, false}
 use mathlib.Core.List.{List, [], ◌∷◌, ◌++◌}
 use native.Mathlib.Omega.{arith}
-use lib.ListN.{length, get_or, drop, length-append, get_or-append}
-use lib.Seq.{drop-append_seam}
+use lib.ListN.{length, get_or, take, drop, length-append, length-drop, get_or-append}
+use lib.Seq.{drop-append_seam, drop-append-le, take_all}
 use lib.Dec.{eqb}
 use Rattle.text.specs.Base.{◌or◌, ◌&◌}
 use Rattle.text.specs.Parts.{starts_with}
@@ -13,8 +13,7 @@ use Rattle.text.proofs.Scan.{never}
 use Rattle.text.specs.Skip.{Without}
 use Rattle.verdicts.specs.Decisions.{contains}
 use Rattle.finding.proofs.SearchLaws.{none_left, tried, stands, passed}
-use Rattle.list_pieces.specs.Pieces.{row, row_from, opens}
-use Rattle.list_pieces.proofs.OpenLaws.{row_more, row-none}
+use Rattle.list_pieces.specs.Pieces.{opens}
 
 -- ---- in a value with more behind it
 
@@ -70,73 +69,71 @@ fits-nowhere p (x ∷ s) more (suc k) f h n =
 
 -- ---- in one piece
 
-module _ (ps : List (List ℕ)) (j : ℕ) (p piece : List ℕ) (h : j < length ps) (q : piece ≡ get_or ps j []) (g : 0 < length p) where
-  row_is : row (drop j ps) ≡ piece ++ row (drop (j + 1) ps)
-  row_is = row_more ps j h ∙ ap (λ (s : List ℕ). s ++ row (drop (j + 1) ps)) (sym q)
-
+module _ (p piece more : List ℕ) (g : 0 < length p) where
   some : length p ≡ 0 → ⊥
   some e = omega arith
 
-  inside : (i : ℕ) → i ≤ length piece → i ≤ length (row (drop j ps))
-  inside i l = rw row_is (omega (arith, length-append piece (row (drop (j + 1) ps))))
+  inside : (i : ℕ) → i ≤ length piece → i ≤ length (piece ++ more)
+  inside i l = omega (arith, length-append piece more)
 
   -- a byte that does not stand in the piece does not stand in the row, up to its end
-  without : (b i r : ℕ) → r ≤ length piece → Without b piece i r → Without b (row (drop j ps)) i r
+  without : (b i r : ℕ) → r ≤ length piece → Without b piece i r → Without b (piece ++ more) i r
   unfolding Without
-  without b i r l w k m n e = w k m n (sym (get_or-append piece (row (drop (j + 1) ps)) 0 k (omega arith)) ∙ (rw row_is at e))
+  without b i r l w k m n e = w k m n (sym (get_or-append piece more 0 k (omega arith)) ∙ e)
 
   module _ (b : Bool) (f : b ≡ contains p piece) where
-    pub piece_whole : b ≡ true → contains p (row (drop j ps)) ≡ true
-    piece_whole t = rw row_is (contains_more p piece (row (drop (j + 1) ps)) some (sym f ∙ t))
+    pub piece_whole : b ≡ true → contains p (piece ++ more) ≡ true
+    piece_whole t = contains_more p piece more some (sym f ∙ t)
 
-    pub piece_begun : (i r : ℕ) → b ≡ false → i ≤ r → r ≤ length piece → (0 < i → i + length p ≤ length piece + 1) → Without (get_or p 0 0) piece i r → contains p (row_from ps j r) ≡ contains p (row (drop j ps))
+    pub piece_begun : (i r : ℕ) → b ≡ false → i ≤ r → r ≤ length piece → (0 < i → i + length p ≤ length piece + 1) → Without (get_or p 0 0) piece i r → contains p (drop r (piece ++ more)) ≡ contains p (piece ++ more)
     piece_begun i r t m l h w =
-        passed p (row (drop j ps)) i r some m (inside r l) (without (get_or p 0 0) i r l w)
-        ∙ rw row_is (fits-nowhere p piece (row (drop (j + 1) ps)) i (sym f ∙ t) h some)
+        passed p (piece ++ more) i r some m (inside r l) (without (get_or p 0 0) i r l w)
+        ∙ fits-nowhere p piece more i (sym f ∙ t) h some
 
-  module _ (i : ℕ) (e : contains p (row_from ps j i) ≡ contains p (row (drop j ps))) where
-    pub piece_over : i ≤ length piece → length piece ≤ i → contains p (row (drop j ps)) ≡ contains p (row (drop (j + 1) ps))
+  module _ (i : ℕ) (e : contains p (drop i (piece ++ more)) ≡ contains p (piece ++ more)) where
+    pub piece_over : i ≤ length piece → length piece ≤ i → contains p (piece ++ more) ≡ contains p more
     piece_over l m =
         let d : i ≡ length piece = omega arith in
-        sym e ∙ ap (λ (s : List ℕ). contains p s) (ap (λ (k : ℕ). drop k (row (drop j ps))) d ∙ ap (λ (s : List ℕ). drop (length piece) s) row_is ∙ drop-append_seam piece (row (drop (j + 1) ps)))
+        sym e ∙ ap (λ (s : List ℕ). contains p s) (ap (λ (k : ℕ). drop k (piece ++ more)) d ∙ drop-append_seam piece more)
 
     -- another byte stands here
-    pub piece_other : (r : ℕ) → (get_or piece i 0 ≡ get_or p 0 0 → ⊥) → i + 1 ≤ r → r ≤ length piece → Without (get_or p 0 0) piece (i + 1) r → contains p (row_from ps j r) ≡ contains p (row (drop j ps))
+    pub piece_other : (r : ℕ) → (get_or piece i 0 ≡ get_or p 0 0 → ⊥) → i + 1 ≤ r → r ≤ length piece → Without (get_or p 0 0) piece (i + 1) r → contains p (drop r (piece ++ more)) ≡ contains p (piece ++ more)
     unfolding Without
     piece_other r d l k w =
-        passed p (row (drop j ps)) (i + 1) r some l (inside r k) (without (get_or p 0 0) (i + 1) r k w)
-        ∙ passed p (row (drop j ps)) i (i + 1) some (omega arith) (inside (i + 1) (omega arith)) (without (get_or p 0 0) i (i + 1) (omega arith) here)
+        passed p (piece ++ more) (i + 1) r some l (inside r k) (without (get_or p 0 0) (i + 1) r k w)
+        ∙ passed p (piece ++ more) i (i + 1) some (omega arith) (inside (i + 1) (omega arith)) (without (get_or p 0 0) i (i + 1) (omega arith) here)
         ∙ e
       where
         here : Without (get_or p 0 0) piece i (i + 1)
         here m a c x = let z : m ≡ i = omega arith in d (rw z at x)
 
     -- b says whether the pattern stands here
-    module _ (b : Bool) (f : b ≡ opens false p (row_from ps j i)) (m : i < length piece) where
-      pub piece_here : b ≡ true → contains p (row (drop j ps)) ≡ true
+    module _ (b : Bool) (f : b ≡ opens false p (take (length piece - i) (drop i piece) ++ more)) (m : i < length piece) where
+      stood : b ≡ starts_with p (drop i (piece ++ more))
       unfolding opens
-      piece_here t = sym e ∙ stands p (row (drop j ps)) i some (omega (arith, inside (i + 1) (omega arith))) (sym f ∙ t)
+      stood = rw (drop-append-le i piece more (omega arith), ← take_all (length piece - i) (drop i piece) (omega (arith, length-drop i piece))) f
 
-      pub piece_later : (r : ℕ) → b ≡ false → i + 1 ≤ r → r ≤ length piece → Without (get_or p 0 0) piece (i + 1) r → contains p (row_from ps j r) ≡ contains p (row (drop j ps))
-      unfolding opens
+      pub piece_here : b ≡ true → contains p (piece ++ more) ≡ true
+      piece_here t = sym e ∙ stands p (piece ++ more) i some (omega (arith, inside (i + 1) (omega arith))) (sym stood ∙ t)
+
+      pub piece_later : (r : ℕ) → b ≡ false → i + 1 ≤ r → r ≤ length piece → Without (get_or p 0 0) piece (i + 1) r → contains p (drop r (piece ++ more)) ≡ contains p (piece ++ more)
       piece_later r t l k w =
-          passed p (row (drop j ps)) (i + 1) r some l (inside r k) (without (get_or p 0 0) (i + 1) r k w)
-          ∙ sym (tried p (row (drop j ps)) i some (omega (arith, inside (i + 1) (omega arith))) (sym f ∙ t))
+          passed p (piece ++ more) (i + 1) r some l (inside r k) (without (get_or p 0 0) (i + 1) r k w)
+          ∙ sym (tried p (piece ++ more) i some (omega (arith, inside (i + 1) (omega arith))) (sym stood ∙ t))
           ∙ e
 
 pub ruleset piece_turns = (piece_whole, piece_begun, piece_other, piece_over, piece_here, piece_later)
 
 -- ---- in all of them
 
-module _ (ps : List (List ℕ)) (j : ℕ) (p : List ℕ) (whole : Bool) (e : contains p (row (drop j ps)) ≡ whole) where
-  pub list_ended : (end : ℕ) → end ≡ length ps → end ≤ j → (length p ≡ 0 → ⊥) → false ≡ whole
-  list_ended end m l n = sym (none_left p [] 0 n (omega arith)) ∙ (rw (row-none ps j (omega arith)) at e)
+-- b says whether the pattern stands in the first of the pieces that are left
+module _ (p : List ℕ) (old piece more : List ℕ) (whole b : Bool) (e : contains p old ≡ whole) (d : old ≡ piece ++ more) (f : contains p (piece ++ more) ≡ b or contains p more) where
+  pub list_here : b ≡ true → true ≡ whole
+  list_here t = rw t at (sym f ∙ ap (contains p) (sym d) ∙ e)
 
-  module _ (b : Bool) (f : contains p (row (drop j ps)) ≡ b or contains p (row (drop (j + 1) ps))) where
-    pub list_here : b ≡ true → true ≡ whole
-    list_here t = sym (rw t at f) ∙ e
+  pub list_later : b ≡ false → contains p more ≡ whole
+  list_later t = rw t at (sym f ∙ ap (contains p) (sym d) ∙ e)
 
-    pub list_later : b ≡ false → contains p (row (drop (j + 1) ps)) ≡ whole
-    list_later t = sym (rw t at f) ∙ e
-
-pub ruleset list_search = (list_ended, list_here, list_later)
+-- none is left
+pub list_ended : (p : List ℕ) (whole : Bool) → (length p ≡ 0 → ⊥) → contains p [] ≡ whole → false ≡ whole
+list_ended p whole n e = sym (none_left p [] 0 n (omega arith)) ∙ e

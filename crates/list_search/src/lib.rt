@@ -1,14 +1,14 @@
 // Looking for a pattern in a list as it is shown, without writing it: piece by piece.
 #![tactic(auto)]
 
-ghost use Rattle.std.specs.Prelude.{◌≡◌, ◌+◌, ◌≤◌, ◌<◌, length, drop};
+ghost use Rattle.std.specs.Prelude.{◌≡◌, ◌+◌, ◌≤◌, ◌<◌, ◌++◌, length};
 ghost use Rattle.text.specs.Base.{◌or◌};
 ghost use Rattle.verdicts.specs.Decisions as decisions;
-ghost use Rattle.verdicts.specs.Held.{texts_in};
-ghost use Rattle.list_pieces.specs.Lists.{list_text};
-ghost use Rattle.list_pieces.specs.Pieces.{pieces_of, piece_count, row};
+ghost use Rattle.list_pieces.specs.Left.{shown};
 
-use script::records::Items;
+use list_pieces::compare::opens_at;
+use list_pieces::pieces::Pieces;
+use text::skip::skip_others;
 
 // The first place of a piece of len bytes from which a pattern of n bytes would go on in the pieces behind.
 fn tail_of(len: usize, n: usize) -> usize
@@ -22,77 +22,39 @@ fn tail_of(len: usize, n: usize) -> usize
     0
 }
 
-// Whether the pattern stands at some byte of the piece at j; it may go on in the pieces behind. It is looked for in the piece as in any value; of the
-// places where it would go on, only those where its first byte stands are tried.
-pub fn found_in<'a>(
-    bytes: &'a [u8],
-    lists: &[[usize; 2]],
-    signs: &'a [u8],
-    n: usize,
-    r: Items,
-    j: usize,
-    pattern: &[u8],
-) -> bool
-    requires count_in_bounds { r.first + r.count ≤ length lists.now }
-    requires count_bound { r.count ≤ 0x8000 }
-    requires n_bound { n ≤ 2 }
-    requires j_bound { j < piece_count r.count }
-    requires pattern_nonzero { 0 < length pattern.now }
-    ensures { decisions.contains pattern.now (row (drop j (pieces_of bytes.now lists.now signs.now n r))) ≡ result or decisions.contains pattern.now (row (drop (j + 1) (pieces_of bytes.now lists.now signs.now n r))) }
+// Whether the pattern stands at some byte of a piece; it may go on in the pieces behind. It is looked for in the piece as in any value; of the places
+// where it would go on, only those where its first byte stands are tried. `skip_others` finds the next of them, eight bytes at once, so no `for` does.
+pub fn found_in<'a>(piece: &'a [u8], behind: Pieces<'a>, pattern: &[u8]) -> bool
+    requires { 0 < length pattern.now }
+    ensures { decisions.contains pattern.now (piece.now ++ shown behind.entry) ≡ result or decisions.contains pattern.now (shown behind.entry) }
 {
-    let piece = list_pieces::pieces::piece_at(bytes, lists, signs, n, r, j);
     if finding::search::contains(piece, pattern) {
         return true;
     }
     let first = pattern[0];
     let from = tail_of(piece.len(), pattern.len());
-    let mut i = text::skip::skip_others(piece, first, from);
+    let mut i = skip_others(piece, first, from);
     while i < piece.len() {
-        if piece[i] == first {
-            if list_pieces::compare::opens_at(bytes, lists, signs, n, r, j, i, pattern, false) {
-                return true;
-            }
-        }
-        i = text::skip::skip_others(piece, first, i + 1);
-    }
-    false
-}
-
-// Whether the pattern stands somewhere in the list.
-pub fn found<'a>(
-    bytes: &'a [u8],
-    lists: &[[usize; 2]],
-    signs: &'a [u8],
-    n: usize,
-    r: Items,
-    pattern: &[u8],
-) -> bool
-    requires count_in_bounds { r.first + r.count ≤ length lists.now }
-    requires count_bound { r.count ≤ 0x8000 }
-    requires n_bound { n ≤ 2 }
-    ensures { result ≡ decisions.contains pattern.now (row (pieces_of bytes.now lists.now signs.now n r)) }
-{
-    if pattern.len() == 0 {
-        return true;
-    }
-    let end = list_pieces::pieces::piece_count(r.count);
-    let mut j: usize = 0;
-    while j < end {
-        if found_in(bytes, lists, signs, n, r, j, pattern) {
+        if piece[i] == first && opens_at(&piece[i..], behind, pattern, false) {
             return true;
         }
-        j += 1;
+        i = skip_others(piece, first, i + 1);
     }
     false
 }
 
-pub fn contains(pattern: &[u8], braces: bool, r: Items, bytes: &[u8], lists: &[[usize; 2]]) -> bool
-    requires count_in_bounds { r.first + r.count ≤ length lists.now }
-    requires count_bound { r.count ≤ 0x8000 }
-    ensures { result ≡ decisions.contains pattern.now (list_text braces (texts_in bytes.now lists.now r)) }
+// Whether the pattern stands somewhere in the list. At each piece, what is behind it is asked for too, so no `for` hands out the pieces.
+pub fn contains(pattern: &[u8], list: Pieces<'_>) -> bool
+    ensures { result ≡ decisions.contains pattern.now (shown list.entry) }
 {
-    if braces {
-        return found(bytes, lists, b"{ ,  }", 2, r, pattern);
+    if pattern.is_empty() {
+        return true;
     }
-    found(bytes, lists, b"[, ]", 1, r, pattern)
+    let mut behind = list;
+    while let Some(piece) = behind.next() {
+        if found_in(piece, behind, pattern) {
+            return true;
+        }
+    }
+    false
 }

@@ -17,7 +17,6 @@ use Rattle.script.specs.declared.records.Script.{Script}
 use Rattle.written.specs.Written.{written_at}
 use Rattle.printed.specs.Listing.{lent, header_line, entry_lines, refusal_line, listing, listing_of}
 use Rattle.printed.specs.Room.{Front}
-use Rattle.writing.proofs.PutLaws.{Put}
 use Rattle.listing.proofs.ReadingLaws.{Fitting, fits}
 
 -- at the front, a table written is one overlaid; it has room, since it keeps its length
@@ -49,9 +48,9 @@ lists text xs t u n e k c w =
 
 -- a text that is refused
 pub refused-lists : (text : List ℕ) (q : Refusal) → read_into lent text ≡ Err q
-    → (t u : List ℕ) (n : ℕ) → length u ≡ length t → Put 0 (refusal_line q) 55 t u n → Lists text t u n
+    → (t u : List ℕ) (n : ℕ) → length u ≡ length t → n ≡ length (refusal_line q) → u ≡ written_at 0 (refusal_line q) t → Lists text t u n
 unfolding listing_of listing
-refused-lists text q i t u n k p = lists text (refusal_line q) t u n (sym (ap listing i)) k (omega (arith, p.0)) p.1.0
+refused-lists text q i t u n k c v = lists text (refusal_line q) t u n (sym (ap listing i)) k c v
 
 -- a text that is read: its script, and the reading that it belongs to
 pub record WasRead (p : Parsed Reading) (s : Script) : Type 0 where

@@ -5,13 +5,14 @@ use mathlib.Core.List.{List, [], ◌∷◌, ◌++◌, append_assoc, append-nil}
 use native.Mathlib.Numerals.{add-one}
 use native.Mathlib.Omega.{arith}
 use lib.ListN.{length, take, get_or}
-use lib.Seq.{take-suc}
+use lib.Seq.{take-suc, take_all, length-take-le}
 use Rattle.script.specs.declared.records.Entry.{Entry}
 use Rattle.script.specs.declared.records.Script.{Script}
-use Rattle.written.specs.Written.{written_at}
-use Rattle.written.proofs.WrittenLaws.{written_none}
+use Rattle.written.specs.declared.Writer.{Writer}
+use Rattle.written.specs.Writing.{Room, wrote}
+use Rattle.written.proofs.WriterLaws.{wrote_none}
 use Rattle.printed.specs.Listing.{header_line, entry_line, entry_lines}
-use Rattle.writing.proofs.PutLaws.{Put, put_length, put_then}
+use Rattle.printed.proofs.PutLaws.{Put, put_room, put_then}
 
 lines-append : (xs ys : List Entry) → entry_lines (xs ++ ys) ≡ entry_lines xs ++ entry_lines ys
 unfolding entry_lines
@@ -30,53 +31,36 @@ lines_more es i d h =
     ∙ lines-append (take i es) (get_or es i d ∷ [])
     ∙ ap (λ (zs : List ℕ). entry_lines (take i es) ++ zs) (lines_one (get_or es i d))
 
--- The lines of the first i of n entries are written, each in at most 63 bytes; `first` is the table as it was, `now` as it is.
-pub record Printed (es : List Entry) (n at : ℕ) (first now : List ℕ) (next i : ℕ) : Type 0 where
-  pub few : i ≤ n
-  pub there : n ≤ length es
-  pub room : at + n * 63 ≤ length first
-  pub done : Put at (entry_lines (take i es)) (i * 63) first now next
+-- the lines of the first i entries are written, each in at most 63 bytes
+module _ (es : List Entry) (i : ℕ) (w v : Writer ℕ) (p : Put (entry_lines (take i es)) (i * 63) w v) (room : Room (length es * 63) w) where
+  -- all are
+  pub printed_all : i ≡ length es → Put (entry_lines es) (length es * 63) w v
+  printed_all h = (
+    p.0 ∙ ap (λ (l : List Entry). wrote (entry_lines l) w) (take_all i es (omega arith)),
+    omega (arith, p.1),
+  )
 
-module _ (es : List Entry) (n at : ℕ) (first : List ℕ) where
-  -- none is written yet
-  pub printed_none : n ≤ length es → at + n * 63 ≤ length first → Printed es n at first first at 0
-  unfolding entry_lines
-  printed_none h room = record { few = omega arith; there = h; room = room; done = (omega arith, (sym (written_none at first), omega arith)) }
+  module _ (h : i < length es) where
+    -- there is room for one more
+    pub printed_room : Room 63 v
+    printed_room = put_room _ (i * 63) w v p 63 (omega arith)
 
-  module _ (now : List ℕ) (next i : ℕ) (p : Printed es n at first now next i) where
-    pub printed_length : length now ≡ length first
-    printed_length = put_length at (entry_lines (take i es)) (i * 63) first now next p.done (omega (arith, p.few, p.room))
+    pub printed_more : (e : Entry) (u : Writer ℕ) → e ≡ get_or es i e → Put (entry_line e) 63 v u → Put (entry_lines (take (i + 1) es)) ((i + 1) * 63) w u
+    printed_more e u k q =
+        let z = put_then _ (i * 63) w v p (entry_line e) 63 u q (omega arith) in (
+          z.0 ∙ ap (λ (xs : List ℕ). wrote xs w) (ap (λ (x : Entry). entry_lines (take i es) ++ entry_line x) k ∙ sym (lines_more es i e h)),
+          omega (arith, z.1),
+        )
 
-    -- all are
-    pub printed_all : n ≤ i → Put at (entry_lines (take n es)) (n * 63) first now next
-    printed_all h = let e : i ≡ n = omega (arith, p.few) in rw e at p.done
-
-    module _ (h : i < n) where
-      -- there is room for one more
-      pub printed_room : next + 63 ≤ length now
-      printed_room = omega (arith, printed_length, p.room, p.done.1.1)
-
-      pub printed_in : i < length es
-      printed_in = omega (arith, p.there)
-
-      pub printed_more : (d : Entry) (after : List ℕ) (b : ℕ) → Put next (entry_line (get_or es i d)) 63 now after b → Printed es n at first after b (i + 1)
-      printed_more d after b q =
-          let z = put_then at (entry_lines (take i es)) (i * 63) first now next p.done (entry_line (get_or es i d)) 63 after b (omega (arith, p.room)) (λ r. q) in
-          record {
-            few = omega arith;
-            there = p.there;
-            room = p.room;
-            done = (
-              z.0 ∙ ap (λ (xs : List ℕ). at + length xs) (sym (lines_more es i d printed_in)),
-              (z.1.0 ∙ ap (λ (xs : List ℕ). written_at at xs first) (sym (lines_more es i d printed_in)), omega (arith, z.1.1)),
-            );
-          }
-
-pub ruleset printed_laws = (printed_none, printed_length, printed_all, printed_room, printed_in, printed_more)
+-- none is written yet
+pub printed_none : (w : Writer ℕ) → Put (entry_lines []) (0 * 63) w w
+unfolding entry_lines
+printed_none w = (wrote_none w, omega arith)
 
 -- the first line, then those of the entries
-pub script_put : (s : Script) (es : List Entry) (n : ℕ) (t u v : List ℕ) (a b : ℕ) → 139 + n * 63 ≤ length t → Put 0 (header_line s) 139 t u a → Put a (entry_lines (take n es)) (n * 63) u v b
-    → (b ≡ length (header_line s ++ entry_lines (take n es))) × (v ≡ written_at 0 (header_line s ++ entry_lines (take n es)) t)
-script_put s es n t u v a b room p q =
-    let z = put_then 0 (header_line s) 139 t u a p (entry_lines (take n es)) (n * 63) v b (omega arith) (λ r. q) in
-    (omega (arith, z.0), z.1.0)
+module _ (s : Script) (es : List Entry) (n : ℕ) (w v : Writer ℕ) (h : n ≤ length es) (room : Room (139 + n * 63) w) (p : Put (header_line s) 139 w v) where
+  pub entries_room : Room (length (take n es) * 63) v
+  entries_room = let l = length-take-le n es h in omega (arith, put_room _ 139 w v p (n * 63) room)
+
+  pub script_put : (u : Writer ℕ) → Put (entry_lines (take n es)) (length (take n es) * 63) v u → u ≡ wrote (header_line s ++ entry_lines (take n es)) w
+  script_put u q = let l = length-take-le n es h in (put_then _ 139 w v p (entry_lines (take n es)) (n * 63) u (q.0, omega (arith, q.1)) room).0

@@ -12,24 +12,16 @@ use sought::value::{Value, text_value, whole_value};
 use texts::text_at;
 
 // In a response; the field's name is a part of the text.
+#[tactic(auto, unfolding(sought::specs::Values::value_bytes, verdicts::specs::Held::expected_of, verdicts::specs::Held::response_of, verdicts::specs::Lookup::looked_in))]
 pub fn looked_entry(e: Expect, text: &[u8], r: DaemonResponse) -> Value
     ensures { Means result (λ bytes lists. looked_in (response_of bytes lists r) (expected_of text.now e)) }
 {
     match e {
-        Expect::Terminal(_) => Value::Missing,
-        Expect::Result(_) => {
-            let result = r.result;
-            whole_value(result)
-        }
-        Expect::ResultField(p, _) => {
-            let result = r.result;
-            field_value(result, text_at(text, p))
-        }
-        Expect::Error(_) => {
-            let error = r.error;
-            text_value(error)
-        }
+        Expect::Result(_) => whole_value(r.result),
+        Expect::ResultField(p, _) => field_value(r.result, text_at(text, p)),
+        Expect::Error(_) => text_value(r.error),
         Expect::StderrCount(_) => Value::Number(r.stderr_count),
+        Expect::Terminal(_) => Value::Missing,
         Expect::Daemon(_) => Value::Missing,
         Expect::Trust(_) => Value::Missing,
         Expect::ServerFeatures(_) => Value::Missing,
@@ -55,26 +47,18 @@ fn trust_value(m: Option<u64>) -> Value
 }
 
 // In what the handshake told; no part of the text is looked at.
+#[tactic(auto, unfolding(sought::specs::Values::value_bytes, verdicts::specs::Held::expected_of, verdicts::specs::Held::info_of, verdicts::specs::Lookup::told_in, verdicts::specs::Lookup::daemon_text, verdicts::specs::Lookup::trust_text, verdicts::specs::Lookup::features_text))]
 pub fn looked_handshake(e: Expect, i: HandshakeInfo) -> Value
     ensures { (text : List ℕ) → Means result (λ bytes lists. told_in (info_of bytes lists i) (expected_of text e)) }
 {
     match e {
-        Expect::Terminal(_) => Value::Missing,
-        Expect::Result(_) => Value::Missing,
-        Expect::ResultField(_, _) => Value::Missing,
-        Expect::Error(_) => Value::Missing,
-        Expect::StderrCount(_) => Value::Missing,
-        Expect::Daemon(_) => {
-            let version = i.daemon_nix_version;
-            daemon_value(version)
-        }
-        Expect::Trust(_) => {
-            let status = i.trust_status;
-            trust_value(status)
-        }
-        Expect::ServerFeatures(_) => {
-            let features = i.server_features;
-            Value::Features(features)
-        }
+        Expect::Daemon(_) => daemon_value(i.daemon_nix_version),
+        Expect::Trust(_) => trust_value(i.trust_status),
+        Expect::ServerFeatures(_) => Value::Features(i.server_features),
+        Expect::Terminal(_)
+        | Expect::Result(_)
+        | Expect::ResultField(_, _)
+        | Expect::Error(_)
+        | Expect::StderrCount(_) => Value::Missing,
     }
 }

@@ -44,10 +44,6 @@ module _ (case : ℤ → Matcher) (whole : Answer Matcher) (o : Option ℤ) (w :
   pub number-bad : (why : Reason) → i ≡ Err why → (r : Answer Matcher) → r ≡ Err why → r ≡ whole
   number-bad why e r k = k ∙ numbered-err case o why (sym q ∙ e) ∙ sym w
 
--- between two slashes
-pub between : (start end : ℕ) → 1 < end - start → start + 1 ≤ end - 1
-between start end h = omega arith
-
 module _ (text : List ℕ) (s : Span) where
   -- the number behind a sign of n bytes
   abbrev behind_sign : ℕ → Option ℤ

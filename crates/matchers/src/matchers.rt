@@ -5,8 +5,8 @@ ghost use Rattle.values.specs.Numbers.{signed};
 ghost use Rattle.text.specs.Parts.{span};
 ghost use Rattle.script.specs.Pieces.{bytes, trim, place};
 ghost use Rattle.script.specs.Expectations.{matcher};
-ghost use Rattle.script.specs.Inside.{In};
 
+use pieces::pieces::Piece;
 use script::records::{Matcher, Place};
 use script::refusals::Reason;
 use text::parts::Span;
@@ -25,73 +25,40 @@ pub fn place_of(p: Span) -> Place
 }
 
 // The number behind a sign of n bytes.
-fn number_behind(text: &[u8], s: Span, n: usize) -> Result<i64, Reason>
-    requires fact { In text.now s }
-    requires n_bound { s.start + n ≤ s.end }
-    ensures { result ≡ ok_or (signed (bytes text.now (trim text.now (span (s.start + n) s.end)))) MatcherNumberUnreadable }
+fn number_behind(s: Piece<'_>, n: usize) -> Result<i64, Reason>
+    requires { s.at.start + n ≤ s.at.end }
+    ensures { result ≡ ok_or (signed (bytes s.entry.text.now (trim s.entry.text.now (span (s.entry.at.start + n) s.entry.at.end)))) MatcherNumberUnreadable }
 {
-    let t = pieces::fronts::behind_trimmed(text, s, n);
-    let start = t.start;
-    let end = t.end;
-    values::number::parse_i64(&text[start..end]).ok_or(Reason::MatcherNumberUnreadable)
-}
-
-// A matcher that begins with `>`.
-fn greater(text: &[u8], s: Span) -> Result<Matcher, Reason>
-    requires fact { In text.now s }
-    requires s_value { get_or (bytes text.now s) 0 0 ≡ 62 }
-    ensures { result ≡ matcher text.now s }
-{
-    if pieces::pieces::begins(text, s, b">=") {
-        return Ok(Matcher::GreaterOrEqual(number_behind(text, s, 2)?));
-    }
-    Ok(Matcher::GreaterThan(number_behind(text, s, 1)?))
-}
-
-// A matcher that begins with `<`.
-fn less(text: &[u8], s: Span) -> Result<Matcher, Reason>
-    requires fact { In text.now s }
-    requires s_value { get_or (bytes text.now s) 0 0 ≡ 60 }
-    ensures { result ≡ matcher text.now s }
-{
-    if pieces::pieces::begins(text, s, b"<=") {
-        return Ok(Matcher::LessOrEqual(number_behind(text, s, 2)?));
-    }
-    Ok(Matcher::LessThan(number_behind(text, s, 1)?))
+    values::number::parse_i64(s.behind(n).trimmed().bytes()).ok_or(Reason::MatcherNumberUnreadable)
 }
 
 // A matcher that begins with `/`: a pattern where it ends so too and is more than that one sign.
-fn slashed(text: &[u8], s: Span) -> Result<Matcher, Reason>
-    requires fact { In text.now s }
-    requires s_value { get_or (bytes text.now s) 0 0 ≡ 47 }
-    ensures { result ≡ matcher text.now s }
+fn slashed(s: Piece<'_>) -> Result<Matcher, Reason>
+    requires { get_or (bytes s.text.now s.at) 0 0 ≡ 47 }
+    ensures { result ≡ matcher s.entry.text.now s.entry.at }
 {
-    if !pieces::pieces::ends_in(text, s, b'/') {
-        return Ok(Matcher::Exact(place_of(s)));
+    if !s.ends_with(b'/') {
+        return Ok(Matcher::Exact(place_of(s.at)));
     }
-    if s.end - s.start <= 1 {
-        return Ok(Matcher::Exact(place_of(s)));
+    if s.at.end - s.at.start <= 1 {
+        return Ok(Matcher::Exact(place_of(s.at)));
     }
     let inner = Span {
-        start: s.start + 1,
-        end: s.end - 1,
+        start: s.at.start + 1,
+        end: s.at.end - 1,
     };
     Ok(Matcher::Regex(place_of(inner)))
 }
 
-pub fn matcher(text: &[u8], s: Span) -> Result<Matcher, Reason>
-    requires { In text.now s }
-    ensures { result ≡ matcher text.now s }
+pub fn matcher(s: Piece<'_>) -> Result<Matcher, Reason>
+    ensures { result ≡ matcher s.entry.text.now s.entry.at }
 {
-    let x = pieces::fronts::first_byte(text, s);
-    if x == b'/' {
-        return slashed(text, s);
+    match s.first_byte() {
+        b'/' => slashed(s),
+        b'>' if s.starts_with(b">=") => Ok(Matcher::GreaterOrEqual(number_behind(s, 2)?)),
+        b'>' => Ok(Matcher::GreaterThan(number_behind(s, 1)?)),
+        b'<' if s.starts_with(b"<=") => Ok(Matcher::LessOrEqual(number_behind(s, 2)?)),
+        b'<' => Ok(Matcher::LessThan(number_behind(s, 1)?)),
+        _ => Ok(Matcher::Exact(place_of(s.at))),
     }
-    if x == b'>' {
-        return greater(text, s);
-    }
-    if x == b'<' {
-        return less(text, s);
-    }
-    Ok(Matcher::Exact(place_of(s)))
 }

@@ -3,7 +3,7 @@
 
 use wire::ops::Op;
 
-// The preamble, or an entry of that operation.
+// The preamble, or an entry of that operation. No `Option`: the preamble is open as an entry is, and nothing is absent.
 #[derive(Clone, Copy)]
 pub enum What {
     ThePreamble,

@@ -3,6 +3,7 @@
 
 ghost use Rattle.std.specs.Prelude.{◌≡◌};
 ghost use Rattle.frames.specs.Frames.{entry_frame, handshake_frame};
+ghost use Rattle.message_frames.specs.MessageFrames.{message_frame};
 
 use frame_parts::{
     alone, error_headed, headed, missing_or, terminal_frame, valued_frame, word_frame,
@@ -11,9 +12,11 @@ use frames::frames::{Frame, NOWHERE, Piece};
 use frames::words::{Head, Middle};
 use script::records::{Expect, Place};
 use verdicts::Verdict;
+use verdicts::handed::Handed;
 
 // The message of an expectation that is judged against a response.
-pub fn entry_frame(e: Expect, missing: bool, v: Verdict, terminal: Place) -> Frame
+#[tactic(auto, unfolding(frames::specs::Frames::entry_frame))]
+fn entry_frame(e: Expect, missing: bool, v: Verdict, terminal: Place) -> Frame
     ensures { result ≡ entry_frame e missing v terminal }
 {
     match e {
@@ -41,7 +44,8 @@ pub fn entry_frame(e: Expect, missing: bool, v: Verdict, terminal: Place) -> Fra
 }
 
 // The message of an expectation that is judged against the handshake's information.
-pub fn handshake_frame(e: Expect, v: Verdict) -> Frame
+#[tactic(auto, unfolding(frames::specs::Frames::handshake_frame))]
+fn handshake_frame(e: Expect, v: Verdict) -> Frame
     ensures { result ≡ handshake_frame e v }
 {
     match e {
@@ -53,5 +57,19 @@ pub fn handshake_frame(e: Expect, v: Verdict) -> Frame
         Expect::Daemon(m) => valued_frame(headed(Head::DaemonWord, NOWHERE), m, v),
         Expect::Trust(m) => valued_frame(headed(Head::TrustWord, NOWHERE), m, v),
         Expect::ServerFeatures(m) => valued_frame(headed(Head::FeaturesWord, NOWHERE), m, v),
+    }
+}
+
+// The message of an expectation, by what it is judged against.
+#[tactic(auto, unfolding(crate::specs::MessageFrames::message_frame))]
+pub fn message_frame(e: Expect, missing: bool, v: Verdict, h: Handed) -> Frame
+    ensures { result ≡ message_frame e missing v h }
+{
+    match h {
+        Handed::Info(_) => handshake_frame(e, v),
+        Handed::Response(r) => {
+            let terminal = r.terminal;
+            entry_frame(e, missing, v, terminal)
+        }
     }
 }

@@ -5,13 +5,15 @@ use mathlib.Core.Path.{◌≡◌, refl, sym, ap, ◌∙◌}
 use mathlib.Core.List.{List, ◌++◌}
 use native.Mathlib.Omega.{arith}
 use lib.ListN.{length, length-append}
-use Rattle.text.specs.Base.{overlaid}
 use Rattle.verdicts.specs.Held.{text_at}
 use Rattle.text.specs.Unicode.{encoded}
 use Rattle.text.specs.Literal.{utf8}
 use Rattle.writing.specs.Room.{left, less_by}
+use Rattle.text.proofs.LiteralLaws.{codes}
+use Rattle.written.specs.declared.Writer.{Writer}
+use Rattle.written.specs.Writing.{Room, wrote}
+use Rattle.written.proofs.WriterLaws.{room_front, room_behind, wrote_behind}
 use Rattle.writing.proofs.RoomLaws.{left_more}
-use Rattle.writing.proofs.PutLaws.{Wrote, wrote_then, wrote_front}
 use Rattle.frames.specs.Words.{head_bytes, middle_bytes}
 use Rattle.frames.specs.Frames.{piece_bytes, ending_bytes, frame_bytes}
 use Rattle.frames.specs.declared.frames.Piece.{Piece}
@@ -96,26 +98,82 @@ module _ (text bytes value : List ℕ) (f : Frame) where
 
 -- ---- bytes
 
+-- a word, then the value
+module _ (value : List ℕ) (e : Ending) (w v u : Writer ℕ) (room : Room (length (ending_bytes value e)) w) where
+  module _ (h : e ≡ endings.Got) (p : v ≡ wrote (codes ", got ") w) where
+    got_is : ending_bytes value e ≡ codes ", got " ++ value
+    unfolding ending_bytes utf8 encoded
+    got_is = ap (ending_bytes value) h
+
+    pub got_room : Room (length value) v
+    got_room = room_behind _ w v p value _ got_is room
+
+    pub got_wrote : u ≡ wrote value v → u ≡ wrote (ending_bytes value e) w
+    got_wrote = wrote_behind _ w v p value _ got_is room u
+
+  module _ (h : e ≡ endings.PatternGot) (p : v ≡ wrote (codes "/, got ") w) where
+    pattern_is : ending_bytes value e ≡ codes "/, got " ++ value
+    unfolding ending_bytes utf8 encoded
+    pattern_is = ap (ending_bytes value) h
+
+    pub pattern_room : Room (length value) v
+    pattern_room = room_behind _ w v p value _ pattern_is room
+
+    pub pattern_wrote : u ≡ wrote value v → u ≡ wrote (ending_bytes value e) w
+    pattern_wrote = wrote_behind _ w v p value _ pattern_is room u
+
 -- the words and pieces of a frame, one behind the other
-module _ (text bytes value : List ℕ) (f : Frame) (t u v w x y : List ℕ) (a b c d e : ℕ) where
-  pub frame_wrote : Wrote 0 (head_bytes f.first) t u a
-      → Wrote a (text_at text f.a) u v b
-      → Wrote b (middle_bytes f.second) v w c
-      → Wrote c (piece_bytes text bytes value f.b) w x d
-      → Wrote d (ending_bytes value f.ending) x y e
-      → length (frame_bytes text bytes value f) ≤ length t
-      → (e ≡ length (frame_bytes text bytes value f)) × (y ≡ overlaid (frame_bytes text bytes value f) t)
-  unfolding frame_bytes
-  frame_wrote p q r s l room =
-      let n = frame_sum text bytes value f in
-      let F = head_bytes f.first in
-      let A = text_at text f.a in
-      let S = middle_bytes f.second in
-      let B = piece_bytes text bytes value f.b in
-      let one = length-append F A in
-      let two = length-append (F ++ A) S in
-      let three = length-append (F ++ A ++ S) B in
-      let k = wrote_then 0 F A t u v a b p q (omega (arith, n)) in
-      let m = wrote_then 0 (F ++ A) S t v w b c k r (omega (arith, n, one)) in
-      let o = wrote_then 0 (F ++ A ++ S) B t w x c d m s (omega (arith, n, one, two)) in
-      wrote_front (frame_bytes text bytes value f) t y e room (wrote_then 0 (F ++ A ++ S ++ B) (ending_bytes value f.ending) t x y d e o l (omega (arith, n, one, two, three)))
+module _ (text bytes value : List ℕ) (f : Frame) where
+  -- the first two, three and four of them
+  abbrev two : List ℕ
+  two = head_bytes f.first ++ text_at text f.a
+
+  abbrev three : List ℕ
+  three = two ++ middle_bytes f.second
+
+  abbrev four : List ℕ
+  four = three ++ piece_bytes text bytes value f.b
+
+  module _ (w : Writer ℕ) (room : Room (length (frame_bytes text bytes value f)) w) where
+    four_fit : Room (length four) w
+    unfolding frame_bytes
+    four_fit = room_front four (ending_bytes value f.ending) (frame_bytes text bytes value f) w refl room
+
+    three_fit : Room (length three) w
+    three_fit = room_front three (piece_bytes text bytes value f.b) four w refl four_fit
+
+    two_fit : Room (length two) w
+    two_fit = room_front two (middle_bytes f.second) three w refl three_fit
+
+    pub head_room : Room (length (head_bytes f.first)) w
+    head_room = room_front (head_bytes f.first) (text_at text f.a) two w refl two_fit
+
+    module _ (u : Writer ℕ) (p : u ≡ wrote (head_bytes f.first) w) where
+      pub text_room : Room (length (text_at text f.a)) u
+      text_room = room_behind _ w u p (text_at text f.a) two refl two_fit
+
+      module _ (v : Writer ℕ) (q : v ≡ wrote (text_at text f.a) u) where
+        so₂ : v ≡ wrote two w
+        so₂ = wrote_behind _ w u p (text_at text f.a) two refl two_fit v q
+
+        pub middle_room : Room (length (middle_bytes f.second)) v
+        middle_room = room_behind two w v so₂ (middle_bytes f.second) three refl three_fit
+
+        module _ (x : Writer ℕ) (r : x ≡ wrote (middle_bytes f.second) v) where
+          so₃ : x ≡ wrote three w
+          so₃ = wrote_behind two w v so₂ (middle_bytes f.second) three refl three_fit x r
+
+          pub piece_room : Room (length (piece_bytes text bytes value f.b)) x
+          piece_room = room_behind three w x so₃ (piece_bytes text bytes value f.b) four refl four_fit
+
+          module _ (y : Writer ℕ) (s : y ≡ wrote (piece_bytes text bytes value f.b) x) where
+            so₄ : y ≡ wrote four w
+            so₄ = wrote_behind three w x so₃ (piece_bytes text bytes value f.b) four refl four_fit y s
+
+            pub ending_room : Room (length (ending_bytes value f.ending)) y
+            unfolding frame_bytes
+            ending_room = room_behind four w y so₄ (ending_bytes value f.ending) (frame_bytes text bytes value f) refl room
+
+            pub frame_wrote : (z : Writer ℕ) → z ≡ wrote (ending_bytes value f.ending) y → z ≡ wrote (frame_bytes text bytes value f) w
+            unfolding frame_bytes
+            frame_wrote = wrote_behind four w y so₄ (ending_bytes value f.ending) (frame_bytes text bytes value f) refl room

@@ -1,44 +1,44 @@
-// The bytes of a message. Each function writes from `at` on and says where the next byte goes.
-ghost use Rattle.std.specs.Prelude.{◌≡◌, ◌+◌, ◌≤◌, length};
+// The bytes of a message.
+ghost use Rattle.std.specs.Prelude.{◌≡◌, ◌≤◌, length};
 ghost use Rattle.text.specs.Base.{overlaid};
-ghost use Rattle.written.specs.Written.{written_at};
+ghost use Rattle.written.specs.Writing.{Room, wrote};
 ghost use Rattle.frames.specs.Frames.{piece_bytes, ending_bytes, frame_bytes};
 
 use decimals::integer::put_integer;
 use frames::frames::{Ending, Frame, Piece};
-use phrases::{put_head, put_middle};
+use frames::words::{head_word, middle_word};
 use texts::text_at;
-use writing::words::put_word;
+use written::Writer;
 
-fn put_piece(p: Piece, text: &[u8], bytes: &[u8], value: &[u8], out: &mut [u8], at: usize) -> usize
-    requires { at + length (piece_bytes text.now bytes.now value.now p) ≤ length out.old }
-    ensures value { result ≡ at + length (piece_bytes text.now bytes.now value.now p) }
-    ensures out_after { out.new ≡ written_at at (piece_bytes text.now bytes.now value.now p) out.old }
+#[tactic(auto, unfolding(frames::specs::Frames::piece_bytes), using(written::proofs::WriterLaws::wrote_none))]
+fn put_piece(p: Piece, text: &[u8], bytes: &[u8], value: &[u8], w: &mut Writer<u8>)
+    requires { Room (length (piece_bytes text.now bytes.now value.now p)) w.old }
+    ensures { w.new ≡ wrote (piece_bytes text.now bytes.now value.now p) w.old }
 {
     match p {
-        Piece::Nothing => at,
-        Piece::Text(q) => put_word(text_at(text, q), out, at),
-        Piece::Held(q) => put_word(text_at(bytes, q), out, at),
-        Piece::Value => put_word(value, out, at),
-        Piece::Number(n) => put_integer(n, out, at),
+        Piece::Nothing => {}
+        Piece::Text(q) => w.put(text_at(text, q)),
+        Piece::Held(q) => w.put(text_at(bytes, q)),
+        Piece::Value => w.put(value),
+        Piece::Number(n) => put_integer(n, w),
     }
 }
 
 // The end of a message: a word and the value, or nothing.
-fn put_ending(e: Ending, value: &[u8], out: &mut [u8], at: usize) -> usize
-    requires { at + length (ending_bytes value.now e) ≤ length out.old }
-    ensures value { result ≡ at + length (ending_bytes value.now e) }
-    ensures out_after { out.new ≡ written_at at (ending_bytes value.now e) out.old }
+#[tactic(auto, unfolding(frames::specs::Frames::ending_bytes, text::specs::Literal::utf8, text::specs::Unicode::encoded), using(written::proofs::WriterLaws::wrote_none, crate::proofs::MessageLaws::got_room, crate::proofs::MessageLaws::got_wrote, crate::proofs::MessageLaws::pattern_room, crate::proofs::MessageLaws::pattern_wrote))]
+fn put_ending(e: Ending, value: &[u8], w: &mut Writer<u8>)
+    requires { Room (length (ending_bytes value.now e)) w.old }
+    ensures { w.new ≡ wrote (ending_bytes value.now e) w.old }
 {
     match e {
-        Ending::Nothing => at,
+        Ending::Nothing => {}
         Ending::Got => {
-            let next = put_word(b", got ", out, at);
-            put_word(value, out, next)
+            w.put(b", got ");
+            w.put(value);
         }
         Ending::PatternGot => {
-            let next = put_word(b"/, got ", out, at);
-            put_word(value, out, next)
+            w.put(b"/, got ");
+            w.put(value);
         }
     }
 }
@@ -49,14 +49,11 @@ pub fn put_frame(f: Frame, text: &[u8], bytes: &[u8], value: &[u8], out: &mut [u
     ensures value { result ≡ length (frame_bytes text.now bytes.now value.now f) }
     ensures out_after { out.new ≡ overlaid (frame_bytes text.now bytes.now value.now f) out.old }
 {
-    let first = f.first;
-    let a = f.a;
-    let second = f.second;
-    let b = f.b;
-    let ending = f.ending;
-    let one = put_head(first, out, 0);
-    let two = put_word(text_at(text, a), out, one);
-    let three = put_middle(second, out, two);
-    let four = put_piece(b, text, bytes, value, out, three);
-    put_ending(ending, value, out, four)
+    let mut w = Writer::new(out);
+    w.put(head_word(f.first));
+    w.put(text_at(text, f.a));
+    w.put(middle_word(f.second));
+    put_piece(f.b, text, bytes, value, &mut w);
+    put_ending(f.ending, value, &mut w);
+    w.position()
 }

@@ -1,3 +1,2 @@
 pub mod NumberLaws
 pub mod SignedLaws
-pub mod PuttingLaws

@@ -18,7 +18,7 @@ fn matcher_numbers(m: Matcher) -> [u64; 3]
     }
 }
 
-// The kind, a place, and a matcher.
+// The kind, a place, and a matcher. Kinds are numbers here, since a host is given rows of numbers (the C interface).
 fn matched(kind: u64, start: u64, len: u64, m: Matcher) -> [u64; 6]
     ensures { result ≡ kind ∷ start ∷ len ∷ matcher_numbers m }
 {

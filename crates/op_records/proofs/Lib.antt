@@ -1,1 +1,1 @@
-pub mod OpLaws
+pub mod RestLaws

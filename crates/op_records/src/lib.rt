@@ -1,159 +1,102 @@
-// The record of an entry's operation, from its line, from what was said below it, and from how many items and bytes that takes. Each arm returns its
-// record, which is so made where it goes.
+// The record of an entry's operation, from its line, from what was said below it, and from how many items and bytes that takes.
 #![tactic(auto)]
 
 ghost use Rattle.std.specs.Prelude.{◌≡◌, ◌+◌, ◌<◌};
 ghost use Rattle.script.specs.Operations.{form_of};
 ghost use Rattle.script.specs.Contents.{rest_of};
 ghost use Rattle.script.specs.Inside.{In};
-ghost use Rattle.openings.specs.OpeningRead.{set_place};
-ghost use Rattle.said.specs.Said.{piece_at, SaidIn};
+ghost use Rattle.said.specs.Said.{said_of};
 ghost use Rattle.records.specs.Records.{root_record, record_of};
-ghost use Rattle.op_records.specs.RecordRead.{text_record, set_record, line_record};
 
-use openings::SetPlace;
-use records::calls::Sizes;
-use script::records::{Items, OpCall};
-use script::roles::Takes;
+use matchers::matchers::place_of;
+use option_records::{garbage_call, options_of, verify_call};
+use pieces::pieces::Piece;
+use records::calls::{Sizes, framed_of, placed, range_of};
+use said::said::Said;
+use script::records::OpCall;
+use store_records::{multiple_call, store_call, texts_call};
 use text::parts::Span;
 use wire::ops::Op;
 
 // What stands behind a path set, trimmed; the piece itself where its brace is not closed.
-fn rest_of(text: &[u8], p: Span) -> Span
-    requires { In text.now p }
-    ensures value { result ≡ rest_of text.now p }
-    ensures fact { In text.now result }
+#[tactic(auto, using(crate::proofs::RestLaws::rest_open))]
+fn rest_of<'a>(p: Piece<'a>) -> Piece<'a>
+    ensures text { result.text ≡ p.entry.text }
+    ensures at { result.at ≡ rest_of p.entry.text.now p.entry.at }
 {
-    let q = pieces::pieces::trimmed(text, p);
-    let end = q.end;
-    if !pieces::pieces::begins(text, q, b"{") {
-        return pieces::pieces::trimmed(text, Span { start: end, end });
+    let q = p.trimmed();
+    if !q.starts_with(b"{") {
+        return q.behind(q.at.end - q.at.start).trimmed();
     }
-    let start = q.start + 1;
-    let Some(n) = pieces::pieces::find_in(text, Span { start, end }, 0x7D) else {
-        return p;
-    };
-    pieces::pieces::trimmed(
-        text,
-        Span {
-            start: start + n + 1,
-            end,
-        },
-    )
+    match q.behind(1).split_once(b'}') {
+        None => p,
+        Some((_, rest)) => rest.trimmed(),
+    }
 }
 
 // Two paths, cut at the first blank.
-fn root_call(text: &[u8], args: Span) -> OpCall
-    requires { In text.now args }
-    ensures { result ≡ root_record text.now args }
+#[tactic(auto, unfolding(records::specs::Records::root_record))]
+fn root_call(args: Piece<'_>) -> OpCall
+    ensures { result ≡ root_record args.entry.text.now args.entry.at }
 {
-    let c = openings::cut_or(text, args, 0x20);
+    let (path, gc_root) = args.cut_or(b' ');
     OpCall::AddPermRoot {
-        path: matchers::matchers::place_of(c.before),
-        gc_root: matchers::matchers::place_of(c.after),
-    }
-}
-
-// An operation with only its line, and no path set on it.
-fn text_call(text: &[u8], op: Op, args: Span) -> OpCall
-    requires { In text.now args }
-    ensures { result ≡ text_record text.now (form_of op).shape op args }
-{
-    let place = matchers::matchers::place_of(args);
-    match op {
-        Op::AddIndirectRoot => return OpCall::SingleString { op, value: place },
-        Op::SyncWithGC => return OpCall::NoArgs { op },
-        Op::FindRoots => return OpCall::NoArgs { op },
-        Op::QuerySubstitutablePathInfo => return OpCall::QuerySubstitutablePathInfo { path: place },
-        Op::QueryAllValidPaths => return OpCall::NoArgs { op },
-        Op::QueryPathFromHashPart => return OpCall::SingleString { op, value: place },
-        Op::OptimiseStore => return OpCall::NoArgs { op },
-        Op::RegisterDrvOutput => return OpCall::RegisterDrvOutput { value: place },
-        Op::QueryRealisation => return OpCall::QueryRealisation { value: place },
-        Op::AddPermRoot => return root_call(text, args),
-        _ => return OpCall::SinglePath { op, path: place },
-    }
-}
-
-// An operation with a path set behind its name.
-fn set_call(text: &[u8], op: Op, args: Span, paths: Items) -> OpCall
-    requires { In text.now args }
-    ensures { result ≡ set_record text.now (form_of op).shape op args paths }
-{
-    let rest = rest_of(text, args);
-    let mode = matchers::matchers::place_of(rest);
-    match op {
-        Op::BuildPaths => return OpCall::PathSetMode { op, paths, mode },
-        Op::QuerySubstitutablePathInfos => return OpCall::QuerySubstitutablePathInfos { paths },
-        Op::QueryValidPaths => return OpCall::PathSetFlag {
-            op,
-            paths,
-            substitute: pieces::pieces::is_word(text, rest, b"substitute"),
-        },
-        Op::BuildPathsWithResults => return OpCall::PathSetMode { op, paths, mode },
-        _ => return OpCall::PathSet { op, paths },
-    }
-}
-
-// An operation with only its line; n is how many items its path set has.
-fn line_call(text: &[u8], op: Op, args: Span, i: usize, n: usize) -> OpCall
-    requires { In text.now args }
-    ensures { result ≡ line_record text.now (set_place (form_of op).syntax) op args i n }
-{
-    match openings::set_place(op) {
-        SetPlace::NoSet => return text_call(text, op, args),
-        SetPlace::AllOf => return set_call(text, op, args, records::calls::range_of(i, n)),
-        SetPlace::BehindBlank => {
-            let c = openings::cut_or(text, args, 0x20);
-            return OpCall::AddSignatures {
-                path: matchers::matchers::place_of(c.before),
-                sigs: records::calls::range_of(i, n),
-            };
-        }
+        path: place_of(path.at),
+        gc_root: place_of(gc_root.at),
     }
 }
 
 // The record of an entry's operation, behind i items and b bytes of the store.
-pub fn call_of(
-    text: &[u8],
-    op: Op,
-    args: Span,
-    starts: &[usize],
-    ends: &[usize],
-    i: usize,
-    b: usize,
-    z: Sizes,
-) -> OpCall
-    requires fact { In text.now args }
-    requires said_in { SaidIn text.now starts.now ends.now }
+#[tactic(auto, using(text::proofs::LiteralLaws::spells_as), unfolding(script::specs::Operations::form_of, script::specs::Pieces::is, records::specs::Records::record_of))]
+pub fn call_of(op: Op, args: Span, said: Said<'_>, i: usize, b: usize, z: Sizes) -> OpCall
+    requires fact { In said.text.now args }
     requires second_bound { b + z.first + z.second < 0x1_0000_0000_0000_0000 }
-    ensures { result ≡ record_of text.now (form_of op).shape op args (piece_at starts.now ends.now) i b z }
+    ensures { result ≡ record_of said.entry.text.now (form_of op).shape op args (said_of said.entry.heard.now) i b z }
 {
-    match openings::takes_of(op) {
-        Takes::NoLines => return line_call(text, op, args, i, z.items),
-        Takes::Options => return OpCall::SetOptions(option_records::options_of(
-            text,
-            starts,
-            ends,
-            records::calls::range_of(i, z.items),
-        )),
-        Takes::Garbage => return option_records::garbage_call(
-            text,
-            starts,
-            ends,
-            records::calls::range_of(i, z.items),
-        ),
-        Takes::Verify => return option_records::verify_call(text, starts, ends),
-        Takes::Texts => return store_records::texts_call(i, b, z),
-        Takes::Store => return store_records::store_call(text, starts, ends, i, b, z),
-        Takes::Multiple => return store_records::multiple_call(text, starts, ends, b, z.first),
-        Takes::FirstData => return OpCall::AddBuildLog {
-            path: matchers::matchers::place_of(args),
-            data: records::calls::framed_of(text, starts, ends, b, z.first),
+    let args = Piece {
+        text: said.text,
+        at: args,
+    };
+    let path = place_of(args.at);
+    let items = range_of(i, z.items);
+    match op {
+        Op::AddToStore => store_call(said, i, b, z),
+        Op::AddTextToStore => texts_call(i, b, z),
+        Op::SetOptions => OpCall::SetOptions(options_of(said, items)),
+        Op::CollectGarbage => garbage_call(said, items),
+        Op::VerifyStore => verify_call(said),
+        Op::AddMultipleToStore => multiple_call(said, b, z.first),
+        Op::AddBuildLog => OpCall::AddBuildLog {
+            path,
+            data: framed_of(said, b, z.first),
         },
-        Takes::FirstRaw => return OpCall::RawBytes {
+        Op::BuildDerivation | Op::AddToStoreNar => OpCall::RawBytes {
             op,
-            data: records::calls::placed(b, z.first),
+            data: placed(b, z.first),
         },
+        Op::BuildPaths | Op::BuildPathsWithResults => OpCall::PathSetMode {
+            op,
+            paths: items,
+            mode: place_of(rest_of(args).at),
+        },
+        Op::QueryValidPaths => OpCall::PathSetFlag {
+            op,
+            paths: items,
+            substitute: rest_of(args).is_word(b"substitute"),
+        },
+        Op::QuerySubstitutablePaths | Op::QueryMissing => OpCall::PathSet { op, paths: items },
+        Op::QuerySubstitutablePathInfos => OpCall::QuerySubstitutablePathInfos { paths: items },
+        Op::AddSignatures => OpCall::AddSignatures {
+            path: place_of(args.cut_or(b' ').0.at),
+            sigs: items,
+        },
+        Op::AddPermRoot => root_call(args),
+        Op::AddIndirectRoot | Op::QueryPathFromHashPart => OpCall::SingleString { op, value: path },
+        Op::SyncWithGC | Op::FindRoots | Op::QueryAllValidPaths | Op::OptimiseStore =>
+            OpCall::NoArgs { op },
+        Op::QuerySubstitutablePathInfo => OpCall::QuerySubstitutablePathInfo { path },
+        Op::RegisterDrvOutput => OpCall::RegisterDrvOutput { value: path },
+        Op::QueryRealisation => OpCall::QueryRealisation { value: path },
+        _ => OpCall::SinglePath { op, path },
     }
 }

@@ -1,168 +1,117 @@
 // Opening lines: a timestamp, an operation's name, and what stands behind it.
 #![tactic(auto)]
 
-ghost use Rattle.std.specs.Prelude.{◌≡◌, ◌+◌, ◌≤◌, Ok, Some};
+ghost use Rattle.std.specs.Prelude.{◌≡◌, ◌+◌, ◌≤◌, IfSome, Ok, Some, option_map};
 ghost use Rattle.script.specs.Operations.{form_of};
-ghost use Rattle.script.specs.Pieces.{cut_or};
-ghost use Rattle.script.specs.Roles.{set_on, not_closed, open_on, with_stamp, opening_role, below, skipped, after_opening};
+ghost use Rattle.script.specs.Roles.{set_on, open_on, not_closed, with_stamp, opening_role, below, skipped, after_opening};
 ghost use Rattle.script.specs.Timestamps.{stamped_as, stamped_at};
 ghost use Rattle.script.specs.Timestamps as definition;
-ghost use Rattle.script.specs.Inside.{In};
-ghost use Rattle.openings.specs.OpeningRead.{RestIn, halves, set_place, opening_step};
+ghost use Rattle.openings.specs.OpeningRead.{RestIn, opening_step};
 
+use pieces::pieces::Piece;
 use script::records::Time;
 use script::refusals::Reason;
 use script::roles::{Opening, Role, Stamped, Step, Takes, Where};
-use text::parts::Span;
 use wire::ops::Op;
 
-// A piece cut in two.
-#[derive(Clone, Copy)]
-pub struct Halves {
-    pub before: Span,
-    pub after: Span,
-}
-
-// Where on its line an operation has a path set: nowhere; all that stands behind its name; behind the first blank there.
-#[derive(Clone, Copy)]
-pub enum SetPlace {
-    NoSet,
-    AllOf,
-    BehindBlank,
-}
-
-// The piece cut at the first b. Where there is none, all stands before it.
-pub fn cut_or(text: &[u8], p: Span, b: u8) -> Halves
-    requires { In text.now p }
-    ensures result_value { halves result ≡ cut_or text.now b p }
-    ensures fact { In text.now result.before }
-    ensures fact_2 { In text.now result.after }
-{
-    let start = p.start;
-    let end = p.end;
-    let Some(n) = pieces::pieces::find_in(text, p, b) else {
-        return Halves {
-            before: p,
-            after: Span { start: end, end },
-        };
-    };
-    let at = start + n;
-    Halves {
-        before: Span { start, end: at },
-        after: Span { start: at + 1, end },
-    }
-}
-
 // The timestamp that stands in the piece before its n-th byte, where `ms` stands; what follows is trimmed.
-fn stamp_before(text: &[u8], p: Span, n: usize) -> Result<Stamped, Reason>
-    requires fact { In text.now p }
-    requires n_bound { p.start + n + 2 ≤ p.end }
-    ensures result_value { result ≡ stamped_at text.now p (Some n) }
-    ensures rest_in { RestIn text.now result }
+fn stamp_before(p: Piece<'_>, n: usize) -> Result<Stamped, Reason>
+    requires { p.at.start + n + 2 ≤ p.at.end }
+    ensures result_value { result ≡ stamped_at p.entry.text.now p.entry.at (Some n) }
+    ensures rest_in { RestIn p.entry.text.now result }
 {
-    let start = p.start;
-    let end = p.end;
-    let ms = start + n;
-    let time = stamps::timestamps::time(&text[start..ms])?;
-    let rest = pieces::pieces::trimmed(text, Span { start: ms + 2, end });
+    let time = stamps::timestamps::time(p.front(n).bytes())?;
     Ok(Stamped {
         stamp: Some(time),
-        rest,
+        rest: p.behind(n + 2).trimmed().at,
     })
 }
 
 // A timestamp stands between `@` and the first `ms`.
-pub fn stamped(text: &[u8], p: Span) -> Result<Stamped, Reason>
-    requires { In text.now p }
-    ensures result_value { result ≡ definition.stamped text.now p }
-    ensures rest_in { RestIn text.now result }
+pub fn stamped(p: Piece<'_>) -> Result<Stamped, Reason>
+    ensures result_value { result ≡ definition.stamped p.entry.text.now p.entry.at }
+    ensures rest_in { RestIn p.entry.text.now result }
 {
-    if !pieces::pieces::begins(text, p, b"@") {
+    if !p.starts_with(b"@") {
         return Ok(Stamped {
             stamp: None,
-            rest: p,
+            rest: p.at,
         });
     }
-    let start = p.start + 1;
-    let end = p.end;
-    let n = text::parts::find_pair(&text[start..end], 0x6D, 0x73).ok_or(
-        Reason::TimestampWithoutMs,
-    )?;
-    stamp_before(text, Span { start, end }, n)
+    let rest = p.behind(1);
+    let n = text::parts::find_pair(rest.bytes(), b'm', b's').ok_or(Reason::TimestampWithoutMs)?;
+    stamp_before(rest, n)
 }
 
 // Whether the piece is a path set whose brace is not closed.
-pub fn not_closed(text: &[u8], p: Span) -> bool
-    requires { In text.now p }
-    ensures { result ≡ not_closed text.now p }
+pub fn not_closed(p: Piece<'_>) -> bool
+    ensures { result ≡ not_closed p.entry.text.now p.entry.at }
 {
-    let q = pieces::pieces::trimmed(text, p);
-    if !pieces::pieces::begins(text, q, b"{") {
+    let q = p.trimmed();
+    if !q.starts_with(b"{") {
         return false;
     }
-    let behind = Span {
-        start: q.start + 1,
-        end: q.end,
-    };
-    pieces::pieces::find_in(text, behind, 0x7D).is_none()
+    q.behind(1).find(b'}').is_none()
 }
 
-// Where the operation has a path set on its line.
-pub fn set_place(op: Op) -> SetPlace
-    ensures { result ≡ set_place (form_of op).syntax }
+// The path set on the line of an operation that has one there: all that stands behind its name, or behind the first blank of that.
+pub fn set_on<'a>(op: Op, args: Piece<'a>) -> Option<Piece<'a>>
+    ensures value { option_map (λ p. p.at) result ≡ set_on args.entry.text.now (form_of op).syntax args.entry.at }
+    ensures text { IfSome result (λ p. p.text ≡ args.entry.text) }
 {
     match op {
-        Op::BuildPaths => SetPlace::AllOf,
-        Op::QuerySubstitutablePathInfos => SetPlace::AllOf,
-        Op::QueryValidPaths => SetPlace::AllOf,
-        Op::QuerySubstitutablePaths => SetPlace::AllOf,
-        Op::AddSignatures => SetPlace::BehindBlank,
-        Op::QueryMissing => SetPlace::AllOf,
-        Op::BuildPathsWithResults => SetPlace::AllOf,
-        _ => SetPlace::NoSet,
+        Op::BuildPaths => Some(args),
+        Op::QuerySubstitutablePathInfos => Some(args),
+        Op::QueryValidPaths => Some(args),
+        Op::QuerySubstitutablePaths => Some(args),
+        Op::AddSignatures => Some(args.cut_or(b' ').1),
+        Op::QueryMissing => Some(args),
+        Op::BuildPathsWithResults => Some(args),
+        _ => None,
     }
 }
 
 // Whether the operation has a path set behind its name whose brace is not closed.
-fn set_open(text: &[u8], op: Op, args: Span) -> bool
-    requires { In text.now args }
-    ensures { result ≡ open_on text.now (set_on text.now (form_of op).syntax args) }
+fn set_open(op: Op, args: Piece<'_>) -> bool
+    ensures { result ≡ open_on args.entry.text.now (set_on args.entry.text.now (form_of op).syntax args.entry.at) }
 {
-    match set_place(op) {
-        SetPlace::NoSet => false,
-        SetPlace::AllOf => not_closed(text, args),
-        SetPlace::BehindBlank => {
-            let c = cut_or(text, args, 0x20);
-            not_closed(text, c.after)
-        }
+    match set_on(op, args) {
+        None => false,
+        Some(p) => not_closed(p),
     }
 }
 
 // The operation's name ends at the first blank; what follows is trimmed.
-fn named_role(text: &[u8], stamp: Option<Time>, rest: Span) -> Role
-    requires { In text.now rest }
-    ensures { result ≡ with_stamp text.now (Ok (stamped_as stamp rest)) }
+fn named_role(stamp: Option<Time>, rest: Piece<'_>) -> Role
+    ensures { result ≡ with_stamp rest.entry.text.now (Ok (stamped_as stamp rest.entry.at)) }
 {
-    let c = cut_or(text, rest, 0x20);
-    let start = c.before.start;
-    let end = c.before.end;
-    let Some(op) = Op::from_name(&text[start..end]) else {
+    let (name, after) = rest.cut_or(b' ');
+    let Some(op) = Op::from_name(name.bytes()) else {
         return Role::Bad(Reason::UnknownOperation);
     };
-    let args = pieces::pieces::trimmed(text, c.after);
-    if set_open(text, op, args) {
+    let args = after.trimmed();
+    if set_open(op, args) {
         return Role::Bad(Reason::BraceNotClosed);
     }
-    Role::Opens(Opening { stamp, op, args })
+    Role::Opens(Opening {
+        stamp,
+        op,
+        args: args.at,
+    })
 }
 
 // What a line is that opens an entry.
-pub fn opening_role(text: &[u8], t: Span) -> Role
-    requires { In text.now t }
-    ensures { result ≡ opening_role text.now t }
+pub fn opening_role(t: Piece<'_>) -> Role
+    ensures { result ≡ opening_role t.entry.text.now t.entry.at }
 {
-    match stamped(text, t) {
-        Ok(s) => named_role(text, s.stamp, s.rest),
+    match stamped(t) {
+        Ok(s) => named_role(
+            s.stamp,
+            Piece {
+                text: t.text,
+                at: s.rest,
+            },
+        ),
         Err(reason) => Role::Bad(reason),
     }
 }
@@ -191,29 +140,21 @@ pub fn stands_below(takes: Takes) -> Where
 {
     match takes {
         Takes::NoLines => Where::InEntry,
-        Takes::Options => Where::InBlock(Takes::Options, false),
-        Takes::Garbage => Where::InBlock(Takes::Garbage, false),
-        Takes::Verify => Where::InBlock(Takes::Verify, false),
-        Takes::Texts => Where::InBlock(Takes::Texts, false),
-        Takes::Store => Where::InBlock(Takes::Store, false),
-        Takes::Multiple => Where::InBlock(Takes::Multiple, false),
-        Takes::FirstData => Where::InBlock(Takes::FirstData, false),
-        Takes::FirstRaw => Where::InBlock(Takes::FirstRaw, false),
+        _ => Where::InBlock(takes, false),
     }
 }
 
 // Whether the line does not open an entry: it is blank, or begins with `#` but not `# nwscript`.
-pub fn is_skipped(text: &[u8], t: Span) -> bool
-    requires { In text.now t }
-    ensures { result ≡ skipped text.now t }
+pub fn is_skipped(t: Piece<'_>) -> bool
+    ensures { result ≡ skipped t.entry.text.now t.entry.at }
 {
-    if t.start == t.end {
+    if t.is_empty() {
         return true;
     }
-    if !pieces::pieces::begins(text, t, b"#") {
+    if !t.starts_with(b"#") {
         return false;
     }
-    !pieces::pieces::begins(text, t, b"# nwscript")
+    !t.starts_with(b"# nwscript")
 }
 
 // Where the line below stands, by what an opening line is.
@@ -230,11 +171,10 @@ fn after_opening(role: Role) -> Where
 }
 
 // A line that opens an entry, and where the next one stands.
-pub fn opening_step(text: &[u8], t: Span) -> Step
-    requires { In text.now t }
-    ensures { result ≡ opening_step text.now t }
+pub fn opening_step(t: Piece<'_>) -> Step
+    ensures { result ≡ opening_step t.entry.text.now t.entry.at }
 {
-    let role = opening_role(text, t);
+    let role = opening_role(t);
     let next = after_opening(role);
     Step { role, next }
 }

@@ -2,51 +2,52 @@
 #![tactic(auto)]
 
 ghost use Rattle.std.specs.Prelude.{◌≡◌};
-ghost use Rattle.said.specs.Said.{piece_at, SaidIn};
+ghost use Rattle.said.specs.Said.{said_of};
 ghost use Rattle.records.specs.Records.{options_record, garbage_record, verify_record};
 
+use said::said::Said;
 use script::records::{Items, OpCall, Options};
 use script::roles::Key;
 
-pub fn options_of(text: &[u8], starts: &[usize], ends: &[usize], overrides: Items) -> Options
-    requires { SaidIn text.now starts.now ends.now }
-    ensures { result ≡ options_record text.now (piece_at starts.now ends.now) overrides }
+#[tactic(auto, unfolding(records::specs::Records::options_record))]
+pub fn options_of(said: Said<'_>, overrides: Items) -> Options
+    ensures { result ≡ options_record said.entry.text.now (said_of said.entry.heard.now) overrides }
 {
     Options {
-        keep_failed: said::said::number_of(text, starts, ends, Key::KeepFailed),
-        keep_going: said::said::number_of(text, starts, ends, Key::KeepGoing),
-        try_fallback: said::said::number_of(text, starts, ends, Key::TryFallback),
-        verbosity: said::said::number_of(text, starts, ends, Key::Verbosity),
-        max_build_jobs: said::said::number_of(text, starts, ends, Key::MaxBuildJobs),
-        max_silent_time: said::said::number_of(text, starts, ends, Key::MaxSilentTime),
-        use_build_hook: said::said::number_of(text, starts, ends, Key::UseBuildHook),
-        verbose_build: said::said::number_of(text, starts, ends, Key::VerboseBuild),
-        log_type: said::said::number_of(text, starts, ends, Key::LogType),
-        print_build_trace: said::said::number_of(text, starts, ends, Key::PrintBuildTrace),
-        build_cores: said::said::number_of(text, starts, ends, Key::BuildCores),
-        use_substitutes: said::said::number_of(text, starts, ends, Key::UseSubstitutes),
+        keep_failed: said.number(Key::KeepFailed),
+        keep_going: said.number(Key::KeepGoing),
+        try_fallback: said.number(Key::TryFallback),
+        verbosity: said.number(Key::Verbosity),
+        max_build_jobs: said.number(Key::MaxBuildJobs),
+        max_silent_time: said.number(Key::MaxSilentTime),
+        use_build_hook: said.number(Key::UseBuildHook),
+        verbose_build: said.number(Key::VerboseBuild),
+        log_type: said.number(Key::LogType),
+        print_build_trace: said.number(Key::PrintBuildTrace),
+        build_cores: said.number(Key::BuildCores),
+        use_substitutes: said.number(Key::UseSubstitutes),
         overrides,
     }
 }
 
-pub fn garbage_call(text: &[u8], starts: &[usize], ends: &[usize], paths: Items) -> OpCall
-    requires { SaidIn text.now starts.now ends.now }
-    ensures { result ≡ garbage_record text.now (piece_at starts.now ends.now) paths }
+#[tactic(auto, unfolding(records::specs::Records::garbage_record))]
+pub fn garbage_call(said: Said<'_>, paths: Items) -> OpCall
+    ensures { result ≡ garbage_record said.entry.text.now (said_of said.entry.heard.now) paths }
 {
     OpCall::CollectGarbage {
-        action: said::said::number_of(text, starts, ends, Key::Action),
+        action: said.number(Key::Action),
         paths,
-        ignore_liveness: said::said::number_of(text, starts, ends, Key::IgnoreLiveness),
-        max_freed: said::said::number_of(text, starts, ends, Key::MaxFreed),
+        ignore_liveness: said.number(Key::IgnoreLiveness),
+        max_freed: said.number(Key::MaxFreed),
     }
 }
 
-pub fn verify_call(text: &[u8], starts: &[usize], ends: &[usize]) -> OpCall
-    requires { SaidIn text.now starts.now ends.now }
-    ensures { result ≡ verify_record text.now (piece_at starts.now ends.now) }
+#[tactic(auto, unfolding(records::specs::Records::verify_record))]
+pub fn verify_call(said: Said<'_>) -> OpCall
+    ensures { result ≡ verify_record said.entry.text.now (said_of said.entry.heard.now) }
 {
     OpCall::VerifyStore {
-        check_contents: said::said::flag_of(text, starts, ends, Key::CheckContents),
-        repair: said::said::flag_of(text, starts, ends, Key::Repair),
+        check_contents: said.flag(Key::CheckContents),
+        repair: said.flag(Key::Repair),
     }
 }

@@ -23,14 +23,17 @@ pub fn passed_if(b: bool) -> Verdict
 }
 
 // The order that a host's number says.
-pub fn order_of(kind: u8) -> Order
-    ensures { result ≡ order_of kind }
-{
-    match kind {
-        1 => Order::GreaterThan,
-        2 => Order::LessThan,
-        3 => Order::GreaterOrEqual,
-        _ => Order::LessOrEqual,
+impl From<u8> for Order {
+    ghost from_gives = { λ n o. o ≡ order_of n };
+
+    #[tactic(auto, unfolding(crate::specs::Orders::order_of))]
+    fn from(n: u8) -> Order {
+        match n {
+            1 => Order::GreaterThan,
+            2 => Order::LessThan,
+            3 => Order::GreaterOrEqual,
+            _ => Order::LessOrEqual,
+        }
     }
 }
 

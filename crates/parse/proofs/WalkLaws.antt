@@ -1,5 +1,5 @@
 -- Laws of the walk over lines: what the line at hand does to the totals, to what is open and to the answer. For `search` to use. Assumes nothing.
-use Rattle.std.specs.Prelude.{Err, Ok}
+use Rattle.std.specs.Prelude.{Err, Ok, Option, Some}
 use Prim.Native.Nat.{ℕ, ◌+◌, ◌*◌, ◌≤◌, ◌<◌}
 use native.Mathlib.Omega.{arith}
 use mathlib.Core.Path.{◌≡◌, sym, ap, ◌∙◌}
@@ -105,8 +105,8 @@ module _ (text : List ℕ) (at number : ℕ) (l : Line) (h : at < length text) (
   args_in w s f p r = rw r at (line-role w s f)
 
 -- what is kept is right when the line at hand is kept too
-pub kept_on : (text : List ℕ) (kept : List Kept) (w : Where) (at number : ℕ) → Memo text kept → (h : at < length text) → (l : Line) → (e : l ≡ line_at text at number) → (s : Step) → (f : s ≡ step_of plain_rules text w l)
-    → (kept' : List Kept) → kept' ≡ set kept number (kept_of at w l.next s) → Memo text kept'
+pub kept_on : (text : List ℕ) (kept : List (Option Kept)) (w : Where) (at number : ℕ) → Memo text kept → (h : at < length text) → (l : Line) → (e : l ≡ line_at text at number) → (s : Step) → (f : s ≡ step_of plain_rules text w l)
+    → (kept' : List (Option Kept)) → kept' ≡ set kept number (Some (kept_of at w l.next s)) → Memo text kept'
 kept_on text kept w at number m h l e s f kept' q = rw q (keep_memo text kept number at w l.next s (found_step text at number h l e w s f) (found_next text at number h l e) m)
 
 pub ruleset walk_laws = (walk_over, walk_bad, small_now, few_now, expects_fit, says_in, args_in, line_in)

@@ -13,7 +13,7 @@ use script::refusals::Reason;
 use script::roles::{Role, Where};
 
 // One line after another; the first refused line is the answer. What each line is is kept.
-pub fn walk(text: &[u8], kept: &mut [Kept]) -> Result<Counts, Refusal>
+pub fn walk(text: &[u8], kept: &mut [Option<Kept>]) -> Result<Counts, Refusal>
     requires text_len_bound { length text.now ≤ 0x8000 }
     requires memo { Memo text.now kept.old }
     ensures result_value { result ≡ walk_from text.now zeros preamble_open Stands.InPreamble (lines text.now) }
@@ -29,6 +29,7 @@ pub fn walk(text: &[u8], kept: &mut [Kept]) -> Result<Counts, Refusal>
     let mut w = Where::InPreamble;
     let mut at: usize = 0;
     let mut number: usize = 1;
+    // No `for`: where the next line begins is found with the line.
     while at < text.len() {
         let l = lines::lines::line_at(text, at, number);
         let step = roles::steps::step(text, w, l);
@@ -58,7 +59,7 @@ pub fn walk(text: &[u8], kept: &mut [Kept]) -> Result<Counts, Refusal>
 }
 
 // First the length, then whether it is UTF-8, then the lines, and what each is is kept.
-pub fn measure_keeping(text: &[u8], kept: &mut [Kept]) -> Result<Counts, Refusal>
+pub fn measure_keeping(text: &[u8], kept: &mut [Option<Kept>]) -> Result<Counts, Refusal>
     requires { Memo text.now kept.old }
     ensures result_value { result ≡ measured text.now }
     ensures memo { Memo text.now kept.new × (length kept.new ≡ length kept.old) }

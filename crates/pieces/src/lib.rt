@@ -1,5 +1,4 @@
 // Pieces of the text, as the definitions speak of them: spans that lie inside it.
 #![tactic(auto)]
 
-pub mod fronts;
 pub mod pieces;

@@ -1,64 +1,141 @@
 // Pieces of the text: spans of places that lie inside it.
-ghost use Rattle.std.specs.Prelude.{◌≡◌, true, ◌+◌, ◌≤◌, length};
-ghost use Rattle.text.specs.Parts.{starts_with, same_bytes, ends_with, position};
-ghost use Rattle.script.specs.Pieces.{bytes, trim};
+ghost use Rattle.std.specs.Prelude.{◌≡◌, true, ◌+◌, ◌≤◌, ◌<◌, length, get_or, option_map, IfSome};
+ghost use Rattle.text.specs.Parts.{span, starts_with, same_bytes, ends_with, position};
+ghost use Rattle.script.specs.Pieces.{bytes, trim, is_empty, cut, cut_into, cut_or};
 ghost use Rattle.script.specs.Inside.{In};
 
 use text::parts::Span;
 
-// The piece without the White_Space at both ends.
-pub fn trimmed(text: &[u8], p: Span) -> Span
-    requires { In text.now p }
-    ensures value { result ≡ trim text.now p }
-    ensures fact { In text.now result }
-{
-    let start = p.start;
-    let end = p.end;
-    let t = trimming::trim_place(&text[start..end]);
-    let first = start + t.start;
-    Span {
-        start: first,
-        end: first + t.len,
+// A piece of the text.
+#[derive(Clone, Copy)]
+pub struct Piece<'a> {
+    pub text: &'a [u8],
+    pub at: Span,
+    pub ghost inside: { In text.now at },
+}
+
+impl<'a> Piece<'a> {
+    // The bytes that the text has there.
+    #[tactic(auto, unfolding(script::specs::Pieces::bytes))]
+    pub fn bytes(self) -> &'a [u8]
+        ensures { result.now ≡ bytes self.entry.text.now self.entry.at }
+    {
+        &self.text[self.at.start..self.at.end]
     }
-}
 
-// Whether the piece begins with the word.
-pub fn begins(text: &[u8], p: Span, word: &[u8]) -> bool
-    requires { In text.now p }
-    ensures value { result ≡ starts_with word.now (bytes text.now p) }
-    ensures word_bound { result ≡ true → p.start + length word.now ≤ p.end }
-{
-    let start = p.start;
-    let end = p.end;
-    text::parts::starts_with(&text[start..end], word)
-}
+    // Whether nothing stands there.
+    #[tactic(auto, unfolding(script::specs::Pieces::is_empty))]
+    pub fn is_empty(self) -> bool
+        ensures { result ≡ is_empty self.entry.at }
+    {
+        self.at.start == self.at.end
+    }
 
-// Whether the piece is the word.
-pub fn is_word(text: &[u8], p: Span, word: &[u8]) -> bool
-    requires { In text.now p }
-    ensures { result ≡ same_bytes (bytes text.now p) word.now }
-{
-    let start = p.start;
-    let end = p.end;
-    text::parts::same(&text[start..end], word)
-}
+    // The first byte, or 0 where the piece is empty.
+    pub fn first_byte(self) -> u8
+        ensures { result ≡ get_or (bytes self.entry.text.now self.entry.at) 0 0 }
+    {
+        text::byte::byte_at(self.bytes(), 0)
+    }
 
-// Whether the last byte of the piece is b.
-pub fn ends_in(text: &[u8], p: Span, b: u8) -> bool
-    requires { In text.now p }
-    ensures { result ≡ ends_with (bytes text.now p) b }
-{
-    let start = p.start;
-    let end = p.end;
-    text::parts::ends_with(&text[start..end], b)
-}
+    // Whether the piece begins with the word.
+    #[tactic(auto, using(crate::proofs::PieceLaws::word_fits))]
+    pub fn starts_with(self, word: &[u8]) -> bool
+        ensures value { result ≡ starts_with word.now (bytes self.entry.text.now self.entry.at) }
+        ensures word_bound { result ≡ true → self.entry.at.start + length word.now ≤ self.entry.at.end }
+    {
+        text::parts::starts_with(self.bytes(), word)
+    }
 
-// The first b of the piece, counted from its start.
-pub fn find_in(text: &[u8], p: Span, b: u8) -> Option<usize>
-    requires { In text.now p }
-    ensures { result ≡ position b (bytes text.now p) }
-{
-    let start = p.start;
-    let end = p.end;
-    text::parts::find(&text[start..end], b)
+    // Whether the piece is the word.
+    pub fn is_word(self, word: &[u8]) -> bool
+        ensures { result ≡ same_bytes (bytes self.entry.text.now self.entry.at) word.now }
+    {
+        text::parts::same(self.bytes(), word)
+    }
+
+    // Whether its last byte is b.
+    pub fn ends_with(self, b: u8) -> bool
+        ensures { result ≡ ends_with (bytes self.entry.text.now self.entry.at) b }
+    {
+        text::parts::ends_with(self.bytes(), b)
+    }
+
+    // The first b, counted from where the piece starts.
+    pub fn find(self, b: u8) -> Option<usize>
+        ensures value { result ≡ position b (bytes self.entry.text.now self.entry.at) }
+        ensures inside { IfSome result (λ n. self.entry.at.start + n < self.entry.at.end) }
+    {
+        text::parts::find(self.bytes(), b)
+    }
+
+    // Its first n bytes.
+    pub fn front(self, n: usize) -> Piece<'a>
+        requires { self.at.start + n ≤ self.at.end }
+        ensures text { result.text ≡ self.entry.text }
+        ensures at { result.at ≡ span self.entry.at.start (self.entry.at.start + n) }
+    {
+        Piece {
+            text: self.text,
+            at: Span {
+                start: self.at.start,
+                end: self.at.start + n,
+            },
+        }
+    }
+
+    // What stands behind its first n bytes.
+    pub fn behind(self, n: usize) -> Piece<'a>
+        requires { self.at.start + n ≤ self.at.end }
+        ensures text { result.text ≡ self.entry.text }
+        ensures at { result.at ≡ span (self.entry.at.start + n) self.entry.at.end }
+    {
+        Piece {
+            text: self.text,
+            at: Span {
+                start: self.at.start + n,
+                end: self.at.end,
+            },
+        }
+    }
+
+    // The piece without the White_Space at both ends.
+    #[tactic(auto, using(crate::proofs::PieceLaws::trim_is, crate::proofs::PieceLaws::trim_in, crate::proofs::PieceLaws::trim_end))]
+    pub fn trimmed(self) -> Piece<'a>
+        ensures text { result.text ≡ self.entry.text }
+        ensures at { result.at ≡ trim self.entry.text.now self.entry.at }
+    {
+        let t = trimming::trim_place(self.bytes());
+        let start = self.at.start + t.start;
+        Piece {
+            text: self.text,
+            at: Span {
+                start,
+                end: start + t.len,
+            },
+        }
+    }
+
+    // The piece cut at the first b, which belongs to neither part.
+    pub fn split_once(self, b: u8) -> Option<(Piece<'a>, Piece<'a>)>
+        ensures value { option_map (λ c. cut_into c.0.at c.1.at) result ≡ cut self.entry.text.now b self.entry.at }
+        ensures text { IfSome result (λ c. (c.0.text ≡ self.entry.text) × (c.1.text ≡ self.entry.text)) }
+    {
+        match self.find(b) {
+            None => None,
+            Some(n) => Some((self.front(n), self.behind(n + 1))),
+        }
+    }
+
+    // The piece cut at the first b. Where there is none, all stands before it.
+    pub fn cut_or(self, b: u8) -> (Piece<'a>, Piece<'a>)
+        ensures value { cut_into result.0.at result.1.at ≡ cut_or self.entry.text.now b self.entry.at }
+        ensures before { result.0.text ≡ self.entry.text }
+        ensures after { result.1.text ≡ self.entry.text }
+    {
+        match self.split_once(b) {
+            None => (self, self.behind(self.at.end - self.at.start)),
+            Some(c) => c,
+        }
+    }
 }

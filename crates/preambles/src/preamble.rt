@@ -3,108 +3,95 @@ ghost use Rattle.std.specs.Prelude.{◌≡◌, get_or};
 ghost use Rattle.version.specs.Version.{version};
 ghost use Rattle.script.specs.Pieces.{bytes};
 ghost use Rattle.script.specs.Roles.{version_role, word_role, preamble_expect, preamble_role, preamble_step};
-ghost use Rattle.script.specs.Inside.{In};
 
+use pieces::pieces::Piece;
 use remarks::{comment_role, is_remark};
 use script::refusals::Reason;
 use script::roles::{Key, Role, Saying, Step, Where};
-use text::parts::Span;
 
 // A version that cannot be read leaves the version so far.
-fn version_role(text: &[u8], v: Span) -> Role
-    requires { In text.now v }
-    ensures { result ≡ version_role (version (bytes text.now v)) v }
+fn version_role(v: Piece<'_>) -> Role
+    ensures { result ≡ version_role (version (bytes v.entry.text.now v.entry.at)) v.entry.at }
 {
-    let start = v.start;
-    let end = v.end;
-    match version::parse_version(&text[start..end]) {
-        Some(_) => Role::Says(Saying::Known(Key::Protocol, v)),
+    match version::parse_version(v.bytes()) {
+        Some(_) => Role::Says(Saying::Known(Key::Protocol, v.at)),
         None => Role::Nothing,
     }
 }
 
 // `protocol: version`
-fn on_protocol(text: &[u8], t: Span) -> Role
-    requires fact { In text.now t }
-    requires t_value { get_or (bytes text.now t) 0 0 ≡ 112 }
-    ensures { result ≡ word_role text.now t }
+fn on_protocol(t: Piece<'_>) -> Role
+    requires { get_or (bytes t.text.now t.at) 0 0 ≡ 112 }
+    ensures { result ≡ word_role t.entry.text.now t.entry.at }
 {
-    if !pieces::pieces::begins(text, t, b"protocol:") {
+    if !t.starts_with(b"protocol:") {
         return Role::Bad(Reason::UnexpectedPreambleLine);
     }
-    version_role(text, pieces::fronts::behind_trimmed(text, t, 9))
+    version_role(t.behind(9).trimmed())
 }
 
 // `protocol: version`, or `features: names`
-fn word_role(text: &[u8], t: Span) -> Role
-    requires { In text.now t }
-    ensures { result ≡ word_role text.now t }
+fn word_role(t: Piece<'_>) -> Role
+    ensures { result ≡ word_role t.entry.text.now t.entry.at }
 {
-    let x = pieces::fronts::first_byte(text, t);
+    let x = t.first_byte();
     if x == b'p' {
-        return on_protocol(text, t);
+        return on_protocol(t);
     }
     if x != b'f' {
         return Role::Bad(Reason::UnexpectedPreambleLine);
     }
-    if !pieces::pieces::begins(text, t, b"features:") {
+    if !t.starts_with(b"features:") {
         return Role::Bad(Reason::UnexpectedPreambleLine);
     }
-    let value = pieces::fronts::behind_trimmed(text, t, 9);
-    Role::Says(Saying::Known(Key::Features, value))
+    Role::Says(Saying::Known(Key::Features, t.behind(9).trimmed().at))
 }
 
 // In the preamble a blank or a colon follows `expect`.
-fn preamble_expect(text: &[u8], t: Span) -> Role
-    requires { In text.now t }
-    ensures { result ≡ preamble_expect text.now t }
+fn preamble_expect(t: Piece<'_>) -> Role
+    ensures { result ≡ preamble_expect t.entry.text.now t.entry.at }
 {
-    if pieces::pieces::begins(text, t, b"expect ") {
-        return expectations::expect_role(text, t);
+    if t.starts_with(b"expect ") {
+        return expectations::expect_role(t);
     }
-    if pieces::pieces::begins(text, t, b"expect:") {
-        return expectations::expect_role(text, t);
+    if t.starts_with(b"expect:") {
+        return expectations::expect_role(t);
     }
     Role::Bad(Reason::UnexpectedPreambleLine)
 }
 
 // What a line of the preamble is. One that begins with `e` is an expectation or of no known form.
-fn preamble_role(text: &[u8], t: Span) -> Role
-    requires { In text.now t }
-    ensures { result ≡ preamble_role text.now t }
+fn preamble_role(t: Piece<'_>) -> Role
+    ensures { result ≡ preamble_role t.entry.text.now t.entry.at }
 {
-    if t.start == t.end {
+    if t.is_empty() {
         return Role::Nothing;
     }
-    let x = pieces::fronts::first_byte(text, t);
-    if x == b'#' {
-        return comment_role(text, t);
+    match t.first_byte() {
+        b'#' => comment_role(t),
+        b'e' => preamble_expect(t),
+        _ => word_role(t),
     }
-    if x == b'e' {
-        return preamble_expect(text, t);
-    }
-    word_role(text, t)
 }
 
 // What a line is that stands in the preamble, and where the next one stands; `t` is the line, trimmed.
-pub fn preamble_step(text: &[u8], t: Span) -> Step
-    requires { In text.now t }
-    ensures { result ≡ preamble_step text.now t }
+pub fn preamble_step(t: Piece<'_>) -> Step
+    ensures { result ≡ preamble_step t.entry.text.now t.entry.at }
 {
-    if pieces::pieces::is_word(text, t, b"---") {
+    if t.is_word(b"---") {
         return Step {
             role: Role::Nothing,
             next: Where::Outside,
         };
     }
-    if is_remark(text, t) {
+    if is_remark(t) {
         return Step {
             role: Role::Nothing,
             next: Where::InPreamble,
         };
     }
     Step {
-        role: preamble_role(text, t),
+        role: preamble_role(t),
         next: Where::InPreamble,
     }
 }

@@ -1,59 +1,36 @@
 -- A test of every expectation of a range, one after another; and the tests of refusals 31 and 34 as such. Assumes nothing.
 use Rattle.std.specs.Prelude.{None, Option, Some}
-use mathlib.Core.Path.{◌≡◌, refl, sym, ap, ◌∙◌}
-use mathlib.Core.Bool.{Bool, true, false, not}
+use mathlib.Core.Path.{◌≡◌, refl, sym, ◌∙◌}
+use mathlib.Core.Bool.{Bool, true, false, not, ◌&&◌}
+use Rattle.std.specs.List.{list_all}
 use mathlib.Core.List.{List, [], ◌∷◌, map}
-use Prim.Native.Nat.{ℕ, ◌+◌, ◌≤◌, ◌<◌}
+use Prim.Native.Nat.{ℕ, ◌<◌}
 use native.Mathlib.Omega.{arith}
 use native.Mathlib.Decide.{dec_le}
-use lib.ListN.{length, get_or}
+use lib.ListN.{length}
 use borrow.Author.Tests.{lt-ltb, le-ltb, le-leb, lt-leb}
 use Rattle.text.specs.Base.{◌&◌}
-use Rattle.script.specs.declared.records.Items.{Items}
 use Rattle.script.specs.declared.records.Expectation.{Expectation}
 use Rattle.verdicts.specs.Expected.{Expected}
-use Rattle.verdicts.specs.Held.{expected_of, expect_in, ranged}
+use Rattle.verdicts.specs.Held.{expected_of, expect_in}
 use Rattle.verdicts.specs.Lookup.{present_bytes}
-use Rattle.slots.specs.Blank.{blank_expectation}
 use Rattle.subjects.specs.Fits.{fits}
 use Rattle.judging.specs.Calls.{said, too_long}
 use Rattle.judging.specs.Judge.{all_in}
-use Rattle.ranges.proofs.RangeLaws.{left_of, left_all, left-none, left_more}
 
-unfoldable pub every : (Expectation → Bool) → List Expectation → Bool
-every p [] = true
-every p (e ∷ es) = p e & every p es
-
--- ---- one after another
-
-module _ (p : Expectation → Bool) (table : List Expectation) (r : Items) where
-  pub every_begun : every p (ranged table r) ≡ every p (left_of table r 0)
-  every_begun = ap (every p) (sym (left_all table r))
-
-  module _ (i : ℕ) (more : i < r.count) (in_table : 0 < r.count → r.first + r.count ≤ length table) (b : Bool) (e : b ≡ p (get_or table (r.first + i) blank_expectation)) where
-    next : every p (left_of table r i) ≡ b & every p (left_of table r (i + 1))
-    unfolding every
-    next = ap (every p) (left_more table r blank_expectation i more (in_table (omega arith))) ∙ ap (λ (t : Bool). t & every p (left_of table r (i + 1))) (sym e)
-
-    pub every_on : b ≡ true → every p (left_of table r i) ≡ every p (left_of table r (i + 1))
-    every_on h = next ∙ ap (λ (t : Bool). t & every p (left_of table r (i + 1))) h
-
-    pub every_off : b ≡ false → every p (left_of table r i) ≡ false
-    every_off h = next ∙ ap (λ (t : Bool). t & every p (left_of table r (i + 1))) h
-
-  pub every_done : (i : ℕ) → r.count ≤ i → every p (left_of table r i) ≡ true
-  unfolding every
-  every_done i h = ap (every p) (left-none table r i h)
+both : (t a b : Bool) → a ≡ b → (t && a) ≡ t & b
+both true a b e = e
+both false a b e = refl
 
 -- ---- 31 and 34
 
 abbrev pub in_text : (text : List ℕ) → Expectation → Bool
 in_text text e = expect_in (length text) e.expect
 
-pub all_in_every : (text : List ℕ) (es : List Expectation) → all_in text es ≡ every (in_text text) es
-unfolding all_in every
+pub all_in_every : (text : List ℕ) (es : List Expectation) → list_all (in_text text) es ≡ all_in text es
+unfolding all_in
 all_in_every text [] = refl
-all_in_every text (e ∷ es) = ap (λ (b : Bool). in_text text e & b) (all_in_every text es)
+all_in_every text (e ∷ es) = both (in_text text e) _ _ (all_in_every text es)
 
 module _ (text : List ℕ) (room : ℕ) (g : Expected → Option (List ℕ)) where
   abbrev pub has_room : Expectation → Bool
@@ -75,7 +52,7 @@ module _ (text : List ℕ) (room : ℕ) (g : Expected → Option (List ℕ)) whe
   unfolding too_long
   no_values = refl
 
-  pub all_fit_every : (es : List Expectation) → not (too_long room (map g (said text es))) ≡ every has_room es
-  unfolding said every
-  all_fit_every [] = no_values
-  all_fit_every (e ∷ es) = one_fits (g (expected_of text e.expect)) (map g (said text es)) ∙ ap (λ (b : Bool). has_room e & b) (all_fit_every es)
+  pub all_fit_every : (es : List Expectation) → list_all has_room es ≡ not (too_long room (map g (said text es)))
+  unfolding said
+  all_fit_every [] = sym no_values
+  all_fit_every (e ∷ es) = both (has_room e) _ _ (all_fit_every es) ∙ sym (one_fits (g (expected_of text e.expect)) (map g (said text es)))

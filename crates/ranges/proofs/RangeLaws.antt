@@ -1,22 +1,22 @@
--- A loop over the expectations of a range, one after another: what is left of the range, and a judging that stores, counts and looks up as it goes.
+-- A loop over expectations, one after another: a judging that stores, counts and looks up as it goes.
 -- Assumes nothing.
+use native.Mathlib.Nat.{zero-add}
 use Rattle.std.specs.Prelude.{None, Option, Some}
 use mathlib.Core.Path.{◌≡◌, refl, sym, ap, ◌∙◌}
 use mathlib.Core.Bool.{false}
 use mathlib.Core.List.{List, [], ◌∷◌, map}
-use Prim.Native.Nat.{ℕ, suc, ◌+◌, ◌-◌, ◌≤◌, ◌<◌}
+use Prim.Native.Nat.{ℕ, suc, ◌+◌, ◌≤◌, ◌<◌}
 use native.Mathlib.Omega.{arith}
-use native.Mathlib.Decide.{dec_le}
-use lib.ListN.{length, take, drop, get_or, set, length-set, length-take}
+use native.Mathlib.Numerals.{add-one}
+use lib.ListN.{length, drop, get_or, set, length-set, length-drop, drop_of_length-le}
 use lib.Seq.{drop-cons}
 use lib.Dec.{ltb}
 use borrow.Author.Tests.{le-leb, ltb-false}
 use Rattle.text.specs.Base.{overlaid}
-use Rattle.script.specs.declared.records.Items.{Items}
 use Rattle.script.specs.declared.records.Expectation.{Expectation}
 use Rattle.verdicts.specs.Expected.{Expected}
 use Rattle.verdicts.specs.Verdicts.{code}
-use Rattle.verdicts.specs.Held.{expected_of, ranged}
+use Rattle.verdicts.specs.Held.{expected_of}
 use Rattle.verdicts.specs.declared.Verdict.{Verdict}
 use Rattle.verdicts.specs.Lookup.{present_bytes}
 use Rattle.written.specs.Written.{written_at}
@@ -29,32 +29,14 @@ use Rattle.judging.specs.Scratch.{overwritten_by, overwritten}
 use Rattle.tallies.proofs.Counting.{all_added, count_most}
 use Rattle.judging.proofs.Orders.{neither}
 
--- ---- what is left of a range, once i are done
-
-module _ {A : Type 0} (table : List A) (r : Items) where
-  abbrev pub left_of : (i : ℕ) → List A
-  left_of i = take (r.count - i) (drop (r.first + i) table)
-
-  pub left_all : left_of 0 ≡ ranged table r
-  left_all =
-      let e : r.count - 0 ≡ r.count = omega arith in
-      let f : r.first + 0 ≡ r.first = omega arith in
-      ap (λ (n : ℕ). take n (drop (r.first + 0) table)) e ∙ ap (λ (n : ℕ). take r.count (drop n table)) f
-
-  pub left-none : (i : ℕ) → r.count ≤ i → left_of i ≡ []
-  left-none i h = let e : r.count - i ≡ 0 = omega arith in ap (λ (n : ℕ). take n (drop (r.first + i) table)) e
-
-  pub left_more : (d : A) (i : ℕ) → i < r.count → r.first + r.count ≤ length table → left_of i ≡ get_or table (r.first + i) d ∷ left_of (i + 1)
-  left_more d i h k =
-      let e : r.count - i ≡ suc (r.count - (i + 1)) = omega arith in
-      let f : suc (r.first + i) ≡ r.first + (i + 1) = omega arith in
-      ap (λ (n : ℕ). take n (drop (r.first + i) table)) e
-      ∙ ap (take (suc (r.count - (i + 1)))) (drop-cons table (r.first + i) d (omega arith))
-      ∙ ap (λ (n : ℕ). get_or table (r.first + i) d ∷ take (r.count - (i + 1)) (drop n table)) f
+-- what is written at the front of a list that is long enough
+front_written : (xs lent left : List ℕ) → length xs ≤ length lent → left ≡ written_at 0 xs lent → left ≡ overlaid xs lent
+unfolding overlaid written_at
+front_written xs lent left h e = rw (le-leb (length xs) (length lent) h) (rw (zero-add (length xs)) at e)
 
 -- ---- lengths
 
-codes_length : (text : List ℕ) (f : Expected → Verdict) (es : List Expectation) → length (map code (map f (said text es))) ≡ length es
+pub codes_length : (text : List ℕ) (f : Expected → Verdict) (es : List Expectation) → length (map code (map f (said text es))) ≡ length es
 unfolding said
 codes_length text f [] = refl
 codes_length text f (e ∷ es) = ap suc (codes_length text f es)
@@ -91,126 +73,87 @@ unfolding present_bytes
 present_some value = refl
 
 -- where none of the values left is too long, the next is not, and none of those after it
-pub next_fits : (text : List ℕ) (table : List Expectation) (r : Items) (g : Expected → Option (List ℕ)) (room i : ℕ) → i < r.count → r.first + r.count ≤ length table
-    → too_long room (map g (said text (left_of table r i))) ≡ false
-    → (length (present_bytes (g (expected_of text (get_or table (r.first + i) blank_expectation).expect))) ≤ room) × (too_long room (map g (said text (left_of table r (i + 1)))) ≡ false)
-unfolding said
-next_fits text table r g room i more in_table e =
-    let l = left_more table r blank_expectation i more in_table in
-    let h = ap (λ (es : List Expectation). too_long room (map g (map (λ (x : Expectation). expected_of text x.expect) es))) (sym l) ∙ e in
-    let o = g (expected_of text (get_or table (r.first + i) blank_expectation).expect) in
-    (one o _ h, later_fit room o _ h)
-  where
-    one : (o : Option (List ℕ)) (later : List (Option (List ℕ))) → too_long room (o ∷ later) ≡ false → length (present_bytes o) ≤ room
-    one None later e = omega (arith, present_none)
-    one (Some value) later e = rw (present_some value) (first_fits room value later e)
+module _ (text : List ℕ) (es : List Expectation) (i : ℕ) (more : i < length es) where
+  -- the expectation that comes next, and what it says
+  abbrev pub next_of : Expected
+  next_of = expected_of text (get_or es i blank_expectation).expect
+
+  left_said : said text (drop i es) ≡ next_of ∷ said text (drop (i + 1) es)
+  unfolding said
+  left_said = ap (map (λ (e : Expectation). expected_of text e.expect)) (drop-cons es i blank_expectation more ∙ ap (λ (n : ℕ). get_or es i blank_expectation ∷ drop n es) (sym (add-one i)))
+
+  pub next_fits : (g : Expected → Option (List ℕ)) (room : ℕ) → too_long room (map g (said text (drop i es))) ≡ false
+      → (length (present_bytes (g next_of)) ≤ room) × (too_long room (map g (said text (drop (i + 1) es))) ≡ false)
+  next_fits g room e =
+      let h = ap (λ (l : List Expected). too_long room (map g l)) (sym left_said) ∙ e in
+      (one (g next_of) _ h, later_fit room (g next_of) _ h)
+    where
+      one : (o : Option (List ℕ)) (later : List (Option (List ℕ))) → too_long room (o ∷ later) ≡ false → length (present_bytes o) ≤ room
+      one None later e = omega (arith, present_none)
+      one (Some value) later e = rw (present_some value) (first_fits room value later e)
 
 -- ---- a judging on its way
 
--- i expectations of a range are judged by f, and looked up by g. `old`, `begun` and `c₀` are the verdict list, the scratch and the counts as they were.
-pub record Judging-on (text : List ℕ) (table : List Expectation) (r : Items) (f : Expected → Verdict) (g : Expected → Option (List ℕ)) (old begun : List ℕ) (c₀ : Counts)
-    (verdicts scratch : List ℕ) (c : Counts) (i : ℕ) : Type 0 where
-  pub in_range : i ≤ r.count
-  pub in_table : 0 < r.count → r.first + r.count ≤ length table
-  pub in_list : 0 < r.count → r.first + r.count ≤ length verdicts
+-- i expectations are judged by f, and looked up by g. `old`, `begun` and `c₀` are the slots, the scratch and the counts as they were.
+pub record Judging-on (text : List ℕ) (es : List Expectation) (f : Expected → Verdict) (g : Expected → Option (List ℕ)) (old begun : List ℕ) (c₀ : Counts)
+    (slots scratch : List ℕ) (c : Counts) (i : ℕ) : Type 0 where
+  pub in_range : i ≤ length es
+  pub in_list : length es ≤ length slots
   pub few_passed : c.passed ≤ 0x8000 + i
   pub few_failed : c.failed ≤ 0x8000 + i
   pub few_undecided : c.undecided ≤ 0x8000 + i
-  pub counted : added_all (map f (said text (left_of table r 0))) c₀ ≡ added_all (map f (said text (left_of table r i))) c
-  pub stored : 0 < r.count → written_at (r.first + 0) (map code (map f (said text (left_of table r 0)))) old ≡ written_at (r.first + i) (map code (map f (said text (left_of table r i)))) verdicts
-  pub kept : r.count ≤ 0 → old ≡ verdicts
-  pub written : overwritten (map g (said text (left_of table r 0))) begun ≡ overwritten (map g (said text (left_of table r i))) scratch
+  pub counted : added_all (map f (said text es)) c₀ ≡ added_all (map f (said text (drop i es))) c
+  pub stored : written_at 0 (map code (map f (said text es))) old ≡ written_at i (map code (map f (said text (drop i es)))) slots
+  pub written : overwritten (map g (said text es)) begun ≡ overwritten (map g (said text (drop i es))) scratch
 
-module _ (text : List ℕ) (table : List Expectation) (r : Items) (f : Expected → Verdict) (g : Expected → Option (List ℕ)) (old begun : List ℕ) (c₀ : Counts) where
-  pub judging_begun : (0 < r.count → r.first + r.count ≤ length table) → (0 < r.count → r.first + r.count ≤ length old)
-      → c₀.passed ≤ 0x8000 → c₀.failed ≤ 0x8000 → c₀.undecided ≤ 0x8000 → Judging-on text table r f g old begun c₀ old begun c₀ 0
-  judging_begun a b x y z = record {
+module _ (text : List ℕ) (es : List Expectation) (f : Expected → Verdict) (g : Expected → Option (List ℕ)) (old begun : List ℕ) (c₀ : Counts) where
+  pub judging_begun : length es ≤ length old → c₀.passed ≤ 0x8000 → c₀.failed ≤ 0x8000 → c₀.undecided ≤ 0x8000 → Judging-on text es f g old begun c₀ old begun c₀ 0
+  judging_begun b x y z = record {
     in_range = omega arith;
-    in_table = a;
     in_list = b;
     few_passed = omega arith;
     few_failed = omega arith;
     few_undecided = omega arith;
     counted = refl;
-    stored = λ h. refl;
-    kept = λ h. refl;
+    stored = refl;
     written = refl;
   }
 
-  module _ (verdicts scratch : List ℕ) (c : Counts) (i : ℕ) (s : Judging-on text table r f g old begun c₀ verdicts scratch c i) where
-    -- the expectation that comes next, and what it says
-    abbrev pub next_of : Expected
-    next_of = expected_of text (get_or table (r.first + i) blank_expectation).expect
-
-    module _ (more : i < r.count) where
-      left-said : said text (left_of table r i) ≡ next_of ∷ said text (left_of table r (i + 1))
-      unfolding said
-      left-said = ap (map (λ (e : Expectation). expected_of text e.expect)) (left_more table r blank_expectation i more (s.in_table (omega arith)))
-
-      pub judging_on : (v : Verdict) → v ≡ f next_of → (b : ℕ) → b ≡ code v → (after : List ℕ) → after ≡ overwritten_by (g next_of) scratch → (d : Counts) → d ≡ added v c
-          → Judging-on text table r f g old begun c₀ (set verdicts (r.first + i) b) after d (i + 1)
+  module _ (slots scratch : List ℕ) (c : Counts) (i : ℕ) (s : Judging-on text es f g old begun c₀ slots scratch c i) where
+    module _ (more : i < length es) where
+      pub judging_on : (v : Verdict) → v ≡ f (next_of text es i more) → (b : ℕ) → b ≡ code v → (after : List ℕ) → after ≡ overwritten_by (g (next_of text es i more)) scratch → (d : Counts) → d ≡ added v c
+          → Judging-on text es f g old begun c₀ (set slots i b) after d (i + 1)
       unfolding added_all overwritten
       judging_on v ev b eb after ea d ed =
-          let fits : r.first + r.count ≤ length verdicts = s.in_list (omega arith) in
-          let rest : List Expected = said text (left_of table r (i + 1)) in
+          let next : Expected = next_of text es i more in
+          let rest : List Expected = said text (drop (i + 1) es) in
           rw (ed, ea, eb, ev)
           (record {
             in_range = omega arith;
-            in_table = s.in_table;
-            in_list = λ h. omega (arith, length-set verdicts (r.first + i) (code (f next_of)));
-            few_passed = omega (arith, count_most (f next_of) c, s.few_passed);
-            few_failed = omega (arith, count_most (f next_of) c, s.few_failed);
-            few_undecided = omega (arith, count_most (f next_of) c, s.few_undecided);
-            counted = s.counted ∙ ap (λ (l : List Expected). added_all (map f l) c) left-said ∙ sym (all_added (map f rest) (f next_of) c);
-            stored = λ h.
-                s.stored h
-                ∙ ap (λ (l : List Expected). written_at (r.first + i) (map code (map f l)) verdicts) left-said
-                ∙ sym (written_twice (r.first + i) (code (f next_of) ∷ []) (map code (map f rest)) verdicts (omega (arith, rest-fits)))
-                ∙ ap (written_at (r.first + i + 1) (map code (map f rest))) (written_one (r.first + i) (code (f next_of)) verdicts (omega arith))
-                ∙ ap (λ (n : ℕ). written_at n (map code (map f rest)) (set verdicts (r.first + i) (code (f next_of)))) next;
-            kept = λ h. let z : ⊥ = omega arith in absurd z;
-            written = s.written ∙ ap (λ (l : List Expected). overwritten (map g l) scratch) left-said;
+            in_list = omega (arith, s.in_list, length-set slots i (code (f next)));
+            few_passed = omega (arith, count_most (f next) c, s.few_passed);
+            few_failed = omega (arith, count_most (f next) c, s.few_failed);
+            few_undecided = omega (arith, count_most (f next) c, s.few_undecided);
+            counted = s.counted ∙ ap (λ (l : List Expected). added_all (map f l) c) (left_said text es i more) ∙ sym (all_added (map f rest) (f next) c);
+            stored = s.stored
+                ∙ ap (λ (l : List Expected). written_at i (map code (map f l)) slots) (left_said text es i more)
+                ∙ sym (written_twice i (code (f next) ∷ []) (map code (map f rest)) slots (omega (arith, s.in_list, codes_length text f (drop (i + 1) es), length-drop (i + 1) es)))
+                ∙ ap (written_at (i + 1) (map code (map f rest))) (written_one i (code (f next)) slots (omega (arith, s.in_list)));
+            written = s.written ∙ ap (λ (l : List Expected). overwritten (map g l) scratch) (left_said text es i more);
           })
-        where
-          next : r.first + i + 1 ≡ r.first + (i + 1)
-          next = omega arith
-
-          rest-fits : length (map code (map f (said text (left_of table r (i + 1))))) ≤ r.count - (i + 1)
-          rest-fits = omega (arith, codes_length text f (left_of table r (i + 1)), length-take (r.count - (i + 1)) (drop (r.first + (i + 1)) table))
 
     -- all are judged
-    module _ (all : r.count ≤ i) where
-      abbrev whole : List Expected
-      whole = said text (ranged table r)
+    module _ (all : length es ≤ i) where
+      said_none : said text (drop i es) ≡ []
+      said_none = ap (said text) (drop_of_length-le es all) ∙ nothing_said text
 
-      said-none : said text (left_of table r i) ≡ []
-      unfolding said
-      said-none = ap (map (λ (e : Expectation). expected_of text e.expect)) (left-none table r i all)
-
-      said_whole : said text (left_of table r 0) ≡ whole
-      said_whole = ap (said text) (left_all table r)
-
-      pub judging_counted : c ≡ added_all (map f whole) c₀
+      pub judging_counted : c ≡ added_all (map f (said text es)) c₀
       unfolding added_all
-      judging_counted = sym (ap (λ (l : List Expected). added_all (map f l) c₀) (sym said_whole) ∙ s.counted ∙ ap (λ (l : List Expected). added_all (map f l) c) said-none)
+      judging_counted = sym (s.counted ∙ ap (λ (l : List Expected). added_all (map f l) c) said_none)
 
-      pub judging_stored : verdicts ≡ written_at r.first (map code (map f whole)) old
-      judging_stored = sym (elim (dec_le 1 r.count) [
-        | yes h ↦ at_first ∙ s.stored h ∙ ap (λ (l : List Expected). written_at (r.first + i) (map code (map f l)) verdicts) said-none ∙ written_none (r.first + i) verdicts
-        | no h ↦ ap (λ (l : List Expected). written_at r.first (map code (map f l)) old) (whole_none (omega arith)) ∙ written_none r.first old ∙ s.kept (omega arith)
-      ])
-        where
-          z : r.first ≡ r.first + 0
-          z = omega arith
+      pub judging_stored : length es ≤ length old → slots ≡ overlaid (map code (map f (said text es))) old
+      judging_stored h = front_written (map code (map f (said text es))) old slots (omega (arith, codes_length text f es)) (sym (s.stored ∙ ap (λ (l : List Expected). written_at i (map code (map f l)) slots) said_none ∙ written_none i slots))
 
-          at_first : written_at r.first (map code (map f whole)) old ≡ written_at (r.first + 0) (map code (map f (said text (left_of table r 0)))) old
-          at_first =
-              ap (λ (n : ℕ). written_at n (map code (map f whole)) old) z
-              ∙ ap (λ (l : List Expected). written_at (r.first + 0) (map code (map f l)) old) (sym said_whole)
-
-          whole_none : r.count ≤ 0 → whole ≡ []
-          whole_none h = sym said_whole ∙ ap (said text) (left-none table r 0 h) ∙ nothing_said text
-
-      pub judging_written : scratch ≡ overwritten (map g whole) begun
+      pub judging_written : scratch ≡ overwritten (map g (said text es)) begun
       unfolding overwritten
-      judging_written = sym (ap (λ (l : List Expected). overwritten (map g l) begun) (sym said_whole) ∙ s.written ∙ ap (λ (l : List Expected). overwritten (map g l) scratch) said-none)
+      judging_written = sym (s.written ∙ ap (λ (l : List Expected). overwritten (map g l) scratch) said_none)

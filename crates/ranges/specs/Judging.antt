@@ -1,6 +1,5 @@
 -- What only the code of Judge needs. Assumes nothing.
-use Rattle.std.specs.Prelude.{ℕ, List, eqb, if◌then◌else◌, Result}
-use Rattle.script.specs.declared.records.Items.{Items}
+use Rattle.std.specs.Prelude.{ℕ, List, Result}
 use Rattle.script.specs.declared.records.Refusal.{Refusal}
 use Rattle.tallies.specs.declared.calls.Answer.{Answer}
 use Rattle.ranges.specs.declared.steps.Step.{Step}
@@ -10,10 +9,6 @@ use Rattle.script.specs.declared.records.Script.{Script}
 use Rattle.verdicts.specs.declared.handed.Handed.{Handed}
 use Rattle.judging.specs.Calls.{Judging}
 use Rattle.judging.specs.Judge.{Lent, JudgeState}
-
--- an empty range begins at 0, wherever it stood
-unfoldable pub settled_as : Items → Items
-settled_as r = if eqb r.count 0 then record { first = 0; count = 0 } else r
 
 -- what a step answered, and what it left
 abbrev pub stepped : Step → (verdicts : List ℕ) → Result Answer Refusal × JudgeState

@@ -4,7 +4,6 @@ ghost use Rattle.text.specs.Base.{◌&◌};
 ghost use Rattle.script.specs.Reading.{room};
 ghost use Rattle.verdicts.specs.Held as Held;
 ghost use Rattle.judging.specs.Calls.{wrong_number};
-ghost use Rattle.ranges.specs.Judging.{settled_as};
 
 use places::inside;
 use script::records::Items;
@@ -42,15 +41,4 @@ pub(crate) fn few_slots(count: usize, places: usize) -> bool
     ensures { result ≡ ltb (room places) count }
 {
     places.min(0x8000) < count
-}
-
-// An empty range begins at 0, wherever it stood.
-#[tactic(auto, unfolding(crate::specs::Judging::settled_as))]
-pub(crate) fn settled(r: Items) -> Items
-    ensures { result ≡ settled_as r }
-{
-    if r.count == 0 {
-        return Items { first: 0, count: 0 };
-    }
-    r
 }

@@ -6,14 +6,14 @@ ghost use Rattle.judging.specs.Judge.{refusal_on, judged_on};
 ghost use Rattle.judging.specs.Scratch.{scratch_on};
 ghost use Rattle.ranges.specs.Judging.{stepped, lent_of, asked_of};
 
-use crate::checks::{few_slots, range_outside, settled, wrong_number};
+use crate::checks::{few_slots, range_outside, wrong_number};
 use crate::each::{all_fit, all_in, judge_range};
 use script::records::{Entry, Expectation, Items, Refusal, Script};
 use script::refusals::Reason;
-use subjects::handed::parts_in;
+use subjects::handed::Subject;
 use tallies::calls::Answer;
 use tallies::tally::Counts;
-use verdicts::handed::Handed;
+use texts::part_of;
 
 // What a judging answered, and the next number and the counts that it left.
 #[derive(Clone, Copy)]
@@ -24,7 +24,7 @@ pub struct Step {
 }
 
 // The first refusal that applies, if one does. So many entries can be judged.
-#[tactic(auto, using(crate::proofs::StepLaws::settled_ranged), unfolding(judging::specs::Judge::refusal_on, judging::specs::Judge::range_refusals, judging::specs::Judge::out_of_reach, judging::specs::Judge::range_outside, judging::specs::Judge::few_slots, judging::specs::Judge::records_in, judging::specs::Judge::said_by, judging::specs::Calls::part_outside, tallies::specs::Answers::first_refusal, tallies::specs::Answers::refused_if, script::specs::Refusals::ok_unless))]
+#[tactic(auto, unfolding(judging::specs::Judge::refusal_on, judging::specs::Judge::range_refusals, judging::specs::Judge::out_of_reach, judging::specs::Judge::range_outside, judging::specs::Judge::few_slots, judging::specs::Judge::records_in, judging::specs::Judge::said_by, judging::specs::Calls::part_outside, tallies::specs::Answers::first_refusal, tallies::specs::Answers::refused_if, script::specs::Refusals::ok_unless))]
 pub fn refusal_of(
     next: usize,
     counts: Counts,
@@ -34,40 +34,36 @@ pub fn refusal_of(
     entries: usize,
     r: Items,
     number: usize,
-    h: Handed,
-    bytes: &[u8],
-    lists: &[[usize; 2]],
+    s: Subject<'_>,
     places: usize,
     room: usize,
 ) -> Result<(), Refusal>
-    ensures { result ≡ ok_unless (refusal_on (lent_of text.now script [] expectations.now) (ltb entries number) r next counts places (asked_of number h bytes.now lists.now room)) }
+    ensures { result ≡ ok_unless (refusal_on (lent_of text.now script [] expectations.now) (ltb entries number) r next counts places (asked_of number s.entry.handed s.entry.held.bytes.now s.entry.held.lists.now room)) }
 {
     if counts.over_limit() {
         return Err(Refusal::from(Reason::CountTooHigh));
     }
-    if wrong_number(next, number, entries, h) {
+    if wrong_number(next, number, entries, s.handed) {
         return Err(Refusal::from(Reason::WrongNumber));
     }
-    let q = settled(r);
-    if range_outside(script.counts.expectations, expectations.len(), r)
-        || !all_in(text, expectations, q)
-    {
+    let judged = part_of(expectations, r.first, r.count);
+    if range_outside(script.counts.expectations, expectations.len(), r) || !all_in(text, judged) {
         return Err(Refusal::from(Reason::ExpectationOutside));
     }
-    if !parts_in(h, bytes, lists) {
+    if !s.parts_in() {
         return Err(Refusal::from(Reason::PartOutside));
     }
     if few_slots(script.counts.expectations, places) {
         return Err(Refusal::from(Reason::FewSlots));
     }
-    if !all_fit(text, expectations, q, h, bytes, lists, room) {
+    if !all_fit(text, judged, s, room) {
         return Err(Refusal::from(Reason::ValueTooLong));
     }
     Ok(())
 }
 
 // The judging of a range.
-#[tactic(auto, using(crate::proofs::StepLaws::settled_ranged, crate::proofs::StepLaws::settled_written), unfolding(judging::specs::Judge::judged_on, judging::specs::Judge::judged_by, judging::specs::Judge::said_by, judging::specs::Judge::records_in, judging::specs::Calls::judged_or, judging::specs::Scratch::scratch_on, judging::specs::Scratch::overwritten_or, script::specs::Refusals::ok_unless))]
+#[tactic(auto, unfolding(judging::specs::Judge::judged_on, judging::specs::Judge::judged_by, judging::specs::Judge::said_by, judging::specs::Judge::records_in, judging::specs::Calls::judged_or, judging::specs::Scratch::scratch_on, judging::specs::Scratch::overwritten_or, script::specs::Refusals::ok_unless))]
 pub fn judge_on(
     next: usize,
     counts: Counts,
@@ -77,16 +73,13 @@ pub fn judge_on(
     entries: usize,
     r: Items,
     number: usize,
-    h: Handed,
-    bytes: &[u8],
-    lists: &[[usize; 2]],
+    s: Subject<'_>,
     verdicts: &mut [u8],
     scratch: &mut [u8],
 ) -> Step
-    requires entries_bound { entries ≤ 0x8000 }
-    requires lists_len_bound { length lists.now ≤ 0x8000 }
-    ensures verdicts_after { stepped result verdicts.new ≡ judged_on (lent_of text.now script [] expectations.now) (ltb entries number) r (record { next = next; counts = counts; verdicts = verdicts.old }) (asked_of number h bytes.now lists.now (length scratch.old)) }
-    ensures scratch_after { scratch.new ≡ scratch_on (lent_of text.now script [] expectations.now) (ltb entries number) r (record { next = next; counts = counts; verdicts = verdicts.old }) (asked_of number h bytes.now lists.now (length scratch.old)) scratch.old }
+    requires { entries ≤ 0x8000 }
+    ensures verdicts_after { stepped result verdicts.new ≡ judged_on (lent_of text.now script [] expectations.now) (ltb entries number) r (record { next = next; counts = counts; verdicts = verdicts.old }) (asked_of number s.entry.handed s.entry.held.bytes.now s.entry.held.lists.now (length scratch.old)) }
+    ensures scratch_after { scratch.new ≡ scratch_on (lent_of text.now script [] expectations.now) (ltb entries number) r (record { next = next; counts = counts; verdicts = verdicts.old }) (asked_of number s.entry.handed s.entry.held.bytes.now s.entry.held.lists.now (length scratch.old)) scratch.old }
 {
     let tried = refusal_of(
         next,
@@ -97,9 +90,7 @@ pub fn judge_on(
         entries,
         r,
         number,
-        h,
-        bytes,
-        lists,
+        s,
         verdicts.len(),
         scratch.len(),
     );
@@ -110,18 +101,10 @@ pub fn judge_on(
             answer: Err(refusal),
         };
     }
-    let q = settled(r);
-    let after = judge_range(
-        text,
-        expectations,
-        q,
-        h,
-        bytes,
-        lists,
-        verdicts,
-        scratch,
-        counts,
-    );
+    let judged = part_of(expectations, r.first, r.count);
+    // An empty range may begin anywhere.
+    let first = r.first.min(verdicts.len());
+    let after = judge_range(text, judged, s, &mut verdicts[first..], scratch, counts);
     Step {
         next: next + 1,
         counts: after,

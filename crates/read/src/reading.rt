@@ -23,7 +23,7 @@ pub fn read(
     ensures expectations_after { expectations.new ≡ written_at 0 (tables_or (read_into (lent_of entries.old items.old expectations.old store.old) text.now)).expectations expectations.old }
     ensures store_after { store.new ≡ written_at 0 (tables_or (read_into (lent_of entries.old items.old expectations.old store.old) text.now)).store store.old }
 {
-    let mut kept = [kept::blank(); 1024];
+    let mut kept = [None; 1024];
     let needed = parse::measure::measure_keeping(text, &mut kept)?;
     let lent = fits::lent_of(entries.len(), items.len(), expectations.len(), store.len());
     fits::room_for(needed, lent)?;

@@ -2,14 +2,14 @@
 ghost use Rattle.std.specs.Prelude.{◌≡◌, Some};
 ghost use Rattle.script.specs.Pieces.{place_of};
 ghost use Rattle.script.specs.Layout.{range};
-ghost use Rattle.script.specs.Inside.{In};
 ghost use Rattle.script.specs.declared.roles.Key.TheVariants as Key;
-ghost use Rattle.said.specs.Said.{piece_at, SaidIn};
+ghost use Rattle.said.specs.Said.{said_of};
 ghost use Rattle.records.specs.Records.{framed_sized};
 
+use pieces::pieces::Piece;
+use said::said::Said;
 use script::records::{FramedData, Items, Place};
 use script::roles::Key;
-use text::parts::Span;
 
 // How many items an entry has, and how many bytes its first, second and third value in the store.
 #[derive(Clone, Copy)]
@@ -21,6 +21,7 @@ pub struct Sizes {
 }
 
 // The place of so many bytes that start there: 0 and 0 where there are none.
+#[tactic(auto, using(crate::proofs::CallLaws::place_none, crate::proofs::CallLaws::place_some))]
 pub fn placed(start: usize, len: usize) -> Place
     ensures { result ≡ place_of start len }
 {
@@ -31,6 +32,7 @@ pub fn placed(start: usize, len: usize) -> Place
 }
 
 // The range of n records behind those that are there: 0 and 0 where there are none.
+#[tactic(auto, using(crate::proofs::CallLaws::range_none, crate::proofs::CallLaws::range_some))]
 pub fn range_of(before: usize, n: usize) -> Items
     ensures { result ≡ range before n }
 {
@@ -44,30 +46,24 @@ pub fn range_of(before: usize, n: usize) -> Items
 }
 
 // Data that takes n bytes of the store, behind b of them; a file's name is a part of the text.
-fn data_in(text: &[u8], v: Span, b: usize, n: usize) -> FramedData
-    requires { In text.now v }
-    ensures { result ≡ framed_sized text.now (Some v) b n }
+#[tactic(auto, using(crate::proofs::CallLaws::data_hex, crate::proofs::CallLaws::data_file, crate::proofs::CallLaws::data_neither))]
+fn data_in(v: Piece<'_>, b: usize, n: usize) -> FramedData
+    ensures { result ≡ framed_sized v.entry.text.now (Some v.entry.at) b n }
 {
-    if pieces::pieces::begins(text, v, b"x\"") {
+    if v.starts_with(b"x\"") {
         return FramedData::Inline(placed(b, n));
     }
-    if pieces::pieces::begins(text, v, b"@file:") {
-        let name = Span {
-            start: v.start + 6,
-            end: v.end,
-        };
-        return FramedData::FileRef(matchers::matchers::place_of(name));
+    if v.starts_with(b"@file:") {
+        return FramedData::FileRef(matchers::matchers::place_of(v.behind(6).at));
     }
     FramedData::Inline(placed(b, n))
 }
 
 // Data that was not said is inline.
-pub fn framed_of(text: &[u8], starts: &[usize], ends: &[usize], b: usize, n: usize) -> FramedData
-    requires { SaidIn text.now starts.now ends.now }
-    ensures { result ≡ framed_sized text.now (piece_at starts.now ends.now Key.Data) b n }
+#[tactic(auto, unfolding(script::specs::Contents::data_of, crate::specs::Records::framed_sized, crate::specs::Records::sized_at))]
+pub fn framed_of(said: Said<'_>, b: usize, n: usize) -> FramedData
+    ensures { result ≡ framed_sized said.entry.text.now (said_of said.entry.heard.now Key.Data) b n }
 {
-    match said::said::value_of(starts, ends, Key::Data) {
-        None => FramedData::Inline(placed(b, n)),
-        Some(v) => data_in(text, v, b, n),
-    }
+    said.value(Key::Data)
+        .map_or(FramedData::Inline(placed(b, n)), |v| data_in(v, b, n))
 }

@@ -202,35 +202,39 @@ module _ (text : List ℕ) (t : Span) (g : 101 ≡ get_or (bytes text t) 0 0) wh
         front_behind text t 101 g "features:" refl,
       )
 
-module _ (text : List ℕ) (t : Span) where
-  pub line_empty : t.start ≡ t.end → Nothing ≡ preamble_role text t
-  unfolding preamble_role is_empty
-  line_empty e = rw (eq-eqb t.start t.end e)
+module _ (text : List ℕ) (t : Span) (a : Bool) (z : a ≡ is_empty t) where
+  pub line_empty : a ≡ true → Nothing ≡ preamble_role text t
+  unfolding preamble_role
+  line_empty e = rw (sym z ∙ e)
 
-  module _ (n : t.start ≡ t.end → ⊥) (x : ℕ) (g : x ≡ get_or (bytes text t) 0 0) (r : Role) where
+  module _ (n : a ≡ false) (x : ℕ) (g : x ≡ get_or (bytes text t) 0 0) (r : Role) where
     pub line_comment : x ≡ 35 → r ≡ comment_role text t → r ≡ preamble_role text t
-    unfolding preamble_role is_empty
-    line_comment d h = rw (ne_eqb t.start t.end n, begins-is text t "#" true (sym (one_front 35 (bytes text t) (sym g ∙ d) refl)), h)
+    unfolding preamble_role
+    line_comment d h = rw (sym z ∙ n, begins-is text t "#" true (sym (one_front 35 (bytes text t) (sym g ∙ d) refl)), h)
 
     pub line_expect : x ≡ 101 → r ≡ preamble_expect text t → r ≡ preamble_role text t
-    unfolding preamble_role is_empty
+    unfolding preamble_role
     line_expect d h =
-        rw (ne_eqb t.start t.end n, front_begins text t 101 (sym d ∙ g) "#" refl)
+        rw (sym z ∙ n, front_begins text t 101 (sym d ∙ g) "#" refl)
         (h ∙ either_way text t (sym d ∙ g) (starts_with (codes "expect") (bytes text t)) refl)
 
     pub line_word : (x ≡ 35 → ⊥) → (x ≡ 101 → ⊥) → r ≡ word_role text t → r ≡ preamble_role text t
-    unfolding preamble_role is_empty
-    line_word s d h = rw (ne_eqb t.start t.end n, front_begins text t x g "#" (ne_eqb x 35 s), front_begins text t x g "expect" (ne_eqb x 101 d), h)
+    unfolding preamble_role
+    line_word s d h = rw (sym z ∙ n, front_begins text t x g "#" (ne_eqb x 35 s), front_begins text t x g "expect" (ne_eqb x 101 d), h)
 
 -- a comment that begins with no letter of the three words
 module _ (text : List ℕ) (t : Span) (y : ℕ) (f : y ≡ get_or (bytes text t) 0 0) (d : y ≡ 35) where
   -- a piece with a first byte is not empty
-  has_first : t.start ≡ t.end → ⊥
-  has_first h = let z : get_or (bytes text t) 0 0 ≡ 0 = ap (λ (b : List ℕ). get_or b 0 0) (bytes-none text t.start t.end (omega arith)) in omega arith
+  has_first : is_empty t ≡ false
+  unfolding is_empty
+  has_first =
+      ne_eqb t.start t.end (
+      λ h. let z : get_or (bytes text t) 0 0 ≡ 0 = ap (λ (b : List ℕ). get_or b 0 0) (bytes-none text t.start t.end (omega arith)) in omega arith
+      )
 
   pub remark : (start : ℕ) → start ≡ behind_signs t.start (bytes text t) → (c : Span) → c ≡ trim text (span start t.end) → (x : ℕ) → x ≡ get_or (bytes text c) 0 0
       → (x ≡ 100 → ⊥) → (x ≡ 116 → ⊥) → (x ≡ 115 → ⊥) → Nothing ≡ preamble_role text t
-  remark start e c k x g p u s = line_comment text t has_first y f Nothing d (comment_none text t start e c k x g p u s)
+  remark start e c k x g p u s = line_comment text t (is_empty t) refl has_first y f Nothing d (comment_none text t start e c k x g p u s)
 
 module _ (text : List ℕ) (t : Span) (b : Bool) (e : b ≡ same_bytes (bytes text t) (codes "---")) where
   pub step_over : b ≡ true → step Nothing Outside ≡ preamble_step text t

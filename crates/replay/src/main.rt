@@ -26,16 +26,10 @@ struct Tally {
 
 // The number that three bytes spell, or one that is no code point.
 fn code_point(s: &[u8]) -> u32 {
-    if s.len() != 3 {
-        return 0xFFFF_FFFF;
+    match s {
+        [a, b, c] => u32::from_be_bytes([0, *a, *b, *c]),
+        _ => 0xFFFF_FFFF,
     }
-    wide(s[0]) * 0x1_0000 + wide(s[1]) * 0x100 + wide(s[2])
-}
-
-fn wide(x: u8) -> u32
-    ensures { result ≤ 255 }
-{
-    x as u32
 }
 
 // A case by its word and its bytes.
@@ -75,69 +69,27 @@ fn case_on(line: &[u8]) -> Case {
 
 impl Tally {
     // With one case more. The counts are small: a case takes a line of the input.
-    fn with(self, c: Case) -> Tally
+    fn with(mut self, c: Case) -> Tally
         requires { self.white + self.good + self.bad + self.wrong ≤ 65536 }
         ensures { result.white + result.good + result.bad + result.wrong ≤ self.white + self.good + self.bad + self.wrong + 1 }
     {
-        let white = self.white;
-        let good = self.good;
-        let bad = self.bad;
-        let wrong = self.wrong;
         match c {
-            Case::White(_) => Tally {
-                white: white + 1,
-                good: good,
-                bad: bad,
-                wrong: wrong,
-            },
-            Case::Good(ok) => {
-                if ok {
-                    return Tally {
-                        white: white,
-                        good: good + 1,
-                        bad: bad,
-                        wrong: wrong,
-                    };
-                }
-                Tally {
-                    white: white,
-                    good: good,
-                    bad: bad,
-                    wrong: wrong + 1,
-                }
-            }
-            Case::Bad(ok) => {
-                if ok {
-                    return Tally {
-                        white: white,
-                        good: good,
-                        bad: bad + 1,
-                        wrong: wrong,
-                    };
-                }
-                Tally {
-                    white: white,
-                    good: good,
-                    bad: bad,
-                    wrong: wrong + 1,
-                }
-            }
-            Case::Other => self,
+            Case::White(_) => self.white += 1,
+            Case::Good(true) => self.good += 1,
+            Case::Bad(true) => self.bad += 1,
+            Case::Good(false) | Case::Bad(false) => self.wrong += 1,
+            Case::Other => {}
         }
+        self
     }
 }
 
 // Keeps the code point of a `white` case, if there is room.
 fn keep(codes: &mut [u32], at: usize, c: Case) {
-    match c {
-        Case::White(code) => {
-            if at < codes.len() {
-                codes[at] = code;
-            }
-        }
-        Case::Good(_) => {}
-        Case::Bad(_) => {}
-        Case::Other => {}
+    if let Case::White(code) = c
+        && let Some(slot) = codes.get_mut(at)
+    {
+        *slot = code;
     }
 }
 
@@ -152,6 +104,7 @@ fn read_cases(input: &[u8], codes: &mut [u32]) -> Tally
         wrong: 0,
     };
     let mut at: usize = 0;
+    // No `for`: where the next line begins is found with the line.
     while at < input.len() {
         let l = lines::lines::line_at(input, at, 0);
         let start = l.start;
@@ -171,6 +124,7 @@ struct Encoding {
     len: usize,
 }
 
+// The lowest byte. An `as` alone is proved to lose nothing, and these sums are below 256 only where the number is a code point.
 fn low(x: u32) -> u8 {
     (x % 256) as u8
 }
@@ -208,14 +162,7 @@ fn encode(c: u32) -> Encoding {
 }
 
 fn listed(codes: &[u32], c: u32) -> bool {
-    let mut i: usize = 0;
-    while i < codes.len() {
-        if codes[i] == c {
-            return true;
-        }
-        i += 1;
-    }
-    false
+    codes.iter().any(|code| *code == c)
 }
 
 // Whether an encoding is taken as it should be: a surrogate's is no UTF-8, any other is, and it is trimmed away just if it is White_Space.
@@ -241,26 +188,13 @@ fn code_right(codes: &[u32], c: u32) -> bool {
     let e = encode(c);
     let bytes = e.bytes;
     let len = e.len;
-    let mut surrogate = false;
-    if 0xD800 <= c {
-        surrogate = c <= 0xDFFF;
-    }
+    let surrogate = 0xD800 <= c && c <= 0xDFFF;
     taken_right(&bytes, len, surrogate, listed(codes, c))
 }
 
-fn wrong_at(codes: &[u32], c: u32) -> u32
-    ensures { result ≤ 1 }
-{
-    if code_right(codes, c) { 0 } else { 1 }
-}
-
 // How many code points are not taken as they should be.
-fn codes_wrong(codes: &[u32]) -> u32 {
-    let mut wrong: u32 = 0;
-    for c in 0..0x11_0000u32 {
-        wrong += wrong_at(codes, c);
-    }
-    wrong
+fn codes_wrong(codes: &[u32]) -> usize {
+    (0..0x11_0000u32).filter(|c| !code_right(codes, *c)).count()
 }
 
 fn say(rt: &impl Print, words: &[u8], n: u64) -> io::Result<()> {

@@ -17,22 +17,23 @@ use Rattle.script.specs.Refusals.{refusal}
 use Rattle.script.specs.declared.records.Expect.{Expect}
 use Rattle.script.specs.declared.records.Refusal.{Refusal}
 use Rattle.script.specs.declared.refusals.Reason.TheVariants.{MessageTooLong, ValueTooLong}
-use Rattle.script.specs.declared.response.DaemonResponse.{DaemonResponse}
-use Rattle.script.specs.declared.response.HandshakeInfo.{HandshakeInfo}
-use Rattle.verdicts.specs.Told.{Subject, greeting, reply}
-use Rattle.verdicts.specs.Held.{expected_of, response_of, info_of}
+use Rattle.verdicts.specs.Told.{Subject}
+use Rattle.verdicts.specs.Held.{expected_of, expect_in}
+use Rattle.verdicts.specs.Subjects.{held_by, parts_in}
+use Rattle.verdicts.specs.declared.handed.Handed.{Handed}
+use Rattle.verdicts.specs.declared.handed.Handed.TheVariants.{Info, Response}
 use Rattle.verdicts.specs.Expected.{Expected}
 use Rattle.verdicts.specs.Lookup.{looked, present_bytes}
-use Rattle.verdicts.specs.Messages.{message, entry_message, handshake_message}
+use Rattle.verdicts.specs.Messages.{message}
 use Rattle.verdicts.specs.Verdicts.{verdict}
 use Rattle.verdicts.specs.declared.Verdict.{Verdict}
-use Rattle.writing.proofs.PutLaws.{front_taken}
+use Rattle.written.proofs.WrittenLaws.{front_taken}
 use Rattle.rows.specs.Rows.{expect_row, response_row, info_row}
-use Rattle.row_messages.specs.Messages.{entry_told, handshake_told}
+use Rattle.row_messages.specs.Messages.{subject_told}
 use Rattle.told.specs.Told.{counted, framed_as, told, told_of, unless_refused}
 use Rattle.told.specs.declared.Told.{Told}
-use Rattle.replayed.specs.Told.{table_of, says_so, written_as}
-use Rattle.replay_script.specs.Judged.{says_of, entry_says, handshake_says}
+use Rattle.replayed.specs.Told.{of_handshake, table_of, says_so, written_as}
+use Rattle.replay_script.specs.Judged.{says_of, entry_says, handshake_says, says, handed_by}
 
 -- ---- what was left in the buffer is the message
 
@@ -62,24 +63,32 @@ left_is (Ok t) a b s e scratch buffer lent left w q o v stored =
     let f = front_taken (message s e) lent left t.len (omega (arith, k.1, w)) k.0 (o ∙ ap (λ (r : Result Told Refusal). unless_refused r (message s e) lent) (sym q)) in
     rw (le-leb t.len (length left) (omega (arith, ap length f, k.0, length-take t.len left)), f)
 
--- the machine hands the matcher's number on as bits, and reads it back
-module _ (n : List ℕ) (m : ℤ) (f : SFits w64 m) (e : Expect) (ee : e ≡ expect_row (part n 2 6) (to_z w64 (of_z w64 m))) where
-  expect_handed : e ≡ expect_row (part n 2 6) m
-  expect_handed = ee ∙ ap (expect_row (part n 2 6)) (to_z-of_z w64 m f)
+module _ (n : List ℕ) (m : ℤ) (text bytes stored : List ℕ) where
+  -- what Message says by what the expectation is judged against
+  says_by : Handed → Bool
+  says_by h =
+      let e = expect_row (part n 2 6) m in
+      let lists = counted (table_of n) in
+      says_of (expect_in (length text) e) (parts_in bytes lists h) (held_by bytes lists h) (expected_of text e) (get_or n 1 0) stored
 
-  module _ (table : List (List ℕ)) (et : table ≡ table_of n) (text bytes stored lent left : List ℕ) (k : length lent ≡ 256) (t : Result Told Refusal) (b : Bool) (w : b ≡ written_as t (get_or n 1 0) left stored) where
-    pub entry_is : (r : DaemonResponse) → r ≡ response_row (part n 8 19) → t ≡ entry_told text e bytes table r 256 256
-        → left ≡ unless_refused (entry_told text e bytes table r 256 256) (entry_message (response_of bytes (counted table) r) (expected_of text e)) lent
-        → b ≡ entry_says n m text bytes stored
-    unfolding entry_says says_of message
-    entry_is r er q o =
-        w ∙ left_is t _ _ (reply (response_of bytes (counted table) r)) (expected_of text e) 256 256 lent left k q o (get_or n 1 0) stored
-        ∙ rw (q, expect_handed, er, et)
+  says_handed : says_by (handed_by n) ≡ says n m text bytes stored
+  unfolding handed_by says says_by entry_says handshake_says held_by parts_in
+  says_handed = go (of_handshake n)
+    where
+      go : (b : Bool) → says_by (if b then Info (info_row (part n 8 19)) else Response (response_row (part n 8 19))) ≡ (if b then handshake_says n m text bytes stored else entry_says n m text bytes stored)
+      go true = refl
+      go false = refl
 
-    pub handshake-is : (i : HandshakeInfo) → i ≡ info_row (part n 8 19) → t ≡ handshake_told text e bytes table i 256 256
-        → left ≡ unless_refused (handshake_told text e bytes table i 256 256) (handshake_message (info_of bytes (counted table) i) (expected_of text e)) lent
-        → b ≡ handshake_says n m text bytes stored
-    unfolding handshake_says says_of message
-    handshake-is i ei q o =
-        w ∙ left_is t _ _ (greeting (info_of bytes (counted table) i)) (expected_of text e) 256 256 lent left k q o (get_or n 1 0) stored
-        ∙ rw (q, expect_handed, ei, et)
+  -- the machine hands the matcher's number on as bits, and reads it back
+  module _ (f : SFits w64 m) (e : Expect) (ee : e ≡ expect_row (part n 2 6) (to_z w64 (of_z w64 m))) where
+    expect_handed : e ≡ expect_row (part n 2 6) m
+    expect_handed = ee ∙ ap (expect_row (part n 2 6)) (to_z-of_z w64 m f)
+
+    pub said_is : (table : List (List ℕ)) → table ≡ table_of n → (h : Handed) → h ≡ handed_by n → (lent left : List ℕ) → length lent ≡ 256 → (t : Result Told Refusal) (b : Bool) → b ≡ written_as t (get_or n 1 0) left stored
+        → t ≡ subject_told text e bytes table h 256 256
+        → left ≡ unless_refused (subject_told text e bytes table h 256 256) (message (held_by bytes (counted table) h) (expected_of text e)) lent
+        → b ≡ says n m text bytes stored
+    unfolding says_of says_by
+    said_is table et h eh lent left k t b w q o =
+        w ∙ left_is t _ _ (held_by bytes (counted table) h) (expected_of text e) 256 256 lent left k q o (get_or n 1 0) stored
+        ∙ rw (q, expect_handed, eh, et) says_handed

@@ -6,6 +6,8 @@ use Rattle.verdicts.specs.Told.{Subject, greeting, reply}
 use Rattle.verdicts.specs.Held.{expected_of, response_of, info_of, expect_in, response_in, info_in}
 use Rattle.verdicts.specs.Expected.{Expected}
 use Rattle.verdicts.specs.Messages.{message}
+use Rattle.verdicts.specs.declared.handed.Handed.{Handed}
+use Rattle.verdicts.specs.declared.handed.Handed.TheVariants.{Info, Response}
 use Rattle.rows.specs.Rows.{expect_row, response_row, info_row}
 use Rattle.told.specs.Told.{counted, told_of}
 use Rattle.fields.specs.Fields.{after, numbers_at, integer_at, bytes_at}
@@ -32,6 +34,10 @@ module _ (n : List ℕ) (m : ℤ) (text bytes stored : List ℕ) where
 
   unfoldable pub says : Bool
   says = if of_handshake n then handshake_says else entry_says
+
+-- what the expectation is judged against
+unfoldable pub handed_by : (n : List ℕ) → Handed
+handed_by n = if of_handshake n then Info (info_row (part n 8 19)) else Response (response_row (part n 8 19))
 
 -- ---- what a line says; text, bytes and message have at most 256 bytes each
 

@@ -1,14 +1,14 @@
 // A line of the sample, behind the word `read`: how many entries, items, expectations and bytes of the store are lent; the text; what stands in the store once it is read; all numbers of the dump.
-ghost use Rattle.std.specs.Prelude.{◌≡◌, ◌≤◌, length};
-ghost use Rattle.replay_script.specs.Dumped.{leaves, store_agreed, text_agreed, agreed};
+ghost use Rattle.std.specs.Prelude.{◌≡◌};
+ghost use Rattle.replay_script.specs.Dumped.{leaves, agreed};
 
+use fields::rest::Rest;
 use replayed::dumps::is_dump;
 use script::records::Counts;
 
 // Reads the text, and compares what Read leaves with the line.
-fn is_left(line: &[u8], from: usize, lent: Counts, text: &[u8], store: &[u8]) -> bool
-    requires { from ≤ length line.now }
-    ensures { result ≡ leaves line.now from lent text.now store.now }
+fn is_left(rest: Rest<'_>, lent: Counts, text: &[u8], store: &[u8]) -> bool
+    ensures { result ≡ leaves rest.entry.line.now rest.entry.at lent text.now store.now }
 {
     let mut found = [0u8; 8192];
     let n = dump::dumps::dump_read(
@@ -22,43 +22,16 @@ fn is_left(line: &[u8], from: usize, lent: Counts, text: &[u8], store: &[u8]) ->
     if 8192 < n {
         return false;
     }
-    is_dump(line, from, store, &found[..n])
+    is_dump(rest, store, &found[..n])
 }
 
-// The store and the numbers of a line.
-#[tactic(auto, unfolding(crate::specs::Dumped::store_agreed, fields::specs::Fields::after), using(fields::proofs::FieldLaws::field_laws))]
-fn store_agrees(line: &[u8], from: usize, lent: Counts, text: &[u8]) -> bool
-    requires { from ≤ length line.now }
-    ensures { result ≡ store_agreed line.now from lent text.now }
-{
-    let mut room = [0u8; 1024];
-    let Some(store) = fields::bytes::bytes_at(line, from, &mut room) else {
-        return false;
-    };
-    is_left(line, store.end, lent, text, &room[..store.value])
-}
-
-// The text, the store and the numbers.
-#[tactic(auto, unfolding(crate::specs::Dumped::text_agreed, fields::specs::Fields::after), using(fields::proofs::FieldLaws::field_laws))]
-fn text_agrees(line: &[u8], from: usize, lent: Counts) -> bool
-    requires { from ≤ length line.now }
-    ensures { result ≡ text_agreed line.now from lent }
-{
-    let mut room = [0u8; 1024];
-    let Some(text) = fields::bytes::bytes_at(line, from, &mut room) else {
-        return false;
-    };
-    store_agrees(line, text.end, lent, &room[..text.value])
-}
-
-// Whether Read leaves what a line says from a place on.
-#[tactic(auto, unfolding(crate::specs::Dumped::agreed, fields::specs::Fields::after), using(fields::proofs::FieldLaws::field_laws))]
-pub fn agrees(line: &[u8], from: usize) -> bool
-    requires { from ≤ length line.now }
-    ensures { result ≡ agreed line.now from }
+// Whether Read leaves what the rest of a line says.
+#[tactic(auto, unfolding(crate::specs::Dumped::agreed, crate::specs::Dumped::text_agreed, crate::specs::Dumped::store_agreed, fields::specs::Fields::after))]
+pub fn agrees(rest: Rest<'_>) -> bool
+    ensures { result ≡ agreed rest.entry.line.now rest.entry.at }
 {
     let mut sizes = [0u64; 4];
-    let Some(end) = fields::numbers::numbers_at(line, from, &mut sizes) else {
+    let Some(rest) = rest.numbers(&mut sizes) else {
         return false;
     };
     let lent = Counts {
@@ -67,5 +40,13 @@ pub fn agrees(line: &[u8], from: usize) -> bool
         expectations: sizes[2] as usize,
         store: sizes[3] as usize,
     };
-    text_agrees(line, end, lent)
+    let mut text_room = [0u8; 1024];
+    let Some((text, rest)) = rest.bytes(&mut text_room) else {
+        return false;
+    };
+    let mut store_room = [0u8; 1024];
+    let Some((store, rest)) = rest.bytes(&mut store_room) else {
+        return false;
+    };
+    is_left(rest, lent, &text_room[..text], &store_room[..store])
 }

@@ -15,16 +15,16 @@ mod judged;
 mod measured;
 
 use cases::{Case, Tally};
+use fields::rest::Rest;
 use std::io;
 use std::io::Read;
 
 // What follows the word `read`.
 #[tactic(auto, unfolding(crate::specs::Answers::read_replayed))]
-fn replay_read(line: &[u8], from: usize) -> Case
-    requires { from ≤ length line.now }
-    ensures { result ≡ read_replayed line.now from }
+fn replay_read(rest: Rest<'_>) -> Case
+    ensures { result ≡ read_replayed rest.entry.line.now rest.entry.at }
 {
-    if dumped::agrees(line, from) {
+    if dumped::agrees(rest) {
         return Case::Dumped;
     }
     Case::Wrong
@@ -32,30 +32,28 @@ fn replay_read(line: &[u8], from: usize) -> Case
 
 // What follows the word `judged`.
 #[tactic(auto, unfolding(crate::specs::Answers::judged_replayed))]
-fn replay_judged(line: &[u8], from: usize) -> Case
-    requires { from ≤ length line.now }
-    ensures { result ≡ judged_replayed line.now from }
+fn replay_judged(rest: Rest<'_>) -> Case
+    ensures { result ≡ judged_replayed rest.entry.line.now rest.entry.at }
 {
-    if judged::agrees(line, from) {
+    if judged::agrees(rest) {
         return Case::Judged;
     }
     Case::Wrong
 }
 
-#[tactic(auto, unfolding(crate::specs::Answers::line_replayed), using(text::proofs::LiteralLaws::spells_as, text::proofs::WordLaws::word_places))]
+#[tactic(auto, unfolding(crate::specs::Answers::line_replayed), using(text::proofs::LiteralLaws::spells_as))]
 fn replay_line(line: &[u8]) -> Case
     ensures { result ≡ line_replayed line.now }
 {
-    let w = words::word_at(line, 0);
-    let word = &line[w.start..w.end];
+    let (word, rest) = Rest { line, at: 0 }.word();
     if text::parts::same(word, b"measure") {
-        return measured::replay_measure(line, w.end);
+        return measured::replay_measure(rest);
     }
     if text::parts::same(word, b"read") {
-        return replay_read(line, w.end);
+        return replay_read(rest);
     }
     if text::parts::same(word, b"judged") {
-        return replay_judged(line, w.end);
+        return replay_judged(rest);
     }
     Case::Wrong
 }
@@ -74,6 +72,7 @@ fn replay_all(input: &[u8]) -> Tally
     };
     let mut number: usize = 1;
     let mut at: usize = 0;
+    // No `for`: where a line begins is known once the one before it is read, and an iterator of them would be a type with laws for this loop alone.
     while at < input.len() {
         let l = lines::lines::line_at(input, at, number);
         let start = l.start;
@@ -96,11 +95,6 @@ fn with_unread(input: &mut impl Read, tally: Tally) -> io::Result<Tally>
     Ok(tally.with(Case::Wrong))
 }
 
-fn say(rt: &impl Print, words: &[u8], n: usize) -> io::Result<()> {
-    rt.write_all(words)?;
-    rt.print(n)
-}
-
 // A room for the input, made apart: a proof that has it at hand looks at each of its bytes.
 fn room() -> [u8; 0x100000] {
     [0u8; 0x100000]
@@ -111,10 +105,8 @@ fn main(rt: HostRuntime) -> io::Result<()> {
     let mut input = room();
     let n = inputs::read_full(&mut stdin, &mut input)?;
     let tally = with_unread(&mut stdin, replay_all(&input[..n]))?;
-    say(&rt, b"read ", tally.read)?;
-    say(&rt, b"\nrefused ", tally.refused)?;
-    say(&rt, b"\ndumped ", tally.dumped)?;
-    say(&rt, b"\njudged ", tally.judged)?;
-    say(&rt, b"\nwrong ", tally.wrong)?;
-    rt.write_all(b"\n")
+    println!(rt;
+        "read {}\nrefused {}\ndumped {}\njudged {}\nwrong {}",
+        tally.read, tally.refused, tally.dumped, tally.judged, tally.wrong
+    )
 }

@@ -1,9 +1,10 @@
 // A line of the sample, behind the word `measure`: the refusal's number or 0, its line, entries, items, expectations, store bytes; and the text in hex.
-ghost use Rattle.std.specs.Prelude.{◌≡◌, ◌≤◌, length};
+ghost use Rattle.std.specs.Prelude.{◌≡◌, length};
 ghost use Rattle.script.specs.Reading.{measured};
 ghost use Rattle.replay_script.specs.Measured.{replayed, hex_replayed, measure_replayed};
 
 use cases::{Answer, Case, agrees};
+use fields::rest::Rest;
 
 // A text and its stored answer.
 #[tactic(auto, unfolding(crate::specs::Measured::replayed))]
@@ -31,13 +32,12 @@ fn replay_hex(hex: &[u8], room: &mut [u8], stored: Answer) -> Case
 }
 
 // What follows the word `measure`: six numbers, and the rest of the line is the text.
-#[tactic(auto, unfolding(crate::specs::Measured::measure_replayed, fields::specs::Fields::after), using(fields::proofs::FieldLaws::field_laws, fields::proofs::FieldLaws::rest_of))]
-pub fn replay_measure(line: &[u8], from: usize) -> Case
-    requires { from ≤ length line.now }
-    ensures { result ≡ measure_replayed line.now from }
+#[tactic(auto, unfolding(crate::specs::Measured::measure_replayed, fields::specs::Fields::after), using(fields::proofs::FieldLaws::rest_of))]
+pub fn replay_measure(rest: Rest<'_>) -> Case
+    ensures { result ≡ measure_replayed rest.entry.line.now rest.entry.at }
 {
     let mut n = [0u64; 6];
-    let Some(end) = fields::numbers::numbers_at(line, from, &mut n) else {
+    let Some(rest) = rest.numbers(&mut n) else {
         return Case::Wrong;
     };
     let stored = Answer {
@@ -49,5 +49,5 @@ pub fn replay_measure(line: &[u8], from: usize) -> Case
         store: n[5] as usize,
     };
     let mut room = [0u8; 1024];
-    replay_hex(trimming::trim(&line[end..]), &mut room, stored)
+    replay_hex(trimming::trim(&rest.line[rest.at..]), &mut room, stored)
 }

@@ -1,8 +1,10 @@
 // Whether a dump of Read is the one that stands on a line.
-ghost use Rattle.std.specs.Prelude.{◌≡◌, ◌^◌, ◌≤◌, length};
+ghost use Rattle.std.specs.Prelude.{◌≡◌, ◌^◌};
 ghost use Rattle.text.proofs.WordLaws.{words_at};
 ghost use Rattle.values.specs.Numbers.{number};
 ghost use Rattle.replayed.specs.Dumps.{in_front, is_dump};
+
+use fields::rest::Rest;
 
 // Whether the number that a word spells is found in front.
 #[tactic(auto, unfolding(crate::specs::Dumps::in_front))]
@@ -16,25 +18,22 @@ fn is_in_front(word: &[u8], found: &[u8]) -> bool
     text::parts::starts_with(found, &bytes)
 }
 
-// Whether the numbers from a place of the line on are found, one after another, and behind them the bytes of the store.
-pub fn is_dump(line: &[u8], from: usize, store: &[u8], found: &[u8]) -> bool
-    requires { from ≤ length line.now }
-    ensures { result ≡ is_dump line.now (words_at line.now from) store.now found.now }
+// Whether the numbers on the rest of a line are found, one after another, and behind them the bytes of the store.
+pub fn is_dump(rest: Rest<'_>, store: &[u8], found: &[u8]) -> bool
+    ensures { result ≡ is_dump rest.entry.line.now (words_at rest.entry.line.now rest.entry.at) store.now found.now }
 {
-    let mut at = from;
+    let mut left = rest;
     let mut p: usize = 0;
-    while at < line.len() {
-        let w = words::word_at(line, at);
-        let start = w.start;
-        let end = w.end;
-        if start == end {
+    // No `for`: where the next word begins is found with the word.
+    loop {
+        let (word, next) = left.word();
+        if word.is_empty() {
             return text::parts::same(&found[p..], store);
         }
-        if !is_in_front(&line[start..end], &found[p..]) {
+        if !is_in_front(word, &found[p..]) {
             return false;
         }
         p += 8;
-        at = end;
+        left = next;
     }
-    text::parts::same(&found[p..], store)
 }

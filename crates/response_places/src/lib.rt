@@ -1,7 +1,7 @@
-// Whether the places of a response, and those of the handshake's information, lie inside: 32.
+// Whether the places of a response, and those of the handshake's information, lie inside: 32. It takes how many bytes there are, for it looks at none.
 #![tactic(auto)]
 
-ghost use Rattle.std.specs.Prelude.{◌≡◌, ◌+◌, ◌≤◌, length, take, drop};
+ghost use Rattle.std.specs.Prelude.{◌≡◌, get_or};
 ghost use Rattle.verdicts.specs.Held as Held;
 ghost use Rattle.script.specs.declared.response.ResultData.TheVariants.{PathInfo};
 
@@ -9,105 +9,77 @@ use fits::room;
 use places::{inside, maybe_in, place_in};
 use script::records::Items;
 use script::response::{DaemonResponse, HandshakeInfo, PathInfoResult, ResultData};
+use texts::part_of;
 
-// The texts from the record at first on, count of them, lie inside n bytes.
-fn items_in(n: usize, lists: &[[usize; 2]], first: usize, count: usize) -> bool
-    requires { first + count ≤ length lists.now }
-    ensures { result ≡ Held.items_in n (take count (drop first lists.now)) }
+// A text of the table: where it starts, and how many bytes it has.
+#[tactic(auto, unfolding(verdicts::specs::Held::inside))]
+fn item_in(n: usize, item: &[usize; 2]) -> bool
+    ensures { result ≡ Held.inside n (get_or item.now 0 0) (get_or item.now 1 0) }
 {
-    let end = first + count;
-    let mut i = first;
-    while i < end {
-        let item = lists[i];
-        if inside(n, item[0], item[1]) {
-            i += 1;
-        } else {
-            return false;
-        }
-    }
-    true
+    inside(n, item[0], item[1])
 }
 
 // A list: its range in the table, of which only the first 32,768 records count, and each of its texts.
+#[tactic(auto, unfolding(verdicts::specs::Held::list_in))]
 pub fn list_in(n: usize, lists: &[[usize; 2]], r: Items) -> bool
     ensures { result ≡ Held.list_in n lists.now r }
 {
-    if inside(room(lists.len()), r.first, r.count) {
-        return items_in(n, lists, r.first, r.count);
-    }
-    false
+    inside(room(lists.len()), r.first, r.count)
+        && part_of(lists, r.first, r.count)
+            .iter()
+            .all(|item| item_in(n, item))
 }
 
+#[tactic(auto, unfolding(verdicts::specs::Held::maybe_list_in))]
 pub fn maybe_list_in(n: usize, lists: &[[usize; 2]], m: Option<Items>) -> bool
     ensures { result ≡ Held.maybe_list_in n lists.now m }
 {
-    match m {
-        None => true,
-        Some(r) => list_in(n, lists, r),
-    }
+    m.is_none_or(|r| list_in(n, lists, r))
 }
 
 // The parts of a path's information.
+#[tactic(auto, unfolding(verdicts::specs::Held::result_in))]
 fn path_info_in(n: usize, lists: &[[usize; 2]], p: PathInfoResult) -> bool
     ensures { result ≡ Held.result_in n lists.now (PathInfo p) }
 {
-    let deriver = p.deriver;
-    let nar_hash = p.nar_hash;
-    let references = p.references;
-    if maybe_in(n, deriver) {
-        if maybe_in(n, nar_hash) {
-            return maybe_list_in(n, lists, references);
-        }
-    }
-    false
+    maybe_in(n, p.deriver) && maybe_in(n, p.nar_hash) && maybe_list_in(n, lists, p.references)
 }
 
 // The parts of a result.
+#[tactic(auto, unfolding(verdicts::specs::Held::result_in))]
 pub fn result_in(n: usize, lists: &[[usize; 2]], r: ResultData) -> bool
     ensures { result ≡ Held.result_in n lists.now r }
 {
     match r {
-        ResultData::Absent => true,
-        ResultData::U64(_) => true,
         ResultData::Str(p) => place_in(n, p),
         ResultData::PathInfo(p) => path_info_in(n, lists, p),
         ResultData::StringSet(l) => list_in(n, lists, l),
-        ResultData::StringMap => true,
-        ResultData::None => true,
-        ResultData::CollectGarbage { .. } => true,
-        ResultData::SubstitutablePathInfo { .. } => true,
-        ResultData::Missing { .. } => true,
-        ResultData::Framed => true,
-        ResultData::Raw => true,
+        ResultData::Absent
+        | ResultData::U64(_)
+        | ResultData::StringMap
+        | ResultData::None
+        | ResultData::CollectGarbage { .. }
+        | ResultData::SubstitutablePathInfo { .. }
+        | ResultData::Missing { .. }
+        | ResultData::Framed
+        | ResultData::Raw => true,
     }
 }
 
 // Every part of a response lies inside its n bytes and its table of places.
+#[tactic(auto, unfolding(verdicts::specs::Held::response_in))]
 pub fn response_in(n: usize, lists: &[[usize; 2]], r: DaemonResponse) -> bool
     ensures { result ≡ Held.response_in n lists.now r }
 {
-    let terminal = r.terminal;
-    let result = r.result;
-    let error = r.error;
-    if place_in(n, terminal) {
-        if result_in(n, lists, result) {
-            return maybe_in(n, error);
-        }
-    }
-    false
+    place_in(n, r.terminal) && result_in(n, lists, r.result) && maybe_in(n, r.error)
 }
 
 // Every part of the handshake's information.
+#[tactic(auto, unfolding(verdicts::specs::Held::info_in))]
 pub fn info_in(n: usize, lists: &[[usize; 2]], i: HandshakeInfo) -> bool
     ensures { result ≡ Held.info_in n lists.now i }
 {
-    let client = i.client_features;
-    let server = i.server_features;
-    let daemon = i.daemon_nix_version;
-    if list_in(n, lists, client) {
-        if list_in(n, lists, server) {
-            return maybe_in(n, daemon);
-        }
-    }
-    false
+    list_in(n, lists, i.client_features)
+        && list_in(n, lists, i.server_features)
+        && maybe_in(n, i.daemon_nix_version)
 }

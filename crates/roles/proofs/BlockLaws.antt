@@ -21,8 +21,8 @@ use Rattle.script.specs.declared.roles.Role.TheVariants.{Says, Bad}
 use Rattle.script.specs.Inside.{In}
 use Rattle.arguments.specs.ArgumentRead.{SayingIn}
 use Rattle.roles.specs.BlockRead.{kind_of}
-use Rattle.roles.specs.declared.blocks.ValueKind.{ValueKind}
-use Rattle.roles.specs.declared.blocks.ValueKind.TheVariants.{Set, Data, Overrides, Other}
+use Rattle.roles.specs.declared.argument_steps.ValueKind.{ValueKind}
+use Rattle.roles.specs.declared.argument_steps.ValueKind.TheVariants.{Set, Data, Overrides, Other}
 use Rattle.pieces.proofs.BehindLaws.{behind-some, behind-none}
 use Rattle.script.specs.declared.refusals.Reason.{Reason}
 use Rattle.script.specs.declared.refusals.Reason.TheVariants.{BraceNotClosed, DataUnknown}

@@ -5,7 +5,7 @@ use mathlib.Core.Bool.{Bool, true, false, not}
 use mathlib.Core.List.{List, []}
 use native.Mathlib.Omega.{arith}
 use lib.ListN.{length}
-use borrow.Author.Tests.{eq-eqb, ne_eqb}
+use borrow.Author.Tests.{eq-eqb, eqb-true}
 use Rattle.std.specs.Prelude.{if◌then◌else◌}
 use Rattle.text.specs.Base.{◌&◌, ◌or◌, part}
 use Rattle.text.specs.Lines.{indented}
@@ -35,23 +35,24 @@ use Rattle.pieces.proofs.BehindLaws.{begins-is}
 module _ (text : List ℕ) (t : Span) where
   -- ---- how a line begins
 
-  pub front_blank : t.start ≡ t.end → Skipped ≡ front_of text t
-  unfolding front_of is_empty
-  front_blank h = rw (eq-eqb _ _ h)
+  module _ (a : Bool) (z : a ≡ is_empty t) where
+    pub front_blank : a ≡ true → Skipped ≡ front_of text t
+    unfolding front_of
+    front_blank h = rw (sym z ∙ h)
 
-  module _ (h : t.start ≡ t.end → ⊥) (b : Bool) (e : b ≡ starts_with (codes "#") (bytes text t)) where
-    pub front_comment : b ≡ true → Skipped ≡ front_of text t
-    unfolding front_of is_empty
-    front_comment y = rw (ne_eqb _ _ h, begins-is text t "#" b e, y)
+    module _ (h : a ≡ false) (b : Bool) (e : b ≡ starts_with (codes "#") (bytes text t)) where
+      pub front_comment : b ≡ true → Skipped ≡ front_of text t
+      unfolding front_of
+      front_comment y = rw (sym z ∙ h, begins-is text t "#" b e, y)
 
-    module _ (n : b ≡ false) (d : Bool) (k : d ≡ starts_with (codes "expect") (bytes text t)) where
-      pub front_expect : d ≡ true → Expect ≡ front_of text t
-      unfolding front_of is_empty
-      front_expect y = rw (ne_eqb _ _ h, begins-is text t "#" b e, n, begins-is text t "expect" d k, y)
+      module _ (n : b ≡ false) (d : Bool) (k : d ≡ starts_with (codes "expect") (bytes text t)) where
+        pub front_expect : d ≡ true → Expect ≡ front_of text t
+        unfolding front_of
+        front_expect y = rw (sym z ∙ h, begins-is text t "#" b e, n, begins-is text t "expect" d k, y)
 
-      pub front_other : d ≡ false → Other ≡ front_of text t
-      unfolding front_of is_empty
-      front_other m = rw (ne_eqb _ _ h, begins-is text t "#" b e, n, begins-is text t "expect" d k, m)
+        pub front_other : d ≡ false → Other ≡ front_of text t
+        unfolding front_of
+        front_other m = rw (sym z ∙ h, begins-is text t "#" b e, n, begins-is text t "expect" d k, m)
 
   -- ---- what it is where argument lines have ended, and where they may stand
 
@@ -154,7 +155,7 @@ module _ (text : List ℕ) (t : Span) where
 pub told-step : (text : List ℕ) (t : Span) (s : Sort) (whole a : Step) → sorted_step text s t ≡ whole → a ≡ sorted_step text s t → a ≡ whole
 told-step text t s whole a e q = q ∙ e
 
-pub step_is : (text : List ℕ) (w : Where) (l : Line) (inward : Bool) (t : Span) (s : Step) → inward ≡ indented (part text l.start (l.end - l.start)) → t ≡ trim text (span l.start l.end) → s ≡ step_at plain_rules text w inward t → s ≡ step_of plain_rules text w l
+pub step_is : (text : List ℕ) (w : Where) (l : Line) (inward : Bool) (t : Span) (s : Step) → inward ≡ indented (bytes text (span l.start l.end)) → t ≡ trim text (span l.start l.end) → s ≡ step_at plain_rules text w inward t → s ≡ step_of plain_rules text w l
 unfolding step_of bytes
 step_is text w l inward t s i k q = q ∙ rw (i, k)
 
@@ -177,9 +178,9 @@ module _ (text : List ℕ) where
   unfolding trim
   trim_nothing p h = let z = ap length (no_bytes p h) in omega (arith, trim-inside (bytes text p))
 
-  pub empty_is : (w next : Where) (l : Line) → l.start ≡ l.end → next ≡ below_empty w → step Nothing next ≡ step_of plain_rules text w l
-  unfolding step_of indented starts_with utf8
-  empty_is w next l h e = rw (no_bytes (line_span l) h, e) (sym (nothing_at w (trim text (line_span l)) (trim_nothing (line_span l) h)))
+  pub empty_is : (w next : Where) (l : Line) (a : Bool) → a ≡ is_empty (span l.start l.end) → a ≡ true → next ≡ below_empty w → step Nothing next ≡ step_of plain_rules text w l
+  unfolding step_of indented starts_with utf8 is_empty
+  empty_is w next l a z t e = let h = eqb-true l.start l.end (sym z ∙ t) in rw (no_bytes (line_span l) h, e) (sym (nothing_at w (trim text (line_span l)) (trim_nothing (line_span l) h)))
 
 pub ruleset front_words = (front_blank, front_comment, front_expect, front_other)
 

@@ -1,7 +1,7 @@
 -- What matters of the value of a key for its line. Assumes nothing.
 use Rattle.script.specs.Operations.{Kind, a_number, a_flag, a_quoted, a_set, some_data, a_list, a_hex, a_version, a_feature_set, a_text}
-use Rattle.roles.specs.declared.blocks.ValueKind.{ValueKind}
-use Rattle.roles.specs.declared.blocks.ValueKind.TheVariants.{Set, Data, Overrides, Other}
+use Rattle.roles.specs.declared.argument_steps.ValueKind.{ValueKind}
+use Rattle.roles.specs.declared.argument_steps.ValueKind.TheVariants.{Set, Data, Overrides, Other}
 
 unfoldable pub kind_of : Kind → ValueKind
 kind_of a_number = Other

@@ -5,6 +5,7 @@ ghost use Rattle.script.specs.Roles.{line_span, outside_step, entry_step, block_
 ghost use Rattle.script.specs.Inside.{In};
 ghost use Rattle.roles.specs.StepRead.{front_of, sorted_step, below_empty};
 
+use pieces::pieces::Piece;
 use script::roles::{Role, Step, Takes, Where};
 use text::lines::Line;
 use text::parts::Span;
@@ -29,82 +30,76 @@ pub enum Sort {
     Opening,
 }
 
-fn begins_as(text: &[u8], t: Span) -> Front
-    requires { In text.now t }
-    ensures { result ≡ front_of text.now t }
+fn begins_as(t: Piece<'_>) -> Front
+    ensures { result ≡ front_of t.entry.text.now t.entry.at }
 {
-    if t.start == t.end {
+    if t.is_empty() {
         return Front::Skipped;
     }
-    if pieces::pieces::begins(text, t, b"#") {
+    if t.starts_with(b"#") {
         return Front::Skipped;
     }
-    if pieces::pieces::begins(text, t, b"expect") {
+    if t.starts_with(b"expect") {
         return Front::Expect;
     }
     Front::Other
 }
 
 // A line with no entry open.
-fn outside_sort(text: &[u8], t: Span) -> Sort
-    requires { In text.now t }
-    ensures { sorted_step text.now result t ≡ outside_step text.now t }
+fn outside_sort(t: Piece<'_>) -> Sort
+    ensures { sorted_step t.entry.text.now result t.entry.at ≡ outside_step t.entry.text.now t.entry.at }
 {
-    if openings::is_skipped(text, t) {
+    if openings::is_skipped(t) {
         return Sort::Skipped;
     }
     Sort::Opening
 }
 
 // A line of an entry below its argument lines.
-fn entry_sort(text: &[u8], inward: bool, t: Span) -> Sort
-    requires { In text.now t }
-    ensures { sorted_step text.now result t ≡ entry_step text.now inward t }
+fn entry_sort(inward: bool, t: Piece<'_>) -> Sort
+    ensures { sorted_step t.entry.text.now result t.entry.at ≡ entry_step t.entry.text.now inward t.entry.at }
 {
     if !inward {
-        return outside_sort(text, t);
+        return outside_sort(t);
     }
-    match begins_as(text, t) {
+    match begins_as(t) {
         Front::Skipped => Sort::Passed,
         Front::Expect => Sort::Expect,
-        Front::Other => outside_sort(text, t),
+        Front::Other => outside_sort(t),
     }
 }
 
 // A line where argument lines may stand.
-fn block_sort(text: &[u8], takes: Takes, list_open: bool, inward: bool, t: Span) -> Sort
-    requires { In text.now t }
-    ensures { sorted_step text.now result t ≡ block_step plain_rules text.now takes list_open inward t }
+fn block_sort(takes: Takes, list_open: bool, inward: bool, t: Piece<'_>) -> Sort
+    ensures { sorted_step t.entry.text.now result t.entry.at ≡ block_step plain_rules t.entry.text.now takes list_open inward t.entry.at }
 {
     if !inward {
-        return outside_sort(text, t);
+        return outside_sort(t);
     }
-    match begins_as(text, t) {
+    match begins_as(t) {
         Front::Skipped => Sort::Passed,
         Front::Expect => Sort::Expect,
         Front::Other => Sort::Argument(takes, list_open),
     }
 }
 
-fn sort_of(text: &[u8], w: Where, inward: bool, t: Span) -> Sort
-    requires { In text.now t }
-    ensures { sorted_step text.now result t ≡ step_at plain_rules text.now w inward t }
+fn sort_of(w: Where, inward: bool, t: Piece<'_>) -> Sort
+    ensures { sorted_step t.entry.text.now result t.entry.at ≡ step_at plain_rules t.entry.text.now w inward t.entry.at }
 {
     match w {
         Where::InPreamble => Sort::Preamble,
-        Where::Outside => outside_sort(text, t),
-        Where::InBlock(takes, list_open) => block_sort(text, takes, list_open, inward, t),
-        Where::InEntry => entry_sort(text, inward, t),
+        Where::Outside => outside_sort(t),
+        Where::InBlock(takes, list_open) => block_sort(takes, list_open, inward, t),
+        Where::InEntry => entry_sort(inward, t),
     }
 }
 
 // What a line of that sort is.
-fn sorted_step(text: &[u8], sort: Sort, t: Span) -> Step
-    requires { In text.now t }
-    ensures { result ≡ sorted_step text.now sort t }
+fn sorted_step(sort: Sort, t: Piece<'_>) -> Step
+    ensures { result ≡ sorted_step t.entry.text.now sort t.entry.at }
 {
     match sort {
-        Sort::Preamble => preambles::preamble::preamble_step(text, t),
+        Sort::Preamble => preambles::preamble::preamble_step(t),
         Sort::Skipped => Step {
             role: Role::Nothing,
             next: Where::Outside,
@@ -114,21 +109,22 @@ fn sorted_step(text: &[u8], sort: Sort, t: Span) -> Step
             next: Where::InEntry,
         },
         Sort::Expect => Step {
-            role: expectations::expect_role(text, t),
+            role: expectations::expect_role(t),
             next: Where::InEntry,
         },
-        Sort::Argument(takes, list_open) => crate::blocks::argument_step(text, takes, list_open, t),
-        Sort::Opening => openings::opening_step(text, t),
+        Sort::Argument(takes, list_open) => crate::argument_steps::argument_step(
+            takes, list_open, t,
+        ),
+        Sort::Opening => openings::opening_step(t),
     }
 }
 
 // First the sort, then the step: so each way to make a step stands in one place, and what it makes is not copied from one to another.
-fn step_at(text: &[u8], w: Where, inward: bool, t: Span) -> Step
-    requires { In text.now t }
-    ensures { result ≡ step_at plain_rules text.now w inward t }
+fn step_at(w: Where, inward: bool, t: Piece<'_>) -> Step
+    ensures { result ≡ step_at plain_rules t.entry.text.now w inward t.entry.at }
 {
-    let sort = sort_of(text, w, inward, t);
-    sorted_step(text, sort, t)
+    let sort = sort_of(w, inward, t);
+    sorted_step(sort, t)
 }
 
 // Where the line below an empty one stands.
@@ -146,18 +142,22 @@ pub fn step(text: &[u8], w: Where, l: Line) -> Step
     requires { In text.now (line_span l) }
     ensures { result ≡ step_of plain_rules text.now w l }
 {
-    let start = l.start;
-    let end = l.end;
+    let line = Piece {
+        text,
+        at: Span {
+            start: l.start,
+            end: l.end,
+        },
+    };
     // An empty line is nothing wherever it stands: a text may have very many.
-    if start == end {
+    if line.is_empty() {
         return Step {
             role: Role::Nothing,
             next: below_empty(w),
         };
     }
-    let inward = lines::lines::indented(&text[start..end]);
-    let t = pieces::pieces::trimmed(text, Span { start, end });
-    step_at(text, w, inward, t)
+    let inward = lines::lines::indented(line.bytes());
+    step_at(w, inward, line.trimmed())
 }
 
 // The same place, made case by case. A walk carries the place from line to line by this: a plain copy reads bytes together that `step` wrote one by one,

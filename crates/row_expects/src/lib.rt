@@ -7,52 +7,35 @@ ghost use Rattle.rows.specs.Rows.{matcher_of, expect_of, expect_row};
 use rows::parts::{at, place};
 use script::records::{Expect, Matcher, Place};
 
+// Kinds are numbers, since a host hands rows of numbers (the C interface); what stands behind the last kind reads as the last.
+#[tactic(auto, unfolding(rows::specs::Rows::matcher_of))]
 fn matcher_of(kind: u64, p: Place, n: i64) -> Matcher
     ensures { result ≡ matcher_of kind p n }
 {
-    if kind == 1 {
-        return Matcher::Exact(p);
+    match kind {
+        1 => Matcher::Exact(p),
+        2 => Matcher::Regex(p),
+        3 => Matcher::GreaterThan(n),
+        4 => Matcher::LessThan(n),
+        5 => Matcher::GreaterOrEqual(n),
+        _ => Matcher::LessOrEqual(n),
     }
-    if kind == 2 {
-        return Matcher::Regex(p);
-    }
-    if kind == 3 {
-        return Matcher::GreaterThan(n);
-    }
-    if kind == 4 {
-        return Matcher::LessThan(n);
-    }
-    if kind == 5 {
-        return Matcher::GreaterOrEqual(n);
-    }
-    Matcher::LessOrEqual(n)
 }
 
+#[tactic(auto, unfolding(rows::specs::Rows::expect_of))]
 fn expect_by(kind: u64, p: Place, m: Matcher) -> Expect
     ensures { result ≡ expect_of kind p m }
 {
-    if kind == 1 {
-        return Expect::Terminal(p);
+    match kind {
+        1 => Expect::Terminal(p),
+        2 => Expect::Result(m),
+        3 => Expect::ResultField(p, m),
+        4 => Expect::Error(m),
+        5 => Expect::StderrCount(m),
+        6 => Expect::Daemon(m),
+        7 => Expect::Trust(m),
+        _ => Expect::ServerFeatures(m),
     }
-    if kind == 2 {
-        return Expect::Result(m);
-    }
-    if kind == 3 {
-        return Expect::ResultField(p, m);
-    }
-    if kind == 4 {
-        return Expect::Error(m);
-    }
-    if kind == 5 {
-        return Expect::StderrCount(m);
-    }
-    if kind == 6 {
-        return Expect::Daemon(m);
-    }
-    if kind == 7 {
-        return Expect::Trust(m);
-    }
-    Expect::ServerFeatures(m)
 }
 
 // The number of a matcher comes apart, since it has a sign.

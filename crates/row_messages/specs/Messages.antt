@@ -6,6 +6,8 @@ use Rattle.script.specs.declared.response.HandshakeInfo.{HandshakeInfo}
 use Rattle.script.specs.declared.records.Refusal.{Refusal}
 use Rattle.verdicts.specs.Told.{greeting, reply}
 use Rattle.verdicts.specs.Held.{expected_of, response_of, info_of, expect_in, response_in, info_in}
+use Rattle.verdicts.specs.Subjects.{held_by, parts_in}
+use Rattle.verdicts.specs.declared.handed.Handed.{Handed}
 use Rattle.told.specs.Told.{counted, told_of}
 use Rattle.told.specs.declared.Told.{Told}
 
@@ -27,6 +29,17 @@ module _ (text : List ℕ) (e : Expect) (bytes : List ℕ) (lists : List (List �
       (expect_in (length text) e)
       (info_in (length bytes) (counted lists) i)
       (greeting (info_of bytes (counted lists) i))
+      (expected_of text e)
+      scratch
+      buffer
+
+  -- by what it is judged against: each of the two above, for its kind
+  abbrev pub subject_told : Handed → (scratch buffer : ℕ) → Result Told Refusal
+  subject_told h scratch buffer =
+      told_of
+      (expect_in (length text) e)
+      (parts_in bytes (counted lists) h)
+      (held_by bytes (counted lists) h)
       (expected_of text e)
       scratch
       buffer

@@ -1,54 +1,35 @@
-// Message, of an expectation, a response and the handshake's information that come in rows of numbers.
+// Message, of an expectation that comes in a row of numbers.
 #![tactic(auto)]
 
 ghost use Rattle.std.specs.Prelude.{◌≡◌, length};
-ghost use Rattle.verdicts.specs.Lookup.{looked_in, told_in, present_bytes};
-ghost use Rattle.verdicts.specs.Messages.{entry_message, handshake_message};
-ghost use Rattle.verdicts.specs.Held.{expected_of, response_of, info_of};
-ghost use Rattle.rows.specs.Rows.{expect_row, response_row, info_row};
+ghost use Rattle.verdicts.specs.Lookup.{looked, present_bytes};
+ghost use Rattle.verdicts.specs.Messages.{message};
+ghost use Rattle.verdicts.specs.Held.{expected_of};
+ghost use Rattle.verdicts.specs.Subjects.{held_by};
+ghost use Rattle.rows.specs.Rows.{expect_row};
 ghost use Rattle.told.specs.Told.{counted, unless_refused};
-ghost use Rattle.row_messages.specs.Messages.{entry_told, handshake_told};
+ghost use Rattle.row_messages.specs.Messages.{subject_told};
 
 use script::records::Refusal;
 use told::Told;
+use verdicts::handed::Handed;
 
-// The message of an expectation that is judged against a response, at the front of the buffer; a present value at the front of the scratch. On a
+// The message of an expectation, by what it is judged against, at the front of the buffer; a present value at the front of the scratch. On a
 // refusal both are as they were.
-pub fn entry_message(
+pub fn message(
     text: &[u8],
     expectation: &[u64],
     n: i64,
-    response: &[u64],
+    h: Handed,
     bytes: &[u8],
     lists: &[[usize; 2]],
     scratch: &mut [u8],
     buffer: &mut [u8],
 ) -> Result<Told, Refusal>
-    ensures value { result ≡ entry_told text.now (expect_row expectation.now n) bytes.now lists.now (response_row response.now) (length scratch.old) (length buffer.old) }
-    ensures scratch_after { scratch.new ≡ unless_refused (entry_told text.now (expect_row expectation.now n) bytes.now lists.now (response_row response.now) (length scratch.old) (length buffer.old)) (present_bytes (looked_in (response_of bytes.now (counted lists.now) (response_row response.now)) (expected_of text.now (expect_row expectation.now n)))) scratch.old }
-    ensures buffer_after { buffer.new ≡ unless_refused (entry_told text.now (expect_row expectation.now n) bytes.now lists.now (response_row response.now) (length scratch.old) (length buffer.old)) (entry_message (response_of bytes.now (counted lists.now) (response_row response.now)) (expected_of text.now (expect_row expectation.now n))) buffer.old }
+    ensures value { result ≡ subject_told text.now (expect_row expectation.now n) bytes.now lists.now h (length scratch.old) (length buffer.old) }
+    ensures scratch_after { scratch.new ≡ unless_refused (subject_told text.now (expect_row expectation.now n) bytes.now lists.now h (length scratch.old) (length buffer.old)) (present_bytes (looked (held_by bytes.now (counted lists.now) h) (expected_of text.now (expect_row expectation.now n)))) scratch.old }
+    ensures buffer_after { buffer.new ≡ unless_refused (subject_told text.now (expect_row expectation.now n) bytes.now lists.now h (length scratch.old) (length buffer.old)) (message (held_by bytes.now (counted lists.now) h) (expected_of text.now (expect_row expectation.now n))) buffer.old }
 {
     let e = row_expects::expect_of(expectation, n);
-    let r = row_responses::response_of(response);
-    expect::message::entry_message(text, e, r, bytes, lists, scratch, buffer)
-}
-
-// And of one that is judged against what the handshake told.
-pub fn handshake_message(
-    text: &[u8],
-    expectation: &[u64],
-    n: i64,
-    information: &[u64],
-    bytes: &[u8],
-    lists: &[[usize; 2]],
-    scratch: &mut [u8],
-    buffer: &mut [u8],
-) -> Result<Told, Refusal>
-    ensures value { result ≡ handshake_told text.now (expect_row expectation.now n) bytes.now lists.now (info_row information.now) (length scratch.old) (length buffer.old) }
-    ensures scratch_after { scratch.new ≡ unless_refused (handshake_told text.now (expect_row expectation.now n) bytes.now lists.now (info_row information.now) (length scratch.old) (length buffer.old)) (present_bytes (told_in (info_of bytes.now (counted lists.now) (info_row information.now)) (expected_of text.now (expect_row expectation.now n)))) scratch.old }
-    ensures buffer_after { buffer.new ≡ unless_refused (handshake_told text.now (expect_row expectation.now n) bytes.now lists.now (info_row information.now) (length scratch.old) (length buffer.old)) (handshake_message (info_of bytes.now (counted lists.now) (info_row information.now)) (expected_of text.now (expect_row expectation.now n))) buffer.old }
-{
-    let e = row_expects::expect_of(expectation, n);
-    let i = row_infos::info_of(information);
-    expect::message::handshake_message(text, e, i, bytes, lists, scratch, buffer)
+    expect::message::message(text, e, h, bytes, lists, scratch, buffer)
 }

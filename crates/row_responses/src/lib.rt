@@ -36,54 +36,39 @@ fn substitutable(row: &[u64]) -> ResultData
 }
 
 // Kinds 5 and above.
+#[tactic(auto, unfolding(rows::specs::Rows::further_of))]
 fn further(kind: u64, row: &[u64]) -> ResultData
     ensures { result ≡ Rows.further_of kind row.now }
 {
-    if kind == 5 {
-        return ResultData::StringMap;
-    }
-    if kind == 6 {
-        return ResultData::None;
-    }
-    if kind == 7 {
-        return ResultData::CollectGarbage {
+    match kind {
+        5 => ResultData::StringMap,
+        6 => ResultData::None,
+        7 => ResultData::CollectGarbage {
             bytes_freed: at(row, 7),
-        };
-    }
-    if kind == 8 {
-        return substitutable(row);
-    }
-    if kind == 9 {
-        return ResultData::Missing {
+        },
+        8 => substitutable(row),
+        9 => ResultData::Missing {
             download_size: at(row, 7),
             nar_size: at(row, 8),
-        };
+        },
+        10 => ResultData::Framed,
+        _ => ResultData::Raw,
     }
-    if kind == 10 {
-        return ResultData::Framed;
-    }
-    ResultData::Raw
 }
 
+// A kind is a number, since a host hands rows of numbers (the C interface).
+#[tactic(auto, unfolding(rows::specs::Rows::result_of))]
 fn result_of(kind: u64, row: &[u64]) -> ResultData
     ensures { result ≡ Rows.result_of kind row.now }
 {
-    if kind == 0 {
-        return ResultData::Absent;
+    match kind {
+        0 => ResultData::Absent,
+        1 => ResultData::U64(at(row, 7)),
+        2 => ResultData::Str(place(at(row, 7), at(row, 8))),
+        3 => ResultData::PathInfo(path_info(row)),
+        4 => ResultData::StringSet(items(at(row, 7), at(row, 8))),
+        _ => further(kind, row),
     }
-    if kind == 1 {
-        return ResultData::U64(at(row, 7));
-    }
-    if kind == 2 {
-        return ResultData::Str(place(at(row, 7), at(row, 8)));
-    }
-    if kind == 3 {
-        return ResultData::PathInfo(path_info(row));
-    }
-    if kind == 4 {
-        return ResultData::StringSet(items(at(row, 7), at(row, 8)));
-    }
-    further(kind, row)
 }
 
 pub fn response_of(row: &[u64]) -> DaemonResponse

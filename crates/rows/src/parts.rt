@@ -5,15 +5,14 @@ ghost use Rattle.rows.specs.Rows as Rows;
 use script::records::{Items, Place};
 
 // The number at k, or 0 where the row is too short.
+#[tactic(auto, unfolding(crate::specs::Rows::at))]
 pub fn at(row: &[u64], k: usize) -> u64
     ensures { result ≡ Rows.at row.now k }
 {
-    if k < row.len() {
-        return row[k];
-    }
-    0
+    row.get(k).copied().unwrap_or(0)
 }
 
+#[tactic(auto, unfolding(crate::specs::Rows::place_of))]
 pub fn place(start: u64, len: u64) -> Place
     ensures { result ≡ Rows.place_of start len }
 {
@@ -23,6 +22,7 @@ pub fn place(start: u64, len: u64) -> Place
     }
 }
 
+#[tactic(auto, unfolding(crate::specs::Rows::items_of))]
 pub fn items(first: u64, count: u64) -> Items
     ensures { result ≡ Rows.items_of first count }
 {
@@ -32,29 +32,23 @@ pub fn items(first: u64, count: u64) -> Items
     }
 }
 
+#[tactic(auto, unfolding(crate::specs::Rows::maybe_of))]
 pub fn maybe(present: u64, start: u64, len: u64) -> Option<Place>
     ensures { result ≡ Rows.maybe_of present start len }
 {
-    if present == 0 {
-        return None;
-    }
-    Some(place(start, len))
+    (present != 0).then_some(place(start, len))
 }
 
+#[tactic(auto, unfolding(crate::specs::Rows::maybe_items_of))]
 pub fn maybe_items(present: u64, first: u64, count: u64) -> Option<Items>
     ensures { result ≡ Rows.maybe_items_of present first count }
 {
-    if present == 0 {
-        return None;
-    }
-    Some(items(first, count))
+    (present != 0).then_some(items(first, count))
 }
 
+#[tactic(auto, unfolding(crate::specs::Rows::maybe_number_of))]
 pub fn maybe_number(present: u64, n: u64) -> Option<u64>
     ensures { result ≡ Rows.maybe_number_of present n }
 {
-    if present == 0 {
-        return None;
-    }
-    Some(n)
+    (present != 0).then_some(n)
 }

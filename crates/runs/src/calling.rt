@@ -15,7 +15,7 @@ use judge::calls::Turn;
 use judge::tally::Tally;
 use script::records::{Entry, Expectation, Script};
 
-// One call of a row: it is lent the front part of the scratch that it asks for.
+// One call of a row: it is lent the front part of the scratch that it asks for. Its kind is a number, since a host hands rows of numbers (the C interface).
 pub fn one_call(
     t: Tally,
     text: &[u8],
@@ -87,15 +87,14 @@ pub fn run_calls(
     ensures scratch_after { scratch.new ≡ scratch_run (judge_step (record { text = text.entry.now; script = script; entries = entries.now; expectations = expectations.now })) (scratch_call (record { text = text.entry.now; script = script; entries = entries.now; expectations = expectations.now })) (judge_start verdicts.old) (calls_of bytes.now lists.now calls.now) scratch.old }
 {
     let mut t = Tally::new();
-    let mut i: usize = 0;
-    while i < calls.len() {
+    for (i, row) in calls.iter().enumerate() {
         let turn = one_call(
             t,
             text,
             script,
             entries,
             expectations,
-            calls[i],
+            *row,
             bytes,
             lists,
             verdicts,
@@ -103,7 +102,6 @@ pub fn run_calls(
         );
         t = turn.tally;
         answers[i] = answer_code(turn.answer);
-        i += 1;
     }
     t
 }

@@ -1,108 +1,83 @@
-// The values that were said so far, by key: two lists of numbers, where the last value of each key starts and where it ends.
-ghost use Rattle.std.specs.Prelude.{◌≡◌, ◌<◌, get_or, Some};
+// The values that were said, by key: those of the lines so far, and the same with the text in which they lie.
+ghost use Rattle.std.specs.Prelude.{◌≡◌, ◌<◌, IfSome, None, option_map};
 ghost use Rattle.script.specs.Operations.{key_row};
-ghost use Rattle.script.specs.Contents.{number_of, flag_of};
-ghost use Rattle.script.specs.Inside.{In};
-ghost use Rattle.said.specs.Said.{piece_at, SaidIn};
+ghost use Rattle.script.specs.Contents.{number_of, flag_of, value_or};
+ghost use Rattle.script.specs.declared.roles.Saying.TheVariants as Saying;
+ghost use Rattle.said.specs.Said.{said_of, SaidIn};
 
+use pieces::pieces::Piece;
 use script::roles::Key;
 use text::parts::Span;
 
-// The place of a key in both lists, which have 33 numbers: the keys are numbered from 1.
+// The place of a key among 33: the keys are numbered from 1.
+#[tactic(auto, unfolding(script::specs::Operations::key_row))]
 pub fn key_number(k: Key) -> usize
     ensures value { result ≡ (key_row k).number }
     ensures upper_bound { result < 33 }
 {
-    match k {
-        Key::KeepFailed => 1,
-        Key::KeepGoing => 2,
-        Key::TryFallback => 3,
-        Key::Verbosity => 4,
-        Key::MaxBuildJobs => 5,
-        Key::MaxSilentTime => 6,
-        Key::UseBuildHook => 7,
-        Key::VerboseBuild => 8,
-        Key::LogType => 9,
-        Key::PrintBuildTrace => 10,
-        Key::BuildCores => 11,
-        Key::UseSubstitutes => 12,
-        Key::Overrides => 13,
-        Key::Action => 14,
-        Key::Paths => 15,
-        Key::IgnoreLiveness => 16,
-        Key::MaxFreed => 17,
-        Key::CheckContents => 18,
-        Key::Repair => 19,
-        Key::Suffix => 20,
-        Key::Text => 21,
-        Key::Refs => 22,
-        Key::Name => 23,
-        Key::CamStr => 24,
-        Key::Data => 25,
-        Key::DontCheckSigs => 26,
-        Key::Raw => 32,
-        Key::Protocol => 27,
-        Key::Features => 28,
-        Key::DaemonVersion => 29,
-        Key::TrustStatus => 30,
-        Key::ServerFeatures => 31,
+    k as usize
+}
+
+// The last value of each key in the lines so far, by the key's number.
+#[derive(Drop)]
+pub struct Heard {
+    pub values: [Option<Span>; 33],
+}
+
+impl Heard {
+    // Nothing is said yet.
+    pub fn new() -> Heard
+        ensures { (k : _) → said_of result k ≡ None }
+    {
+        Heard { values: [None; 33] }
+    }
+
+    // The value of a key, which overwrites the one that it had.
+    #[tactic(auto, using(crate::proofs::SaidLaws::value_said))]
+    pub fn keep(&mut self, k: Key, v: Span)
+        ensures { (j : _) → said_of self.new j ≡ value_or j (Saying.Known k v) (said_of self.old j) }
+    {
+        self.values[key_number(k)] = Some(v);
     }
 }
 
-// The number at a place, or another where the list is shorter.
-fn number_at(s: &[usize], n: usize, other: usize) -> usize
-    ensures { result ≡ get_or s.now n other }
-{
-    if n < s.len() {
-        return s[n];
-    }
-    other
+// What was said, in the text: each value lies inside it.
+#[derive(Clone, Copy)]
+pub struct Said<'a> {
+    pub text: &'a [u8],
+    pub heard: &'a Heard,
+    pub ghost inside: { SaidIn text.now heard.now },
 }
 
-// The last value of the key.
-pub fn value_of(starts: &[usize], ends: &[usize], k: Key) -> Option<Span>
-    ensures { result ≡ piece_at starts.now ends.now k }
-{
-    let n = key_number(k);
-    let start = number_at(starts, n, 1);
-    let end = number_at(ends, n, 0);
-    if end < start {
-        return None;
+impl<'a> Said<'a> {
+    // The last value of the key.
+    #[tactic(auto, unfolding(crate::specs::Said::said_of))]
+    pub fn value(self, k: Key) -> Option<Piece<'a>>
+        ensures place { option_map (λ v. v.at) result ≡ said_of self.entry.heard.now k }
+        ensures text { IfSome result (λ v. v.text.now ≡ self.entry.text.now) }
+    {
+        let at = self.heard.values[key_number(k)]?;
+        Some(Piece {
+            text: self.text,
+            at,
+        })
     }
-    Some(Span { start, end })
-}
 
-// A number that cannot be read is 0.
-fn number_in(text: &[u8], v: Span) -> u64
-    requires { In text.now v }
-    ensures { result ≡ number_of text.now (Some v) }
-{
-    let start = v.start;
-    let end = v.end;
-    match values::number::parse_up_to(&text[start..end], u64::MAX) {
-        Some(n) => n,
-        None => 0,
+    // The number of the key: 0 where it was not said, or cannot be read.
+    #[tactic(auto, unfolding(script::specs::Contents::number_of))]
+    pub fn number(self, k: Key) -> u64
+        ensures { result ≡ number_of self.entry.text.now (said_of self.entry.heard.now k) }
+    {
+        self.value(k)
+            .and_then(|v| values::number::parse_up_to(v.bytes(), u64::MAX))
+            .unwrap_or(0)
     }
-}
 
-// The number of the key, 0 where it was not said.
-pub fn number_of(text: &[u8], starts: &[usize], ends: &[usize], k: Key) -> u64
-    requires { SaidIn text.now starts.now ends.now }
-    ensures { result ≡ number_of text.now (piece_at starts.now ends.now k) }
-{
-    match value_of(starts, ends, k) {
-        None => 0,
-        Some(v) => number_in(text, v),
-    }
-}
-
-// A flag is on where it was said, unless its value is exactly `0`.
-pub fn flag_of(text: &[u8], starts: &[usize], ends: &[usize], k: Key) -> bool
-    requires { SaidIn text.now starts.now ends.now }
-    ensures { result ≡ flag_of text.now (piece_at starts.now ends.now k) }
-{
-    match value_of(starts, ends, k) {
-        None => false,
-        Some(v) => !pieces::pieces::is_word(text, v, b"0"),
+    // A flag is on where it was said, unless its value is exactly `0`.
+    #[tactic(auto, using(text::proofs::LiteralLaws::spells_as), unfolding(script::specs::Contents::flag_of, script::specs::Pieces::is))]
+    pub fn flag(self, k: Key) -> bool
+        ensures { result ≡ flag_of self.entry.text.now (said_of self.entry.heard.now k) }
+    {
+        self.value(k).is_some_and(|v| !v.is_word(b"0"))
     }
 }

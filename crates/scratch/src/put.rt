@@ -1,7 +1,7 @@
 // The bytes of a value, written at the start of a lent scratch.
-ghost use Rattle.std.specs.Prelude.{◌≡◌, ◌+◌, ◌≤◌, length};
+ghost use Rattle.std.specs.Prelude.{◌≡◌, ◌≤◌, length};
 ghost use Rattle.text.specs.Base.{overlaid};
-ghost use Rattle.written.specs.Written.{written_at};
+ghost use Rattle.written.specs.Writing.{Room, wrote};
 ghost use Rattle.sought.specs.Values.{value_text};
 
 use decimals::decimal::put_decimal;
@@ -9,29 +9,23 @@ use lists::items::items_at;
 use lists::joined::{put_braced, put_bracketed};
 use sought::value::Value;
 use texts::text_at;
-use writing::words::put_word;
+use written::Writer;
 
-// Writes a value from `at` on, and says where the next byte goes.
-pub fn write_value_at(
-    v: Value,
-    bytes: &[u8],
-    lists: &[[usize; 2]],
-    out: &mut [u8],
-    at: usize,
-) -> usize
-    requires { at + length (value_text bytes.now lists.now v) ≤ length out.old }
-    ensures value { result ≡ at + length (value_text bytes.now lists.now v) }
-    ensures out_after { out.new ≡ written_at at (value_text bytes.now lists.now v) out.old }
+// Writes a value where the writer is.
+#[tactic(auto, unfolding(sought::specs::Values::value_text, sought::specs::Values::value_bytes, text::specs::Literal::utf8, text::specs::Unicode::encoded), using(written::proofs::WriterLaws::wrote_none))]
+pub fn write_value_at(v: Value, bytes: &[u8], lists: &[[usize; 2]], w: &mut Writer<u8>)
+    requires { Room (length (value_text bytes.now lists.now v)) w.old }
+    ensures { w.new ≡ wrote (value_text bytes.now lists.now v) w.old }
 {
     match v {
-        Value::Missing => at,
-        Value::Number(n) => put_decimal(n, out, at),
-        Value::Text(p) => put_word(text_at(bytes, p), out, at),
-        Value::Unknown => put_word(b"unknown", out, at),
-        Value::Trusted => put_word(b"trusted", out, at),
-        Value::NotTrusted => put_word(b"not-trusted", out, at),
-        Value::List(r) => put_bracketed(bytes, items_at(lists, r), out, at),
-        Value::Features(r) => put_braced(bytes, items_at(lists, r), out, at),
+        Value::Missing => {}
+        Value::Number(n) => put_decimal(n, w),
+        Value::Text(p) => w.put(text_at(bytes, p)),
+        Value::Unknown => w.put(b"unknown"),
+        Value::Trusted => w.put(b"trusted"),
+        Value::NotTrusted => w.put(b"not-trusted"),
+        Value::List(r) => put_bracketed(bytes, items_at(lists, r), w),
+        Value::Features(r) => put_braced(bytes, items_at(lists, r), w),
     }
 }
 
@@ -41,7 +35,9 @@ pub fn write_value(v: Value, bytes: &[u8], lists: &[[usize; 2]], scratch: &mut [
     ensures value { result ≡ length (value_text bytes.now lists.now v) }
     ensures scratch_after { scratch.new ≡ overlaid (value_text bytes.now lists.now v) scratch.old }
 {
-    write_value_at(v, bytes, lists, scratch, 0)
+    let mut w = Writer::new(scratch);
+    write_value_at(v, bytes, lists, &mut w);
+    w.position()
 }
 
 // The same, and what is returned is the written part of that scratch.

@@ -58,9 +58,10 @@ pub enum FramedData {
     FileRef(Place),
 }
 
-// A timestamp: its sign, all its digits as one number, and how many of them are decimals.
+// A timestamp: its sign, all its digits as one number, and how many of them are decimals. The sign is a field of its own, for `-0` has one too.
 #[derive(Clone, Copy)]
 pub struct Time {
+    // The sign apart, since `-0` and `0` are two (the paper's record).
     pub negative: bool,
     pub digits: u64,
     pub decimals: i64,

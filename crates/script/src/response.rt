@@ -3,8 +3,10 @@
 use crate::records::{Items, Place};
 use version::ProtocolVersion;
 
+// `valid`, here and below, is the Rust's field of that name: what stands beside it is looked up whatever it says.
 #[derive(Clone, Copy)]
 pub struct PathInfoResult {
+    // A field of the Rust's, beside which each of the others may stand or not.
     pub valid: bool,
     pub deriver: Option<Place>,
     pub nar_hash: Option<Place>,

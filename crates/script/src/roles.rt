@@ -4,46 +4,46 @@ use crate::refusals::Reason;
 use text::parts::Span;
 use wire::ops::Op;
 
-// The keys of argument lines, and of the preamble's lines.
+// The keys of argument lines, and of the preamble's lines, by number.
 #[derive(Clone, Copy)]
 pub enum Key {
-    KeepFailed,
-    KeepGoing,
-    TryFallback,
-    Verbosity,
-    MaxBuildJobs,
-    MaxSilentTime,
-    UseBuildHook,
-    VerboseBuild,
-    LogType,
-    PrintBuildTrace,
-    BuildCores,
-    UseSubstitutes,
-    Overrides,
-    Action,
-    Paths,
-    IgnoreLiveness,
-    MaxFreed,
-    CheckContents,
-    Repair,
-    Suffix,
-    Text,
-    Refs,
-    Name,
-    CamStr,
-    Data,
-    DontCheckSigs,
-    Raw,
-    Protocol,
-    Features,
-    DaemonVersion,
-    TrustStatus,
-    ServerFeatures,
+    KeepFailed = 1,
+    KeepGoing = 2,
+    TryFallback = 3,
+    Verbosity = 4,
+    MaxBuildJobs = 5,
+    MaxSilentTime = 6,
+    UseBuildHook = 7,
+    VerboseBuild = 8,
+    LogType = 9,
+    PrintBuildTrace = 10,
+    BuildCores = 11,
+    UseSubstitutes = 12,
+    Overrides = 13,
+    Action = 14,
+    Paths = 15,
+    IgnoreLiveness = 16,
+    MaxFreed = 17,
+    CheckContents = 18,
+    Repair = 19,
+    Suffix = 20,
+    Text = 21,
+    Refs = 22,
+    Name = 23,
+    CamStr = 24,
+    Data = 25,
+    DontCheckSigs = 26,
+    Raw = 32,
+    Protocol = 27,
+    Features = 28,
+    DaemonVersion = 29,
+    TrustStatus = 30,
+    ServerFeatures = 31,
 }
 
 // Which lines below an operation are its arguments: none; lines with the keys of one of the six keyword operations; lines up to the first with the key
 // `data`; lines up to the first that begins with `raw x"`.
-#[derive(Clone, Copy)]
+#[derive(Clone, Copy, PartialEq, Eq)]
 pub enum Takes {
     NoLines,
     Options,
@@ -58,7 +58,7 @@ pub enum Takes {
 
 // Where a line stands: above the `---` line; below it with no entry open; right below an operation that takes such lines, with an override list open or
 // not; below the argument lines of an entry.
-#[derive(Clone, Copy)]
+#[derive(Clone, Copy, PartialEq, Eq)]
 pub enum Where {
     InPreamble,
     Outside,

@@ -1,4 +1,5 @@
 -- Which value is meant: of a flag, of a field by its name. Assumes nothing.
+use mir.Val.{bool_byte}
 use Rattle.std.specs.Prelude.{None, Option, Some, unwrap_or}
 use Prim.Native.Nat.{ℕ}
 use Prim.Native.String.{String}
@@ -17,13 +18,10 @@ use Rattle.sought.specs.Values.{value_bytes, value_text}
 use Rattle.sought.specs.declared.value.Value.{Value}
 
 -- a flag is a number of one digit
-pub flag-on : (b : Bool) → b ≡ true → decimal 1 ≡ flag b
+pub flag_digit : (b : Bool) → decimal (bool_byte b) ≡ flag b
 unfolding flag utf8 encoded
-flag-on b e = decimal-small 1 (omega arith) ∙ ap flag (sym e)
-
-pub flag_off : (b : Bool) → b ≡ false → decimal 0 ≡ flag b
-unfolding flag utf8 encoded
-flag_off b e = decimal-small 0 (omega arith) ∙ ap flag (sym e)
+flag_digit true = decimal-small 1 (omega arith)
+flag_digit false = decimal-small 0 (omega arith)
 
 -- what a test of a name found
 pub told_same : (w : String) (s : List ℕ) (t u : Bool) → t ≡ same_bytes s (codes w) → t ≡ u → spells w s ≡ u

@@ -15,20 +15,16 @@ fn path_info_value(p: PathInfoResult, field: &[u8]) -> Value
         return flag_value(p.valid);
     }
     if same(field, b"deriver") {
-        let deriver = p.deriver;
-        return text_value(deriver);
+        return text_value(p.deriver);
     }
     if same(field, b"narHash") {
-        let nar_hash = p.nar_hash;
-        return text_value(nar_hash);
+        return text_value(p.nar_hash);
     }
     if same(field, b"narSize") {
-        let nar_size = p.nar_size;
-        return number_value(nar_size);
+        return number_value(p.nar_size);
     }
     if same(field, b"references") {
-        let references = p.references;
-        return list_value(references);
+        return list_value(p.references);
     }
     Value::Missing
 }
@@ -75,17 +71,12 @@ fn missing_value(download_size: u64, nar_size: u64, field: &[u8]) -> Value
 }
 
 // The value of a field, missing where the result has none of that name.
+#[tactic(auto, unfolding(crate::specs::Values::value_bytes, verdicts::specs::Lookup::value_in, verdicts::specs::Lookup::fields, verdicts::specs::Held::result_of))]
 pub fn field_value(res: ResultData, field: &[u8]) -> Value
     ensures { Means result (λ bytes lists. value_in (fields (result_of bytes lists res)) field.now) }
 {
     match res {
-        ResultData::Absent => Value::Missing,
-        ResultData::U64(_) => Value::Missing,
-        ResultData::Str(_) => Value::Missing,
         ResultData::PathInfo(p) => path_info_value(p, field),
-        ResultData::StringSet(_) => Value::Missing,
-        ResultData::StringMap => Value::Missing,
-        ResultData::None => Value::Missing,
         ResultData::CollectGarbage { bytes_freed } => collect_garbage_value(bytes_freed, field),
         ResultData::SubstitutablePathInfo {
             valid,
@@ -96,7 +87,13 @@ pub fn field_value(res: ResultData, field: &[u8]) -> Value
             download_size,
             nar_size,
         } => missing_value(download_size, nar_size, field),
-        ResultData::Framed => Value::Missing,
-        ResultData::Raw => Value::Missing,
+        ResultData::Absent
+        | ResultData::U64(_)
+        | ResultData::Str(_)
+        | ResultData::StringSet(_)
+        | ResultData::StringMap
+        | ResultData::None
+        | ResultData::Framed
+        | ResultData::Raw => Value::Missing,
     }
 }

@@ -22,13 +22,11 @@ pub enum Value {
 }
 
 // A flag is the number 1 or 0.
+#[tactic(auto, unfolding(crate::specs::Values::value_bytes, verdicts::specs::Lookup::flag, values::specs::Decimal::decimal, text::specs::Literal::utf8, text::specs::Unicode::encoded))]
 pub fn flag_value(b: bool) -> Value
     ensures { Means result (λ bytes lists. Some (flag b)) }
 {
-    if b {
-        return Value::Number(1);
-    }
-    Value::Number(0)
+    Value::Number(u64::from(b))
 }
 
 #[tactic(auto, unfolding(crate::specs::Values::value_bytes, verdicts::specs::Held::text_given))]
@@ -53,21 +51,22 @@ pub fn list_value(m: Option<Items>) -> Value
 }
 
 // The value of a result where no field is named.
+#[tactic(auto, unfolding(crate::specs::Values::value_bytes, verdicts::specs::Lookup::whole_value, verdicts::specs::Held::result_of))]
 pub fn whole_value(res: ResultData) -> Value
     ensures { Means result (λ bytes lists. whole_value (result_of bytes lists res)) }
 {
     match res {
-        ResultData::Absent => Value::Missing,
         ResultData::U64(n) => Value::Number(n),
         ResultData::Str(p) => Value::Text(p),
-        ResultData::PathInfo(_) => Value::Missing,
         ResultData::StringSet(r) => Value::List(r),
-        ResultData::StringMap => Value::Missing,
-        ResultData::None => Value::Missing,
-        ResultData::CollectGarbage { .. } => Value::Missing,
-        ResultData::SubstitutablePathInfo { .. } => Value::Missing,
-        ResultData::Missing { .. } => Value::Missing,
-        ResultData::Framed => Value::Missing,
-        ResultData::Raw => Value::Missing,
+        ResultData::Absent
+        | ResultData::PathInfo(_)
+        | ResultData::StringMap
+        | ResultData::None
+        | ResultData::CollectGarbage { .. }
+        | ResultData::SubstitutablePathInfo { .. }
+        | ResultData::Missing { .. }
+        | ResultData::Framed
+        | ResultData::Raw => Value::Missing,
     }
 }

@@ -1,83 +1,83 @@
 // Timestamps: the number between `@` and `ms`.
-ghost use Rattle.std.specs.Prelude.{◌≡◌, [], ◌+◌, ◌*◌, ◌^◌, ◌≤◌, length, drop};
-ghost use Rattle.values.specs.Numbers.{decimal_from};
-ghost use Rattle.script.specs.Timestamps.{run, digit_run, fraction, unsigned, negative, no_finite, exponent};
+ghost use Rattle.std.specs.Prelude.{◌≡◌, true, ◌+◌, ◌*◌, ◌^◌, ◌≤◌, length};
+ghost use Rattle.values.specs.Numbers.{all_digits, decimal_from};
+ghost use Rattle.script.specs.Timestamps.{run, digit_run, fraction, unsigned, negative, no_finite, some_digits, exponent};
 ghost use Rattle.script.specs.Timestamps as definition;
 
 use script::records::Time;
 use script::refusals::Reason;
 
-// Where the digits from `at` on end.
-fn digit_run(s: &[u8], at: usize) -> usize
-    ensures value { result ≡ at + length (digit_run (drop at s.now)).digits }
-    ensures s_value { drop result s.now ≡ (digit_run (drop at s.now)).rest }
+// The digits at the front, and what follows them.
+fn digit_run(s: &[u8]) -> (&[u8], &[u8])
+    ensures { run result.0.now result.1.now ≡ digit_run s.now }
 {
-    for i in at..s.len() {
+    for i in 0..s.len() {
         if !s[i].is_ascii_digit() {
-            return i;
+            return (&s[..i], &s[i..]);
         }
     }
-    at.max(s.len())
+    (s, &[])
 }
 
-// The number that the digits from `at` on spell, after those that spelled `before`: all of them together are at most 18.
-fn spelt(s: &[u8], at: usize, before: u64) -> u64
-    requires { (before + 1) * 10 ^ length (digit_run (drop at s.now)).digits ≤ 10 ^ 18 }
-    ensures { result ≡ decimal_from before (digit_run (drop at s.now)).digits }
+// The same behind a dot, if there is one.
+#[tactic(auto, unfolding(script::specs::Timestamps::fraction))]
+fn fraction(s: &[u8]) -> (&[u8], &[u8])
+    ensures { run result.0.now result.1.now ≡ fraction s.now }
+{
+    match s {
+        [b'.', rest @ ..] => digit_run(rest),
+        _ => (&[], s),
+    }
+}
+
+// The number that the digits spell, after those that spelled `before`: all of them together are at most 18.
+fn spelt(digits: &[u8], before: u64) -> u64
+    requires all { all_digits digits.now ≡ true }
+    requires room { (before + 1) * 10 ^ length digits.now ≤ 10 ^ 18 }
+    ensures { result ≡ decimal_from before digits.now }
 {
     let mut number = before;
-    for i in at..s.len() {
-        if !s[i].is_ascii_digit() {
-            return number;
-        }
-        number = number * 10 + u64::from(s[i] - b'0');
+    for x in digits {
+        number = number * 10 + u64::from(x - b'0');
     }
     number
 }
 
-// Whether s from `at` on is `inf`, `infinity` or `nan`.
-fn no_finite(s: &[u8], at: usize) -> bool
-    ensures { result ≡ no_finite (drop at s.now) }
+// Whether s is `inf`, `infinity` or `nan`.
+fn no_finite(s: &[u8]) -> bool
+    ensures { result ≡ no_finite s.now }
 {
-    let Some(word) = s.get(at..) else {
-        return false;
-    };
-    word.eq_ignore_ascii_case(b"inf")
-        || word.eq_ignore_ascii_case(b"infinity")
-        || word.eq_ignore_ascii_case(b"nan")
+    s.eq_ignore_ascii_case(b"inf")
+        || s.eq_ignore_ascii_case(b"infinity")
+        || s.eq_ignore_ascii_case(b"nan")
 }
 
-// The place behind the sign, if one stands at `at`.
-#[tactic(auto, using(text::proofs::Scan::rest_more), unfolding(script::specs::Timestamps::unsigned))]
-fn behind_sign(s: &[u8], at: usize) -> usize
-    ensures { drop result s.now ≡ unsigned (drop at s.now) }
+// What stands behind the sign, if there is one in front.
+#[tactic(auto, unfolding(script::specs::Timestamps::unsigned))]
+fn behind_sign(s: &[u8]) -> &[u8]
+    ensures { result.now ≡ unsigned s.now }
 {
-    match s.get(at) {
-        Some(b'+' | b'-') => at + 1,
-        _ => at,
+    match s {
+        [b'+' | b'-', rest @ ..] => rest,
+        _ => s,
     }
 }
 
-// The place behind the dot, if one stands at `at`, where no digit stands.
-#[tactic(auto, using(text::proofs::Scan::rest_more), unfolding(script::specs::Timestamps::fraction))]
-fn behind_dot(s: &[u8], at: usize) -> usize
-    requires { digit_run (drop at s.now) ≡ run [] (drop at s.now) }
-    ensures s_value { digit_run (drop result s.now) ≡ fraction (drop at s.now) }
-    ensures lower_bound { at ≤ result }
+// Whether s is digits, and at least one.
+fn some_digits(s: &[u8]) -> bool
+    ensures { result ≡ some_digits s.now }
 {
-    if s.get(at) == Some(&b'.') { at + 1 } else { at }
+    let (digits, rest) = digit_run(s);
+    !digits.is_empty() && rest.is_empty()
 }
 
-// Whether s from `at` on is an exponent.
-#[tactic(auto, using(text::proofs::Scan::rest_more, crate::proofs::TimeLaws::no_digits, crate::proofs::TimeLaws::digits_end), unfolding(script::specs::Timestamps::exponent, script::specs::Timestamps::small, text::specs::Base::within))]
-fn has_exponent(s: &[u8], at: usize) -> bool
-    ensures { result ≡ exponent (drop at s.now) }
+// Whether s is an exponent.
+#[tactic(auto, unfolding(script::specs::Timestamps::exponent, script::specs::Timestamps::small, text::specs::Base::within))]
+fn is_exponent(s: &[u8]) -> bool
+    ensures { result ≡ exponent s.now }
 {
-    match s.get(at) {
-        Some(b'e' | b'E') => {
-            let from = behind_sign(s, at + 1);
-            from < s.len() && digit_run(s, from) == s.len()
-        }
+    match s {
+        [b'e' | b'E', more @ ..] => some_digits(behind_sign(more)),
         _ => false,
     }
 }
@@ -94,20 +94,18 @@ fn is_negative(s: &[u8]) -> bool
 pub fn time(s: &[u8]) -> Result<Time, Reason>
     ensures { result ≡ definition.time s.now }
 {
-    let at = behind_sign(s, 0);
-    if no_finite(s, at) {
+    let unsigned = behind_sign(s);
+    if no_finite(unsigned) {
         return Err(Reason::NotCarried);
     }
-    let end = digit_run(s, at);
-    let from = behind_dot(s, end);
-    let last = digit_run(s, from);
-    let decimals = last - from;
-    let count = (end - at) + decimals;
+    let (whole, behind) = digit_run(unsigned);
+    let (decimals, rest) = fraction(behind);
+    let count = whole.len() + decimals.len();
     if count == 0 {
         return Err(Reason::NoF64);
     }
-    if last < s.len() {
-        if has_exponent(s, last) {
+    if !rest.is_empty() {
+        if is_exponent(rest) {
             return Err(Reason::NotCarried);
         }
         return Err(Reason::NoF64);
@@ -115,10 +113,9 @@ pub fn time(s: &[u8]) -> Result<Time, Reason>
     if 18 < count {
         return Err(Reason::NotCarried);
     }
-    let whole = spelt(s, at, 0);
     Ok(Time {
         negative: is_negative(s),
-        digits: spelt(s, from, whole),
-        decimals: decimals as i64,
+        digits: spelt(decimals, spelt(whole, 0)),
+        decimals: decimals.len() as i64,
     })
 }

@@ -2,13 +2,15 @@
 #![tactic(auto)]
 
 ghost use Rattle.std.specs.Prelude.{◌≡◌, ◌+◌, ◌<◌};
-ghost use Rattle.said.specs.Said.{piece_at, SaidIn};
+ghost use Rattle.said.specs.Said.{said_of};
 ghost use Rattle.records.specs.Records.{texts_record, store_record, multiple_record};
 
 use records::calls::{Sizes, framed_of, placed, range_of};
+use said::said::Said;
 use script::records::OpCall;
 use script::roles::Key;
 
+#[tactic(auto, unfolding(records::specs::Records::texts_record))]
 pub fn texts_call(i: usize, b: usize, z: Sizes) -> OpCall
     requires { b + z.first + z.second < 0x1_0000_0000_0000_0000 }
     ensures { result ≡ texts_record i b z }
@@ -20,17 +22,10 @@ pub fn texts_call(i: usize, b: usize, z: Sizes) -> OpCall
     }
 }
 
-pub fn store_call(
-    text: &[u8],
-    starts: &[usize],
-    ends: &[usize],
-    i: usize,
-    b: usize,
-    z: Sizes,
-) -> OpCall
-    requires said_in { SaidIn text.now starts.now ends.now }
-    requires second_bound { b + z.first + z.second < 0x1_0000_0000_0000_0000 }
-    ensures { result ≡ store_record text.now (piece_at starts.now ends.now) i b z }
+#[tactic(auto, unfolding(records::specs::Records::store_record))]
+pub fn store_call(said: Said<'_>, i: usize, b: usize, z: Sizes) -> OpCall
+    requires { b + z.first + z.second < 0x1_0000_0000_0000_0000 }
+    ensures { result ≡ store_record said.entry.text.now (said_of said.entry.heard.now) i b z }
 {
     let second = b + z.first;
     let third = second + z.second;
@@ -38,18 +33,18 @@ pub fn store_call(
         name: placed(b, z.first),
         cam_str: placed(second, z.second),
         refs: range_of(i, z.items),
-        repair: said::said::flag_of(text, starts, ends, Key::Repair),
-        data: framed_of(text, starts, ends, third, z.third),
+        repair: said.flag(Key::Repair),
+        data: framed_of(said, third, z.third),
     }
 }
 
-pub fn multiple_call(text: &[u8], starts: &[usize], ends: &[usize], b: usize, n: usize) -> OpCall
-    requires { SaidIn text.now starts.now ends.now }
-    ensures { result ≡ multiple_record text.now (piece_at starts.now ends.now) b n }
+#[tactic(auto, unfolding(records::specs::Records::multiple_record))]
+pub fn multiple_call(said: Said<'_>, b: usize, n: usize) -> OpCall
+    ensures { result ≡ multiple_record said.entry.text.now (said_of said.entry.heard.now) b n }
 {
     OpCall::AddMultipleToStore {
-        repair: said::said::flag_of(text, starts, ends, Key::Repair),
-        dont_check_sigs: said::said::flag_of(text, starts, ends, Key::DontCheckSigs),
-        data: framed_of(text, starts, ends, b, n),
+        repair: said.flag(Key::Repair),
+        dont_check_sigs: said.flag(Key::DontCheckSigs),
+        data: framed_of(said, b, n),
     }
 }

@@ -22,7 +22,7 @@ use Rattle.script.specs.declared.roles.Saying.{Saying}
 use Rattle.records.specs.Records.{sizes_of, record_of}
 use Rattle.records.specs.declared.calls.Sizes.{Sizes}
 use Rattle.records.proofs.RecordLaws.{record_laid}
-use Rattle.stored.specs.Closing.{set_items, first_stored, second_stored, third_stored, stored, sizes_for, pairs_for, entry_record, front_of}
+use Rattle.stored.specs.Closing.{set_items, first_stored, second_stored, third_stored, stored, sizes_with, sizes_for, pairs_for, entry_record, front_of}
 use Rattle.stored.proofs.WriteLaws.{alone}
 
 module _ (text : List ℕ) (op : Op) (args : Span) (i b : ℕ) (ss : List Saying) where
@@ -51,7 +51,7 @@ module _ (text : List ℕ) (op : Op) (args : Span) (i b : ℕ) (ss : List Saying
   items_are raw_bytes = refl
 
   -- the bytes of the store
-  store_is : (sh : Shape) → (laid i b (call_of plain_rules text sh op args ss)).store ≡ stored text args (λ k. value_of k ss) sh
+  store_is : (sh : Shape) → (laid i b (call_of plain_rules text sh op args ss)).store ≡ stored text (λ k. value_of k ss) sh
   unfolding laid call_of stored first_stored second_stored third_stored
   store_is single_path = refl
   store_is single_string = refl
@@ -76,7 +76,7 @@ module _ (text : List ℕ) (op : Op) (args : Span) (i b : ℕ) (ss : List Saying
 
   -- how many items and bytes
   sizes_are : (sh : Shape) → sizes_for text args (λ k. value_of k ss) (length (pairs_for sh ss)) sh ≡ sizes_of (call_of plain_rules text sh op args ss)
-  unfolding sizes_for sizes_of call_of pairs_for set_items first_stored second_stored third_stored
+  unfolding sizes_for sizes_with sizes_of call_of pairs_for set_items first_stored second_stored third_stored
   sizes_are single_path = refl
   sizes_are single_string = refl
   sizes_are path_set = rw (zero-add (length (items_in text args)))
@@ -100,15 +100,15 @@ module _ (text : List ℕ) (op : Op) (args : Span) (i b : ℕ) (ss : List Saying
 
 -- the bytes of the values are those of the store
 module _ (text : List ℕ) (args : Span) (value : Key → Option Span) (pairs : ℕ) (sh : Shape) (z : Sizes) (e : z ≡ sizes_for text args value pairs sh) where
-  pub sizes-sum : z.first + z.second + z.third ≡ length (stored text args value sh)
-  unfolding sizes_for stored
+  pub sizes-sum : z.first + z.second + z.third ≡ length (stored text value sh)
+  unfolding sizes_for sizes_with stored
   sizes-sum =
-      let a = length-append (first_stored text args value sh ++ second_stored text args value sh) (third_stored text args value sh) in
-      let b = length-append (first_stored text args value sh) (second_stored text args value sh) in
+      let a = length-append (first_stored text value sh ++ second_stored text value sh) (third_stored text value sh) in
+      let b = length-append (first_stored text value sh) (second_stored text value sh) in
       rw e (omega arith)
 
   -- so the first and the second end where there is room for all
-  pub sizes-room : (b m : ℕ) → b + length (stored text args value sh) ≤ m → b + z.first + z.second ≤ m
+  pub sizes-room : (b m : ℕ) → b + length (stored text value sh) ≤ m → b + z.first + z.second ≤ m
   sizes-room b m h = omega (arith, sizes-sum)
 
 module _ (text : List ℕ) (sh : Shape) (op : Op) (args : Span) (value : Key → Option Span) (i b : ℕ) where
@@ -117,8 +117,8 @@ module _ (text : List ℕ) (sh : Shape) (op : Op) (args : Span) (value : Key →
   laid-items ss h = items_are text op args i b ss sh ∙ ap (λ (v : Key → Option Span). map place (pairs_for sh ss ++ set_items text args v sh)) (sym (fun_ext h))
 
   -- the bytes of the store that it adds
-  pub laid-store : (ss : List Saying) → ((k : Key) → value k ≡ value_of k ss) → (laid i b (call_of plain_rules text sh op args ss)).store ≡ stored text args value sh
-  laid-store ss h = store_is text op args i b ss sh ∙ ap (λ (v : Key → Option Span). stored text args v sh) (sym (fun_ext h))
+  pub laid-store : (ss : List Saying) → ((k : Key) → value k ≡ value_of k ss) → (laid i b (call_of plain_rules text sh op args ss)).store ≡ stored text value sh
+  laid-store ss h = store_is text op args i b ss sh ∙ ap (λ (v : Key → Option Span). stored text v sh) (sym (fun_ext h))
 
   -- its record
   pub laid-call : (z : Sizes) (ss : List Saying) → ((k : Key) → value k ≡ value_of k ss) → z ≡ sizes_for text args value (length (pairs_for sh ss)) sh
@@ -129,7 +129,7 @@ module _ (text : List ℕ) (sh : Shape) (op : Op) (args : Span) (value : Key →
   -- how many items and bytes that are
   pub laid_item_count : (z : Sizes) (ss : List Saying) → ((k : Key) → value k ≡ value_of k ss) → z ≡ sizes_for text args value (length (pairs_for sh ss)) sh
       → z.items ≡ length (laid i b (call_of plain_rules text sh op args ss)).items
-  unfolding sizes_for
+  unfolding sizes_for sizes_with
   laid_item_count z ss h e =
       ap (λ (y : Sizes). y.items) e
       ∙ sym (length-append (pairs_for sh ss) (set_items text args value sh))

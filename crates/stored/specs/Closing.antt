@@ -17,30 +17,7 @@ use Rattle.records.specs.declared.calls.Sizes.{Sizes}
 
 -- ---- an entry: `args` is what stands behind the operation's name, `value` the last value of each key
 
-module _ (text : List ℕ) (args : Span) (value : Key → Option Span) where
-  -- the items of its path set; override pairs are no set: they are written line by line
-  unfoldable pub set_items : Shape → List Span
-  set_items single_path = []
-  set_items single_string = []
-  set_items path_set = items_in text args
-  set_items path_set_flag = items_in text args
-  set_items path_set_mode = items_in text args
-  set_items no_args = []
-  set_items set_options = []
-  set_items collect_garbage = set_of text (value Key.Paths)
-  set_items verify_store = []
-  set_items add_perm_root = []
-  set_items add_signatures = items_in text (cut_or text BLANK args).after
-  set_items add_text_to_store = set_of text (value Key.Refs)
-  set_items add_to_store = set_of text (value Key.Refs)
-  set_items add_multiple_to_store = []
-  set_items add_build_log = []
-  set_items register_drv_output = []
-  set_items query_realisation = []
-  set_items query_substitutable_path_info = []
-  set_items query_substitutable_path_infos = items_in text args
-  set_items raw_bytes = []
-
+module _ (text : List ℕ) (value : Key → Option Span) where
   -- its values in the store, in field order: the first, the second, the third
   unfoldable pub first_stored : Shape → List ℕ
   first_stored single_path = []
@@ -111,9 +88,37 @@ module _ (text : List ℕ) (args : Span) (value : Key → Option Span) where
   unfoldable pub stored : Shape → List ℕ
   stored sh = first_stored sh ++ second_stored sh ++ third_stored sh
 
+  -- so many items, and how many bytes each value has
+  unfoldable pub sizes_with : (items : ℕ) → Shape → Sizes
+  sizes_with items sh = sizes items (length (first_stored sh)) (length (second_stored sh)) (length (third_stored sh))
+
+module _ (text : List ℕ) (args : Span) (value : Key → Option Span) where
+  -- the items of its path set; override pairs are no set: they are written line by line
+  unfoldable pub set_items : Shape → List Span
+  set_items single_path = []
+  set_items single_string = []
+  set_items path_set = items_in text args
+  set_items path_set_flag = items_in text args
+  set_items path_set_mode = items_in text args
+  set_items no_args = []
+  set_items set_options = []
+  set_items collect_garbage = set_of text (value Key.Paths)
+  set_items verify_store = []
+  set_items add_perm_root = []
+  set_items add_signatures = items_in text (cut_or text BLANK args).after
+  set_items add_text_to_store = set_of text (value Key.Refs)
+  set_items add_to_store = set_of text (value Key.Refs)
+  set_items add_multiple_to_store = []
+  set_items add_build_log = []
+  set_items register_drv_output = []
+  set_items query_realisation = []
+  set_items query_substitutable_path_info = []
+  set_items query_substitutable_path_infos = items_in text args
+  set_items raw_bytes = []
+
   -- how much that is, behind so many items of override pairs
   unfoldable pub sizes_for : (pairs : ℕ) → Shape → Sizes
-  sizes_for pairs sh = sizes (pairs + length (set_items sh)) (length (first_stored sh)) (length (second_stored sh)) (length (third_stored sh))
+  sizes_for pairs sh = sizes_with text value (pairs + length (set_items sh)) sh
 
 -- the items that are written as their lines come
 unfoldable pub pairs_for : Shape → List Saying → List Span

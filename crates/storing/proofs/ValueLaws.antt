@@ -19,8 +19,7 @@ use Rattle.script.specs.Pieces.{bytes, behind}
 use Rattle.script.specs.Values.{without_quotes, plain_rules, inline_of, framed}
 use Rattle.script.specs.Contents.{given_bytes, given_data, unquoted_of, hex_of, data_of}
 use Rattle.script.specs.Layout.{stored_of}
-use Rattle.script.specs.Inside.{In}
-use Rattle.pieces.proofs.BehindLaws.{behind-none, behind-some, behind_in}
+use Rattle.pieces.proofs.BehindLaws.{behind-none, behind-some}
 
 -- ---- quotes at the end of hex are no digits
 
@@ -58,16 +57,16 @@ no_quotes s = ap hex_decoded (tail s).same ∙ trailing_quotes (tail s).many (wi
 
 module _ (text : List ℕ) (v : Span) where
   -- a value that is unquoted
-  pub unquoted-is : unquoted_of plain_rules text (Some v) ≡ unquoted (bytes text v)
+  pub unquoted_is : unquoted_of plain_rules text (Some v) ≡ unquoted (bytes text v)
   unfolding unquoted_of given_bytes
-  unquoted-is = refl
+  unquoted_is = refl
 
   -- what follows `x"`, with the quotes at its end
-  pub hex-is : hex_of plain_rules text (Some v) ≡ hex_decoded (bytes text v)
+  pub hex_is : hex_of plain_rules text (Some v) ≡ hex_decoded (bytes text v)
   unfolding hex_of given_bytes
-  hex-is = sym (no_quotes (bytes text v))
+  hex_is = sym (no_quotes (bytes text v))
 
-  -- b is the answer of `pieces::begins`
+  -- b tells whether it begins so
   module _ (b : Bool) (e : b ≡ starts_with (codes "x\"") (bytes text v)) where
     -- data is hex, or nothing that stands in the store
     pub data_hex : b ≡ true → stored_of (data_of plain_rules text (Some v)) ≡ hex_of plain_rules text (Some (span (v.start + 2) v.end))
@@ -81,9 +80,3 @@ module _ (text : List ℕ) (v : Span) where
         go : (o : Option Span) → behind text "@file:" v ≡ o → stored_of (data_of plain_rules text (Some v)) ≡ []
         go None q = simp (behind-none text v "x\"" b e f, q)
         go (Some r) q = simp (behind-none text v "x\"" b e f, q)
-
-    -- what stands behind `x"` lies inside the text
-    pub data_in : In text v → b ≡ true → In text (span (v.start + 2) v.end)
-    data_in i t = behind_in text v.start v.end 2 b (codes "x\"") e t i refl
-
-pub ruleset value_laws = (unquoted-is, hex-is, data_hex, data_none, data_in)

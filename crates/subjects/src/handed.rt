@@ -1,30 +1,30 @@
 // The handshake's information, or a response.
-ghost use Rattle.std.specs.Prelude.{◌≡◌, ◌≤◌, length};
+ghost use Rattle.std.specs.Prelude.{◌≡◌};
 ghost use Rattle.verdicts.specs.Subjects.{held_by, parts_in};
 ghost use Rattle.verdicts.specs.Held.{expected_of};
 ghost use Rattle.verdicts.specs.Lookup.{looked};
 ghost use Rattle.verdicts.specs.Verdicts.{verdict};
 ghost use Rattle.sought.specs.Values.{Means, value_bytes};
+ghost use Rattle.subjects.specs.Against.{against};
 
 use lookups::looked::{looked_entry, looked_handshake};
 use response_places::{info_in, response_in};
 use script::records::Expect;
 use sought::value::Value;
+use texts::Held;
 use verdict_of::{entry_verdict, handshake_verdict};
 use verdicts::Verdict;
 use verdicts::handed::Handed;
 
-// Every part of it lies inside its bytes.
-pub fn parts_in(h: Handed, bytes: &[u8], lists: &[[usize; 2]]) -> bool
-    ensures { result ≡ parts_in bytes.now lists.now h }
-{
-    match h {
-        Handed::Info(i) => info_in(bytes.len(), lists, i),
-        Handed::Response(r) => response_in(bytes.len(), lists, r),
-    }
+// What expectations are judged against, with the bytes and the table that hold its texts and its lists.
+#[derive(Clone, Copy)]
+pub struct Subject<'a> {
+    pub handed: Handed,
+    pub held: Held<'a>,
 }
 
-// The value that an expectation looks up in it.
+// The value that an expectation looks up in it, whatever holds its texts and lists.
+#[tactic(auto, unfolding(verdicts::specs::Subjects::held_by, verdicts::specs::Lookup::looked))]
 pub fn looked_value(e: Expect, text: &[u8], h: Handed) -> Value
     ensures { Means result (λ bytes lists. looked (held_by bytes lists h) (expected_of text.now e)) }
 {
@@ -34,21 +34,28 @@ pub fn looked_value(e: Expect, text: &[u8], h: Handed) -> Value
     }
 }
 
-// The verdict; the value is the one looked up.
-pub fn verdict_on(
-    e: Expect,
-    value: Value,
-    text: &[u8],
-    h: Handed,
-    bytes: &[u8],
-    lists: &[[usize; 2]],
-) -> Verdict
-    requires lists_len_bound { length lists.now ≤ 0x8000 }
-    requires value_value { value_bytes bytes.now lists.now value ≡ looked (held_by bytes.now lists.now h) (expected_of text.now e) }
-    ensures { result ≡ verdict (held_by bytes.now lists.now h) (expected_of text.now e) }
-{
-    match h {
-        Handed::Info(i) => handshake_verdict(e, value, text, i, bytes, lists),
-        Handed::Response(r) => entry_verdict(e, value, text, r, bytes, lists),
+impl<'a> Subject<'a> {
+    // Every part of it lies inside its bytes.
+    #[tactic(auto, unfolding(verdicts::specs::Subjects::parts_in))]
+    pub fn parts_in(self) -> bool
+        ensures { result ≡ parts_in self.entry.held.bytes.now self.entry.held.lists.now self.entry.handed }
+    {
+        let n = self.held.bytes.len();
+        match self.handed {
+            Handed::Info(i) => info_in(n, self.held.lists, i),
+            Handed::Response(r) => response_in(n, self.held.lists, r),
+        }
+    }
+
+    // The verdict; the value is the one looked up.
+    #[tactic(auto, unfolding(verdicts::specs::Subjects::held_by, verdicts::specs::Lookup::looked))]
+    pub fn verdict(self, e: Expect, value: Value, text: &[u8]) -> Verdict
+        requires { value_bytes self.held.bytes.now self.held.lists.now value ≡ looked (against self) (expected_of text.now e) }
+        ensures { result ≡ verdict (against self.entry) (expected_of text.now e) }
+    {
+        match self.handed {
+            Handed::Info(i) => handshake_verdict(e, value, text, i, self.held),
+            Handed::Response(r) => entry_verdict(e, value, text, r, self.held),
+        }
     }
 }

@@ -1,2 +1,3 @@
 pub mod Items
 pub mod SetRead
+pub mod Walks

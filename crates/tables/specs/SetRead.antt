@@ -1,12 +1,7 @@
 -- What the code writes on its way to the items of a set. Assumes nothing.
-use Rattle.std.specs.Prelude.{ℕ, Bool, true, false, List, [], None, Option, Some}
+use Rattle.std.specs.Prelude.{ℕ, List, [], None, Option, Some}
 use Rattle.text.specs.declared.parts.Span.{Span}
-use Rattle.script.specs.Sets.{PathSet, non_empty, braced_set, plain_set}
-
--- the items that are written: all of them, or those that are not empty
-unfoldable pub taken : (keep : Bool) → List Span → List Span
-taken true ps = ps
-taken false ps = non_empty ps
+use Rattle.script.specs.Sets.{PathSet, braced_set, plain_set}
 
 unfoldable pub items_or : Option PathSet → List Span
 items_or None = []

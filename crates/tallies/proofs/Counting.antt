@@ -2,10 +2,10 @@
 use mathlib.Core.Path.{◌≡◌, refl, ap, ◌∙◌}
 use mathlib.Core.Bool.{Bool, true, false}
 use mathlib.Core.List.{List, [], ◌∷◌}
-use Prim.Native.Nat.{ℕ, suc, ◌+◌, ◌-◌, ◌≤◌, ◌<◌}
+use Prim.Native.Nat.{ℕ, suc, ◌+◌, ◌-◌, ◌≤◌}
 use native.Mathlib.Omega.{arith}
 use lib.Dec.{ltb, eqb}
-use borrow.Author.Tests.{lt-ltb, le-ltb, eq-eqb, ne_eqb, ltb-false, eqb-false}
+use borrow.Author.Tests.{le-ltb, ne_eqb, ltb-false, eqb-false}
 use Rattle.std.specs.Prelude.{if◌then◌else◌}
 use Rattle.verdicts.specs.declared.Verdict.{Verdict}
 use Rattle.verdicts.specs.declared.Verdict.TheVariants.{Passed, Failed, Undecided}
@@ -48,14 +48,6 @@ count_most Undecided c = (omega arith, omega arith, omega arith)
 
 -- ---- the limit
 
-pub over_passed : (c : Counts) → 0x8000 < c.passed → over_limit c ≡ true
-unfolding over_limit
-over_passed c h = rw (lt-ltb 0x8000 c.passed h)
-
-pub over_failed : (c : Counts) → c.passed ≤ 0x8000 → 0x8000 < c.failed → over_limit c ≡ true
-unfolding over_limit
-over_failed c g h = rw (le-ltb 0x8000 c.passed g, lt-ltb 0x8000 c.failed h)
-
 pub over_last : (c : Counts) → c.passed ≤ 0x8000 → c.failed ≤ 0x8000 → over_limit c ≡ ltb 0x8000 c.undecided
 unfolding over_limit
 over_last c f g = rw (le-ltb 0x8000 c.passed f, le-ltb 0x8000 c.failed g)
@@ -68,19 +60,7 @@ within_limit c h = over_none c (h Passed) (h Failed) (h Undecided)
 
 -- ---- what closing says
 
-pub says-failed : (c : Counts) → 0 < c.failed → Outcome.Failed ≡ outcome_of c
-unfolding outcome_of
-says-failed c h = rw (lt-ltb 0 c.failed h)
-
 module _ (c : Counts) (none-failed : c.failed ≤ 0) where
-  pub says_undecided : 0 < c.undecided → Outcome.Undecided ≡ outcome_of c
-  unfolding outcome_of
-  says_undecided h = rw (le-ltb 0 c.failed none-failed, lt-ltb 0 c.undecided h)
-
-  pub says_nothing : c.undecided ≤ 0 → c.passed ≡ 0 → Outcome.NothingChecked ≡ outcome_of c
-  unfolding outcome_of
-  says_nothing g h = rw (le-ltb 0 c.failed none-failed, le-ltb 0 c.undecided g, eq-eqb c.passed 0 h)
-
   pub says-passed : c.undecided ≤ 0 → (c.passed ≡ 0 → ⊥) → Outcome.Passed ≡ outcome_of c
   unfolding outcome_of
   says-passed g h = rw (le-ltb 0 c.failed none-failed, le-ltb 0 c.undecided g, ne_eqb c.passed 0 h)

@@ -23,6 +23,7 @@ pub enum Outcome {
 
 impl Counts {
     // One verdict more. A judging begins with counts of at most 32,768 and has at most as many verdicts.
+    #[tactic(auto, unfolding(crate::specs::Tally::added))]
     pub fn add(mut self, v: Verdict) -> Self
         requires { (self.passed < 0x1_0000) × (self.failed < 0x1_0000) × (self.undecided < 0x1_0000) }
         ensures { result ≡ added v self }
@@ -35,6 +36,7 @@ impl Counts {
         self
     }
 
+    #[tactic(auto, unfolding(crate::specs::Tally::outcome_of))]
     pub fn outcome(self) -> Outcome
         ensures { result ≡ outcome_of self }
     {
@@ -51,15 +53,10 @@ impl Counts {
     }
 
     // Whether a count is above 32,768.
+    #[tactic(auto, unfolding(crate::specs::Tally::over_limit))]
     pub fn over_limit(self) -> bool
         ensures { result ≡ over_limit self }
     {
-        if 0x8000 < self.passed {
-            return true;
-        }
-        if 0x8000 < self.failed {
-            return true;
-        }
-        0x8000 < self.undecided
+        0x8000 < self.passed || 0x8000 < self.failed || 0x8000 < self.undecided
     }
 }

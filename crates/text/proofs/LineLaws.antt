@@ -6,15 +6,17 @@ use mathlib.Core.Bool.{Bool, true, false}
 use mathlib.Core.List.{List, [], ◌∷◌}
 use native.Mathlib.Omega.{arith}
 use native.Mathlib.Nat.{le_refl, add-zero, add-sub_cancel, add-sub_cancel_left}
-use lib.Dec.{eqb}
-use lib.ListN.{length, get_or, drop, length-drop}
+use lib.Dec.{eqb, leb}
+use lib.ListN.{length, get_or, drop, length-drop, length-take}
 use lib.Seq.{drop-nil, drop-drop}
-use borrow.Author.Tests.{eq-eqb, ne_eqb, lt-ltb, le-ltb}
+use borrow.Author.Tests.{eq-eqb, ne_eqb, lt-ltb, le-ltb, leb-true, leb-false}
 use Rattle.text.proofs.Scan.{by_cases, rest-none, rest_more, shift}
 use Rattle.std.specs.Prelude.{if◌then◌else◌}
 use Rattle.text.specs.Base.{LF, CR}
 use Rattle.text.specs.declared.lines.Line.{Line}
-use Rattle.text.specs.Lines.{line, line_from, line_at, lines_from}
+use Rattle.text.specs.Lines.{line, line_from, line_at, lines_from, lines, line_bytes, trimmed_length}
+use Rattle.text.specs.Trim.{trimmed}
+use Rattle.text.proofs.TrimLaws.{trimmed-fits}
 use Rattle.text.specs.LinesWalk.{end_at}
 use Rattle.text.specs.Skip.{Without}
 
@@ -67,7 +69,17 @@ begun text number at r h g p =
     let e : at + (r - at) ≡ r = omega arith in
     (rw e at (passes text number at (r - at) at (le_refl at) (rw e (λ z. g (omega arith))) (rw e p))) ∙ rw (end_begun text at)
 
-pub ruleset Line-walk = (begun, over, at_lf, at_other)
+-- the line from `at` on, by where its LF stands
+module _ (text : List ℕ) (at number : ℕ) where
+  pub first_lf : (lf : ℕ) → Without LF text at lf → at ≤ lf → lf < length text → get_or text lf 0 ≡ LF → line number at (end_at text at lf) (lf + 1) ≡ line_at text at number
+  first_lf lf w p h x = at_lf text number at lf _ h x (begun text number at lf p (λ _. omega arith) w) _ refl
+
+  pub no_lf : (end : ℕ) → end ≡ length text → Without LF text at end → at < end → line number at end end ≡ line_at text at number
+  no_lf end e w p = over text number at end _ (omega arith) (begun text number at end (omega arith) (λ _. omega arith) w)
+
+  pub at_end : (end : ℕ) → end ≡ at → length text ≤ at → line number at end end ≡ line_at text at number
+  unfolding Without
+  at_end end e h = rw e (over text number at at _ h (begun text number at at (le_refl at) (λ l. absurd (omega arith)) (λ k l m x. absurd (omega arith))))
 
 -- ---- the lines as a list
 
@@ -185,6 +197,48 @@ known_here text at number h =
 
 pub known : (text : List ℕ) (at number : ℕ) (l : Line) → at < length text → l ≡ line_at text at number → Known text at number l
 known text at number l h e = rw e (known_here text at number h)
+
+-- ---- all the lines of a text
+
+-- each lies in it
+abbrev pub AllIn : List ℕ → List Line → Type 0
+AllIn text [] = Unit {0}
+AllIn text (l ∷ ls) = (l.start ≤ l.end) × (l.end ≤ length text) × AllIn text ls
+
+-- so they are, and no more than its bytes, nor have they more bytes once they are trimmed
+abbrev Listed : (text : List ℕ) (at : ℕ) → List Line → Type 0
+Listed text at ls = AllIn text ls × (length ls ≤ length text - at) × (trimmed_length text ls ≤ length text - at)
+
+trimmed-line : (text : List ℕ) (l : Line) → length (trimmed (line_bytes text l)) ≤ l.end - l.start
+trimmed-line text l = omega (arith, trimmed-fits (line_bytes text l), length-take (l.end - l.start) (drop l.start text))
+
+one_more : (text : List ℕ) (at number : ℕ) → ((next n : ℕ) → at < next → next ≤ length text → Listed text next (lines_at text next n)) → Listed text at (lines_at text at number)
+unfolding trimmed_length
+one_more text at number ih = go (leb (length text) at) refl
+  where
+    go : (b : Bool) → leb (length text) at ≡ b → Listed text at (lines_at text at number)
+    go true e = rw (lines_none text at number (leb-true (length text) at e)) (tt, omega arith, omega arith)
+    go false e =
+        let k = known_here text at number (leb-false (length text) at e) in
+        let i = ih (line_at text at number).next (number + 1) k.later k.within in
+        let l = line_at text at number in
+        rw k.more ((k.forward, k.inside, i.0), omega (arith, i.1, k.later, k.within), omega (arith, i.2, k.later, k.within, k.begins, k.forward, k.ends, trimmed-line text l))
+
+listed : (text : List ℕ) (n at number : ℕ) → length text ≤ at + n → Listed text at (lines_at text at number)
+listed text zero at number h = one_more text at number (λ next m l k. absurd (omega arith))
+listed text (suc n) at number h = one_more text at number (λ next m l k. listed text n next m (omega arith))
+
+pub lines-in : (text : List ℕ) → AllIn text (lines text)
+unfolding lines
+lines-in text = (listed text (length text) 0 1 (omega arith)).0
+
+pub lines_few : (text : List ℕ) → length (lines text) ≤ length text
+unfolding lines
+lines_few text = omega (arith, (listed text (length text) 0 1 (omega arith)).1)
+
+pub trimmed_few : (text : List ℕ) → trimmed_length text (lines text) ≤ length text
+unfolding lines
+trimmed_few text = omega (arith, (listed text (length text) 0 1 (omega arith)).2)
 
 -- The numbers of a walk over lines, for `search` to use: the line is a part of the text, the measure falls, and what is at most `at` stays at most the next place.
 module _ (text : List ℕ) (at number : ℕ) (l : Line) (e : l ≡ line_at text at number) (h : at < length text) where

@@ -1,15 +1,18 @@
 -- The laws of stretches in which a byte does not stand. Assumes nothing.
-use Prim.Native.Nat.{ℕ, zero, suc, ◌+◌, ◌≤◌}
-use mathlib.Core.Path.{◌≡◌, refl, ◌∙◌}
+use Rattle.std.specs.Prelude.{None, Option, Some}
+use Rattle.memchr.specs.Find.{Nowhere, Passes, IsFirstByte, is_byte}
+use Prim.Native.Nat.{ℕ, zero, suc, ◌+◌, ◌-◌, ◌≤◌, ◌<◌}
 use mathlib.Core.Bool.{Bool, true, false}
+use mathlib.Core.Path.{◌≡◌, refl, ap, ◌∙◌}
 use mathlib.Core.List.{List}
 use native.Mathlib.Omega.{arith}
 use native.Mathlib.Nat.{add-zero, zero-add}
 use lib.Bits.{bit_or, or_add_and, and_le_l, and_le_r}
 use lib.Dec.{eqb, leb}
-use lib.ListN.{length, get_or, drop}
+use lib.ListN.{length, get_or, drop, length-drop}
+use lib.Seq.{get_or-drop}
 use borrow.Author.Tests.{eq-eqb, ne_eqb, eqb-true, eqb-false, leb-true, leb-false}
-use Rattle.text.proofs.Scan.{rest_more}
+use Rattle.text.proofs.Scan.{rest_more, rest-none}
 use Rattle.text.specs.Parts.{position_from, position}
 use Rattle.text.specs.Skip.{Without, one_if}
 
@@ -75,6 +78,14 @@ module _ (b : ℕ) (s : List ℕ) (at : ℕ) where
       let e : at + 8 ≡ at + 4 + 4 = omega arith in
       rw e (without_on b s at (at + 4) (at + 4 + 4) true (p z.0) (λ _. q z.1) refl)
 
+-- a byte more that the code has looked at
+pub without_next : (b : ℕ) (s : List ℕ) (at i : ℕ) → Without b s at i → (get_or s i 0 ≡ b → ⊥) → Without b s at (i + 1)
+without_next b s at i p n = without_more b s at i (i + 1) refl p (rw (← one_isnt b (get_or s i 0) n) refl)
+
+-- two stretches, one behind the other
+pub without_both : (b : ℕ) (s : List ℕ) (at i j : ℕ) → Without b s at i → Without b s i j → Without b s at j
+without_both b s at i j p q = without_on b s at i j true p (λ _. q) refl
+
 pub ruleset skip_steps = (one_is, one_isnt, without-none, without_on)
 
 -- ---- a search passes such a stretch
@@ -92,3 +103,31 @@ passes b s (suc k) i h p =
 pub passed : (b : ℕ) (s : List ℕ) (r : ℕ) → r ≤ length s → Without b s 0 r → position_from b r (drop r s) ≡ position b s
 unfolding position
 passed b s r h p = rw (zero-add r) at (passes b s r 0 (rw (zero-add r) h) (rw (zero-add r) p))
+
+-- ---- what crate memchr says of its answer, in the words of this project
+
+-- no b up to the end; no b up to i places on
+module _ (b : ℕ) (s : List ℕ) (at : ℕ) where
+  passed_by : (hay : List ℕ) (j k : ℕ) → hay ≡ drop at s → Nowhere (Passes (is_byte b) hay) 0 j → at ≤ k → k < at + j → get_or s k 0 ≡ b → ⊥
+  passed_by hay j k q h l m e =
+      let p : at + (k - at) ≡ k = omega arith in
+      h (k - at) (omega arith) (omega arith) (rw q (eq-eqb _ _ (get_or-drop at s (k - at) 0 ∙ (rw p e))))
+
+  pub none_from : (hay : List ℕ) → hay ≡ drop at s → at ≤ length s → IsFirstByte (is_byte b) hay None → Without b s at (length s)
+  unfolding Without
+  none_from hay q p h k l m e = let d = ap length q in passed_by hay (length hay) k q h l (omega (arith, length-drop at s)) e
+
+  pub some_from : (i : ℕ) (hay : List ℕ) → hay ≡ drop at s → IsFirstByte (is_byte b) hay (Some i) → Without b s at (at + i)
+  unfolding Without
+  some_from i hay q h k l m e = passed_by hay i k q h.0.before l m e
+
+-- ---- the first place of b, from where a search that begins at 0 stopped
+
+module _ (b : ℕ) (s : List ℕ) (r : ℕ) (w : Without b s 0 r) where
+  pub found_at : r < length s → get_or s r 0 ≡ b → Some r ≡ position b s
+  unfolding position_from
+  found_at f e = rw (rest_more s r f, eq-eqb _ _ e) at (passed b s r (omega arith) w)
+
+  pub found_nowhere : r ≡ length s → None ≡ position b s
+  unfolding position_from
+  found_nowhere h = rw (rest-none s r (omega arith)) at (passed b s r (omega arith) w)

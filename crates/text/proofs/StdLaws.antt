@@ -15,7 +15,8 @@ use Rattle.text.specs.Base.{◌&◌}
 use Rattle.text.specs.Parts.{starts_with, ends_with, same_bytes}
 use Rattle.text.proofs.LiteralLaws.{eqb_sym}
 
-both_ways : (t : Bool) {a b : Bool} → a ≡ b → (t && a) ≡ t & b
+-- the library's conjunction is ours
+pub both_ways : (t : Bool) {a b : Bool} → a ≡ b → (t && a) ≡ t & b
 both_ways true e = e
 both_ways false e = refl
 

@@ -1,4 +1,4 @@
--- What only the code that looks for a byte eight at a time needs (src/skip.rt). Assumes nothing.
+-- What only the code that looks for a byte needs (src/skip.rt). Assumes nothing.
 use Rattle.std.specs.Prelude.{ℕ, ◌≤◌, ◌<◌, ◌≡◌, List, eqb, get_or, if◌then◌else◌}
 
 -- b does not stand from i up to, not including, j

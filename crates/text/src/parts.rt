@@ -9,7 +9,8 @@ pub struct Span {
     pub end: usize,
 }
 
-// A part between separators: from start up to, not including, end. Where more follow, the next begins at end + 1.
+// A part between separators: from start up to, not including, end. Where more follow, the next begins at end + 1. An `Option` of that place in the
+// place of `more` would say `end + 1` twice, and its readers ask only whether.
 #[derive(Clone, Copy)]
 pub struct Part {
     pub start: usize,
@@ -41,16 +42,12 @@ pub fn same(a: &[u8], b: &[u8]) -> bool
 }
 
 // The first place of b in s.
+#[tactic(auto, using(crate::proofs::SkipLaws::found_at, crate::proofs::SkipLaws::found_nowhere))]
 pub fn find(s: &[u8], b: u8) -> Option<usize>
     ensures { result ≡ position b s.now }
 {
-    let from = crate::skip::skip_others(s, b, 0);
-    for i in from..s.len() {
-        if s[i] == b {
-            return Some(i);
-        }
-    }
-    None
+    let i = crate::skip::skip_others(s, b, 0);
+    (i < s.len()).then_some(i)
 }
 
 // The first place in s of a with b after it.

@@ -1,5 +1,5 @@
-// Looking for a byte, eight places at a time.
-ghost use Rattle.std.specs.Prelude.{◌≡◌, ◌+◌, ◌≤◌, true, length};
+// Looking for a byte: nearby eight places at a time, further off by crate memchr.
+ghost use Rattle.std.specs.Prelude.{◌≡◌, ◌+◌, ◌≤◌, ◌<◌, true, length, get_or};
 ghost use Rattle.text.specs.Skip.{Without, one_if};
 
 // 1 for the byte b, 0 for any other.
@@ -25,20 +25,41 @@ fn not_in_eight(s: &[u8], b: u8, at: usize) -> bool
     (any_of_four(s, b, at) | any_of_four(s, b, at + 4)) == 0
 }
 
-// A place up to which b does not stand from `at` on.
+// A place up to which b does not stand from `at` on, not past `near`. This, and not memchr: below 32 bytes that goes byte by byte, and took twice as long on
+// short lines.
+fn skip_eights(s: &[u8], b: u8, at: usize, near: usize) -> usize
+    requires at_le_near { at ≤ near }
+    requires near_in_bounds { near ≤ length s.now }
+    ensures lower_bound { at ≤ result }
+    ensures upper_bound { result ≤ near }
+    ensures without { Without b s.now at result }
+{
+    let mut i = at;
+    while i + 8 <= near {
+        if !not_in_eight(s, b, i) {
+            return i;
+        }
+        i += 8;
+    }
+    i
+}
+
+// Where b first stands from `at` on, or the end.
 pub fn skip_others(s: &[u8], b: u8, at: usize) -> usize
     requires { at ≤ length s.now }
     ensures lower_bound { at ≤ result }
     ensures upper_bound { result ≤ length s.now }
     ensures without { Without b s.now at result }
+    ensures found { result < length s.now → get_or s.now result 0 ≡ b }
 {
-    let mut i = at;
-    while i + 8 <= s.len() {
-        if not_in_eight(s, b, i) {
-            i += 8;
-        } else {
+    let near = s.len().min(at + 32);
+    for i in skip_eights(s, b, at, near)..near {
+        if s[i] == b {
             return i;
         }
     }
-    i
+    match memchr::memchr(b, &s[near..]) {
+        Some(i) => near + i,
+        None => s.len(),
+    }
 }

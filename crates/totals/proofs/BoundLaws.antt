@@ -101,8 +101,6 @@ pub entries_fit : (t c : Counts) (o : Open) → Few 0x10000000000 t → c ≡ cl
 unfolding close_on
 entries_fit t c o f e = let q : c.entries ≡ t.entries = ap (λ (d : Counts). d.entries) e in omega (arith, f.entries)
 
-pub ruleset sums_fit = (items_fit, store_fit, entries_fit)
-
 -- ---- what is open after a line
 
 pub begun-small : (m : ℕ) (w : What) (n : ℕ) → n ≤ m → Small m (begun w n)

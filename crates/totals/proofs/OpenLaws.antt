@@ -12,9 +12,9 @@ use Rattle.script.specs.declared.roles.Saying.TheVariants.{Known, Pair}
 use Rattle.script.specs.declared.records.Counts.{Counts}
 use Rattle.script.specs.declared.roles.Opening.{Opening}
 use Rattle.measuring.specs.declared.What.{What}
-use Rattle.measuring.specs.declared.What.TheVariants.{ThePreamble, AnEntry}
+use Rattle.measuring.specs.declared.What.TheVariants.{AnEntry}
 use Rattle.measuring.specs.declared.Open.{Open}
-use Rattle.counts.specs.Counts.{set_count, quoted_count, data_count, raw_count, feature_count, inline_items}
+use Rattle.counts.specs.Counts.{inline_items}
 use Rattle.measuring.specs.Measure.{begun, told, pairs_on, say_on, opened, entry_items, entry_store, items_of, store_of, closed_items, closed_store, counts, close_on, entered}
 
 abbrev pub opens : (what : What) → (inline pairs paths refs suffix text name cam_str contents raw features server_features : ℕ) → Open
@@ -33,50 +33,6 @@ opens what inline pairs paths refs suffix text name cam_str contents raw feature
   features = features;
   server_features = server_features;
 }
-
--- a line with a key whose value takes n items or bytes: that number alone is overwritten
-module _ (text : List ℕ) (o : Open) (v : Span) (k : Key) (n : ℕ) where
-  pub on-paths : k ≡ Key.Paths → n ≡ set_count text v → opens o.what o.inline o.pairs n o.refs o.suffix o.text o.name o.cam_str o.«data» o.raw o.features o.server_features ≡ say_on text o (Known k v)
-  unfolding say_on told pairs_on same_key key_row
-  on-paths e c = rw (e, c)
-
-  pub on-refs : k ≡ Key.Refs → n ≡ set_count text v → opens o.what o.inline o.pairs o.paths n o.suffix o.text o.name o.cam_str o.«data» o.raw o.features o.server_features ≡ say_on text o (Known k v)
-  unfolding say_on told pairs_on same_key key_row
-  on-refs e c = rw (e, c)
-
-  pub on-suffix : k ≡ Key.Suffix → n ≡ quoted_count text v → opens o.what o.inline o.pairs o.paths o.refs n o.text o.name o.cam_str o.«data» o.raw o.features o.server_features ≡ say_on text o (Known k v)
-  unfolding say_on told pairs_on same_key key_row
-  on-suffix e c = rw (e, c)
-
-  pub on-text : k ≡ Key.Text → n ≡ quoted_count text v → opens o.what o.inline o.pairs o.paths o.refs o.suffix n o.name o.cam_str o.«data» o.raw o.features o.server_features ≡ say_on text o (Known k v)
-  unfolding say_on told pairs_on same_key key_row
-  on-text e c = rw (e, c)
-
-  pub on-name : k ≡ Key.Name → n ≡ quoted_count text v → opens o.what o.inline o.pairs o.paths o.refs o.suffix o.text n o.cam_str o.«data» o.raw o.features o.server_features ≡ say_on text o (Known k v)
-  unfolding say_on told pairs_on same_key key_row
-  on-name e c = rw (e, c)
-
-  pub on-cam_str : k ≡ Key.CamStr → n ≡ quoted_count text v → opens o.what o.inline o.pairs o.paths o.refs o.suffix o.text o.name n o.«data» o.raw o.features o.server_features ≡ say_on text o (Known k v)
-  unfolding say_on told pairs_on same_key key_row
-  on-cam_str e c = rw (e, c)
-
-  pub on_data : k ≡ Key.Data → n ≡ data_count text v → opens o.what o.inline o.pairs o.paths o.refs o.suffix o.text o.name o.cam_str n o.raw o.features o.server_features ≡ say_on text o (Known k v)
-  unfolding say_on told pairs_on same_key key_row
-  on_data e c = rw (e, c)
-
-  pub on-raw : k ≡ Key.Raw → n ≡ raw_count text v → opens o.what o.inline o.pairs o.paths o.refs o.suffix o.text o.name o.cam_str o.«data» n o.features o.server_features ≡ say_on text o (Known k v)
-  unfolding say_on told pairs_on same_key key_row
-  on-raw e c = rw (e, c)
-
-  pub on-features : k ≡ Key.Features → n ≡ feature_count text v → opens o.what o.inline o.pairs o.paths o.refs o.suffix o.text o.name o.cam_str o.«data» o.raw n o.server_features ≡ say_on text o (Known k v)
-  unfolding say_on told pairs_on same_key key_row
-  on-features e c = rw (e, c)
-
-  pub on-server_features : k ≡ Key.ServerFeatures → n ≡ feature_count text v → opens o.what o.inline o.pairs o.paths o.refs o.suffix o.text o.name o.cam_str o.«data» o.raw o.features n ≡ say_on text o (Known k v)
-  unfolding say_on told pairs_on same_key key_row
-  on-server_features e c = rw (e, c)
-
-pub ruleset known_laws = (on-paths, on-refs, on-suffix, on-text, on-name, on-cam_str, on_data, on-raw, on-features, on-server_features)
 
 -- what is said is known
 module _ (text : List ℕ) (o : Open) (s : Saying) where
@@ -97,23 +53,13 @@ pub ruleset said_laws = (known_in, on_known, on-pair)
 -- ---- what is closed
 
 module _ (o : Open) where
-  pub items-preamble : o.what ≡ ThePreamble → o.features + o.server_features ≡ closed_items o
-  unfolding closed_items items_of
-  items-preamble e = rw e
-
   pub items_entry : (op : Op) (n : ℕ) → o.what ≡ AnEntry op → n ≡ entry_items (form_of op).shape o → n ≡ closed_items o
   unfolding closed_items items_of
   items_entry op n e f = f ∙ ap (λ (w : What). items_of w o) (sym e)
 
-  pub store-preamble : o.what ≡ ThePreamble → 0 ≡ closed_store o
-  unfolding closed_store store_of
-  store-preamble e = rw e
-
   pub store_entry : (op : Op) (n : ℕ) → o.what ≡ AnEntry op → n ≡ entry_store (form_of op).shape o → n ≡ closed_store o
   unfolding closed_store store_of
   store_entry op n e f = f ∙ ap (λ (w : What). store_of w o) (sym e)
-
-pub ruleset closed_laws = (items-preamble, items_entry, store-preamble, store_entry)
 
 -- ---- after a line
 
@@ -122,13 +68,11 @@ module _ (t : Counts) (o : Open) where
   unfolding close_on
   closed i s e f = rw (e, f)
 
-  pub entered-is : (c : Counts) → c ≡ close_on t o → counts (c.entries + 1) c.items c.expectations c.store ≡ entered t o
+  pub entered_is : (c : Counts) → c ≡ close_on t o → counts (c.entries + 1) c.items c.expectations c.store ≡ entered t o
   unfolding entered close_on
-  entered-is c f = rw f
+  entered_is c f = rw f
 
-pub ruleset count_laws = (closed, entered-is)
-
-pub opened-is : (text : List ℕ) (p : Opening) (n : ℕ) (r : Open) → n ≡ inline_items text (form_of p.op).shape p.args → r ≡ begun (AnEntry p.op) n
+pub opened_is : (text : List ℕ) (p : Opening) (n : ℕ) (r : Open) → n ≡ inline_items text (form_of p.op).shape p.args → r ≡ begun (AnEntry p.op) n
     → r ≡ opened text p.op p.args
 unfolding opened
-opened-is text p n r f g = g ∙ ap (begun (AnEntry p.op)) f
+opened_is text p n r f g = g ∙ ap (begun (AnEntry p.op)) f

@@ -8,13 +8,15 @@ ghost use Rattle.script.specs.declared.roles.Saying.TheVariants as Said;
 ghost use Rattle.measuring.specs.Measure.{begun, entry_items, entry_store, closed_items, closed_store, close_on, entered, opened, say_on};
 ghost use Rattle.totals.specs.Bounds.{Small, Few};
 
+use counts::counts::{data_count, feature_count, inline_items, quoted_count, raw_count, set_count};
 use measuring::{Open, What};
+use pieces::pieces::Piece;
 use script::records::Counts;
 use script::roles::{Key, Opening, Saying};
-use text::parts::Span;
 use wire::ops::Op;
 
 // So many items on the opening line, and nothing said below it.
+#[tactic(auto, unfolding(measuring::specs::Measure::begun))]
 pub fn begin(what: What, inline: usize) -> Open
     ensures { result ≡ begun what inline }
 {
@@ -36,94 +38,93 @@ pub fn begin(what: What, inline: usize) -> Open
 }
 
 // The last line with a key decides.
-fn known_on(text: &[u8], o: Open, k: Key, v: Span) -> Open
-    requires { In text.now v }
-    ensures { result ≡ say_on text.now o (Said.Known k v) }
+#[tactic(auto, unfolding(measuring::specs::Measure::say_on, measuring::specs::Measure::told, measuring::specs::Measure::pairs_on, script::specs::Operations::same_key, script::specs::Operations::key_row))]
+fn known_on(o: Open, k: Key, v: Piece<'_>) -> Open
+    ensures { result ≡ say_on v.entry.text.now o (Said.Known k v.entry.at) }
 {
-    let mut r = o;
     match k {
-        Key::Paths => {
-            r.paths = counts::counts::set_count(text, v);
-            r
-        }
-        Key::Refs => {
-            r.refs = counts::counts::set_count(text, v);
-            r
-        }
-        Key::Suffix => {
-            r.suffix = counts::counts::quoted_count(text, v);
-            r
-        }
-        Key::Text => {
-            r.text = counts::counts::quoted_count(text, v);
-            r
-        }
-        Key::Name => {
-            r.name = counts::counts::quoted_count(text, v);
-            r
-        }
-        Key::CamStr => {
-            r.cam_str = counts::counts::quoted_count(text, v);
-            r
-        }
-        Key::Data => {
-            r.data = counts::counts::data_count(text, v);
-            r
-        }
-        Key::Raw => {
-            r.raw = counts::counts::raw_count(text, v);
-            r
-        }
-        Key::Features => {
-            r.features = counts::counts::feature_count(text, v);
-            r
-        }
-        Key::ServerFeatures => {
-            r.server_features = counts::counts::feature_count(text, v);
-            r
-        }
-        _ => r,
+        Key::Paths => Open {
+            paths: set_count(v),
+            ..o
+        },
+        Key::Refs => Open {
+            refs: set_count(v),
+            ..o
+        },
+        Key::Suffix => Open {
+            suffix: quoted_count(v),
+            ..o
+        },
+        Key::Text => Open {
+            text: quoted_count(v),
+            ..o
+        },
+        Key::Name => Open {
+            name: quoted_count(v),
+            ..o
+        },
+        Key::CamStr => Open {
+            cam_str: quoted_count(v),
+            ..o
+        },
+        Key::Data => Open {
+            data: data_count(v),
+            ..o
+        },
+        Key::Raw => Open {
+            raw: raw_count(v),
+            ..o
+        },
+        Key::Features => Open {
+            features: feature_count(v),
+            ..o
+        },
+        Key::ServerFeatures => Open {
+            server_features: feature_count(v),
+            ..o
+        },
+        _ => o,
     }
 }
 
-// After a line that says something.
+// After a line that says something. `Small` is no invariant of `Open`: a pair takes the numbers up by two, so the walk bounds them by the length of the text.
 pub fn say_on(text: &[u8], o: Open, s: Saying) -> Open
     requires saying_in { SayingIn text.now s }
     requires small { Small 0x20000 o }
     ensures { result ≡ say_on text.now o s }
 {
     match s {
-        Saying::Known(k, v) => known_on(text, o, k, v),
-        Saying::Pair(_, _) => {
-            let mut r = o;
-            r.pairs = o.pairs + 2;
-            r
-        }
+        Saying::Known(k, v) => known_on(o, k, Piece { text, at: v }),
+        Saying::Pair(_, _) => Open {
+            pairs: o.pairs + 2,
+            ..o
+        },
         _ => o,
     }
 }
 
 // The items that an entry takes.
+#[tactic(auto, unfolding(script::specs::Operations::form_of, measuring::specs::Measure::entry_items))]
 fn entry_items(op: Op, o: Open) -> usize
     ensures { result ≡ entry_items (form_of op).shape o }
 {
     match op {
-        Op::BuildPaths => o.inline,
-        Op::QuerySubstitutablePathInfos => o.inline,
-        Op::QueryValidPaths => o.inline,
-        Op::QuerySubstitutablePaths => o.inline,
-        Op::AddSignatures => o.inline,
-        Op::QueryMissing => o.inline,
-        Op::BuildPathsWithResults => o.inline,
+        Op::BuildPaths
+        | Op::QuerySubstitutablePathInfos
+        | Op::QueryValidPaths
+        | Op::QuerySubstitutablePaths
+        | Op::AddSignatures
+        | Op::QueryMissing
+        | Op::BuildPathsWithResults => o.inline,
         Op::SetOptions => o.pairs,
         Op::CollectGarbage => o.paths,
-        Op::AddTextToStore => o.refs,
-        Op::AddToStore => o.refs,
+        Op::AddTextToStore | Op::AddToStore => o.refs,
         _ => 0,
     }
 }
 
 // The bytes of the store that an entry takes.
+#[tactic(auto, unfolding(script::specs::Operations::form_of, measuring::specs::Measure::entry_store))]
 fn entry_store(op: Op, o: Open) -> usize
     requires { Small 0x20000 o }
     ensures { result ≡ entry_store (form_of op).shape o }
@@ -131,37 +132,36 @@ fn entry_store(op: Op, o: Open) -> usize
     match op {
         Op::AddTextToStore => o.suffix + o.text,
         Op::AddToStore => o.name + o.cam_str + o.data,
-        Op::AddMultipleToStore => o.data,
-        Op::AddBuildLog => o.data,
-        Op::BuildDerivation => o.raw,
-        Op::AddToStoreNar => o.raw,
+        Op::AddMultipleToStore | Op::AddBuildLog => o.data,
+        Op::BuildDerivation | Op::AddToStoreNar => o.raw,
         _ => 0,
     }
 }
 
+#[tactic(auto, using(crate::proofs::OpenLaws::items_entry), unfolding(measuring::specs::Measure::closed_items, measuring::specs::Measure::items_of))]
 fn closed_items(o: Open) -> usize
     requires { Small 0x20000 o }
     ensures { result ≡ closed_items o }
 {
-    let what = o.what;
-    match what {
+    match o.what {
         What::ThePreamble => o.features + o.server_features,
         What::AnEntry(op) => entry_items(op, o),
     }
 }
 
+#[tactic(auto, using(crate::proofs::OpenLaws::store_entry), unfolding(measuring::specs::Measure::closed_store, measuring::specs::Measure::store_of))]
 fn closed_store(o: Open) -> usize
     requires { Small 0x20000 o }
     ensures { result ≡ closed_store o }
 {
-    let what = o.what;
-    match what {
+    match o.what {
         What::ThePreamble => 0,
         What::AnEntry(op) => entry_store(op, o),
     }
 }
 
 // The totals with what is open closed.
+#[tactic(auto, using(crate::proofs::OpenLaws::closed))]
 pub fn close_on(t: Counts, o: Open) -> Counts
     requires few { Few 0x100_0000_0000 t }
     requires small { Small 0x20000 o }
@@ -175,6 +175,7 @@ pub fn close_on(t: Counts, o: Open) -> Counts
 }
 
 // The totals after an opening line: what was open is closed, and there is one entry more.
+#[tactic(auto, using(crate::proofs::OpenLaws::entered_is))]
 pub fn enter(t: Counts, o: Open) -> Counts
     requires few { Few 0x100_0000_0000 t }
     requires small { Small 0x20000 o }
@@ -188,11 +189,11 @@ pub fn enter(t: Counts, o: Open) -> Counts
 }
 
 // An entry at its opening line.
+#[tactic(auto, using(crate::proofs::OpenLaws::opened_is))]
 pub fn open_entry(text: &[u8], p: Opening) -> Open
     requires { In text.now p.args }
     ensures { result ≡ opened text.now p.op p.args }
 {
-    let op = p.op;
-    let inline = counts::counts::inline_items(text, op, p.args);
-    begin(What::AnEntry(op), inline)
+    let inline = inline_items(p.op, Piece { text, at: p.args });
+    begin(What::AnEntry(p.op), inline)
 }

@@ -48,7 +48,8 @@ fn ascii_size(a: u8) -> usize
     }
 }
 
-// The size of the White_Space character at `at`; 0 if there is none.
+// The size of the White_Space character at `at`; 0 if there is none. By the place, which its callers count: they would cut a slice for each byte.
+#[tactic(auto, using(text::proofs::TrimLaws::place_steps))]
 pub fn white_at(s: &[u8], at: usize) -> usize
     ensures value { result ≡ size_of white_bytes (drop at s.now) }
     ensures upper_bound { result ≤ length s.now - at }
@@ -65,7 +66,7 @@ pub fn white_at(s: &[u8], at: usize) -> usize
     front_size(a, b, c)
 }
 
-// The byte before `at`; 0 if there is none.
+// The byte before `at`; 0 if there is none. By the place, as `white_before`.
 fn byte_before(s: &[u8], at: usize) -> u8
     requires { at ≤ length s.now }
     ensures { result ≡ get_or (reverse (take at s.now)) 0 0 }
@@ -73,7 +74,7 @@ fn byte_before(s: &[u8], at: usize) -> u8
     s[..at].last().copied().unwrap_or(0)
 }
 
-// The size of the White_Space character that ends at `at`; 0 if there is none.
+// The size of the White_Space character that ends at `at`; 0 if there is none. By the place, which its caller counts.
 fn white_before(s: &[u8], at: usize) -> usize
     requires at_nonzero { 0 < at }
     requires at_in_bounds { at ≤ length s.now }
@@ -95,6 +96,7 @@ fn front_end(s: &[u8]) -> usize
     ensures s_value { drop result s.now ≡ trimmed_front s.now }
 {
     let mut i: usize = 0;
+    // No `for`: a step is as long as the character.
     while i < s.len() {
         let n = white_at(s, i);
         if n == 0 {
@@ -111,6 +113,7 @@ fn back_start(s: &[u8]) -> usize
     ensures s_value { take result s.now ≡ trimmed_back s.now }
 {
     let mut i = s.len();
+    // No `for`: a step is as long as the character.
     while 0 < i {
         let n = white_before(s, i);
         if n == 0 {
@@ -122,6 +125,7 @@ fn back_start(s: &[u8]) -> usize
 }
 
 // Where the text stands, by all of White_Space.
+#[tactic(auto, using(text::proofs::TrimLaws::trim_steps))]
 fn trim_wide(s: &[u8]) -> Place
     ensures { result ≡ trim_place s.now }
 {
@@ -150,6 +154,7 @@ fn is_plain(x: u8) -> bool
 
 // Where the text stands once its White_Space is off both ends. Most texts have at most some blanks at the front: those need not be walked by all of
 // White_Space, and this function stays small enough to stand in its callers.
+#[tactic(auto, using(text::proofs::TrimLaws::trim_steps))]
 pub fn trim_place(s: &[u8]) -> Place
     ensures { result ≡ trim_place s.now }
 {
@@ -168,6 +173,7 @@ pub fn trim_place(s: &[u8]) -> Place
 }
 
 // The text without White_Space at either end, as a part of it.
+#[tactic(auto, using(text::proofs::TrimLaws::trim_steps))]
 pub fn trim(s: &[u8]) -> &[u8]
     ensures { result.now ≡ trimmed s.now }
 {

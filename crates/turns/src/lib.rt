@@ -39,17 +39,16 @@ fn find(text: &[u8], w: Where, at: usize, number: usize) -> Turn
 }
 
 // What the line that begins there is: as it was kept, or else found out.
-pub fn look(text: &[u8], kept: &[Kept], w: Where, at: usize, number: usize) -> Turn
+pub fn look(text: &[u8], kept: &[Option<Kept>], w: Where, at: usize, number: usize) -> Turn
     requires memo { Memo text.now kept.now }
     requires at_in_bounds { at < length text.now }
     ensures step_value { result.step ≡ step_of plain_rules text.now w (line_at text.now at number) }
     ensures next_value { result.next ≡ (line_at text.now at number).next }
 {
-    if number < kept.len() {
-        let e = kept[number];
-        if kept::is_of(e, at, w) {
-            return turn_of(e);
-        }
+    if let Some(Some(e)) = kept.get(number)
+        && kept::is_of(*e, at, w)
+    {
+        return turn_of(*e);
     }
     find(text, w, at, number)
 }

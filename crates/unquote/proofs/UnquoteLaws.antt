@@ -1,5 +1,5 @@
 -- Unquoting: the five replacements, taken one token at a time, and the quotes around them. Assumes nothing.
-use Prim.Native.Nat.{ℕ, suc, ◌+◌, ◌-◌, ◌≤◌, ◌<◌}
+use Prim.Native.Nat.{ℕ, suc, ◌-◌, ◌≤◌, ◌<◌}
 use mathlib.Core.Path.{◌≡◌, refl, sym, ap, ◌∙◌}
 use mathlib.Core.Bool.{Bool, true, false}
 use mathlib.Core.List.{List, [], ◌∷◌}
@@ -8,13 +8,13 @@ use native.Mathlib.Omega.{arith}
 use lib.Dec.{eqb, leb}
 use lib.ListN.{length, get_or, take, drop, take-append-drop, length-append, length-drop}
 use borrow.Author.Tests.{eq-eqb, ne_eqb, eqb-true, eqb-false, leb-true}
-use lib.Seq.{drop-drop, get_or-drop}
-use Rattle.text.proofs.Scan.{by_cases, and_false, both, rest_more, rest-none}
+use Rattle.std.proofs.lemmas.List.{take_rest}
+use Rattle.text.proofs.Scan.{by_cases, and_false, both}
 use Rattle.std.specs.Prelude.{if◌then◌else◌}
 use Rattle.text.specs.Base.{◌&◌, LF, CR, TAB, QUOTE, BACKSLASH}
 use Rattle.unquote.specs.declared.Token.{Token}
 use Rattle.values.specs.Unquote.{quoted, between, replaced, Escape, escapes, replaced_in_order, unescaped, unquoted}
-use Rattle.unquote.specs.UnquoteWalk.{meant, token, escape_of, token_of, token_at}
+use Rattle.unquote.specs.UnquoteWalk.{meant, token, escape_of, token_of, first_token}
 
 abbrev ◌isnt◌ : ℕ → ℕ → Type 0
 ◌isnt◌ x y = x ≡ y → ⊥
@@ -254,34 +254,34 @@ size_of x y z =
     by_cases P (eqb x BACKSLASH) _ _
     (by_cases P (eqb (meant y) 0) _ _ (by_cases P (eqb y BACKSLASH & eqb (meant z) 0) _ _ (omega arith) (omega arith)) (omega arith)) (omega arith)
 
--- the token at a place of a text, and the rest of the text after it
-law_at : (s : List ℕ) (i : ℕ) (t : Token) → i < length s → t ≡ token_of (get_or s i 0) (get_or s (i + 1) 0) (get_or s (i + 2) 0)
-    → unescaped (drop i s) ≡ t.byte ∷ unescaped (drop (i + t.size) s)
-law_at s i t h e =
-    rw (← drop-drop t.size i s, rest_more s i h, e, ← y, ← z) (law_first (get_or s i 0) (drop (i + 1) s))
-  where
-    y : get_or (drop (i + 1) s) 0 0 ≡ get_or s (i + 1) 0
-    y = get_or-drop (i + 1) s 0 0 ∙ ap (λ (k : ℕ). get_or s k 0) (omega arith)
-
-    z : get_or (drop (i + 1) s) 1 0 ≡ get_or s (i + 2) 0
-    z = get_or-drop (i + 1) s 1 0 ∙ ap (λ (k : ℕ). get_or s k 0) (omega arith)
-
-pub none_left : (s : List ℕ) (i : ℕ) → length s ≤ i → unescaped (drop i s) ≡ []
+-- nothing is left of nothing
+pub none_left : (s : List ℕ) → true ≡ eqb (length s) 0 → unescaped s ≡ []
 unfolding unescaped replaced_in_order replaced
-none_left s i h = rw (rest-none s i h)
+none_left [] e = refl
+none_left (x ∷ s) e = let z = eqb-true (length (x ∷ s)) 0 (sym e) in absurd (omega arith)
 
--- what a walk needs of the token at a place: it moves on, and the result's first byte is its byte
-pub record Known (s : List ℕ) (i : ℕ) (t : Token) : Type 0 where
-  pub some : 1 ≤ t.size
-  pub few : t.size ≤ 2
-  pub law : unescaped (drop i s) ≡ t.byte ∷ unescaped (drop (i + t.size) s)
-  pub counted : length (unescaped (drop i s)) ≡ suc (length (unescaped (drop (i + t.size) s)))
+in_text : (x : ℕ) (rest : List ℕ) → (token_of x (get_or rest 0 0) (get_or rest 1 0)).size ≤ suc (length rest)
+unfolding token_of escape_of meant
+in_text x [] = by_cases (λ (t : Token). t.size ≤ 1) (eqb x BACKSLASH) _ _ (omega arith) (omega arith)
+in_text x (y ∷ rest) = omega (arith, (size_of x y (get_or rest 0 0)).1)
 
-pub known : (s : List ℕ) (i : ℕ) (t : Token) → i < length s → t ≡ token_at s i → Known s i t
-unfolding token_at
-known s i t h e =
-    let z : (1 ≤ t.size) × (t.size ≤ 2) = rw e (size_of _ _ _) in
-    record { some = z.0; few = z.1; law = law_at s i t h e; counted = ap length (law_at s i t h e) }
+-- the first token lies in the text, and the result's first byte is its byte
+module _ (s : List ℕ) (t : Token) where
+  pub token_fits : t ≡ first_token s → 0 < length s → t.size ≤ length s
+  unfolding first_token
+  token_fits e h = go s h e
+    where
+      go : (s : List ℕ) → 0 < length s → t ≡ first_token s → t.size ≤ length s
+      go [] h e = absurd (omega arith)
+      go (x ∷ rest) h e = rw e (in_text x rest)
+
+  pub token_law : t ≡ first_token s → 0 < length s → unescaped s ≡ t.byte ∷ unescaped (take (length s - t.size) (drop t.size s))
+  unfolding first_token
+  token_law e h = rw take_rest (go s h e)
+    where
+      go : (s : List ℕ) → 0 < length s → t ≡ first_token s → unescaped s ≡ t.byte ∷ unescaped (drop t.size s)
+      go [] h e = absurd (omega arith)
+      go (x ∷ rest) h e = rw e (law_first x rest)
 
 -- ---- the quotes
 
@@ -351,11 +351,15 @@ all_shorter [] s = omega arith
 all_shorter (e ∷ rows) s =
     le_trans (all_shorter rows (replaced BACKSLASH e.letter e.byte s)) (replaced_shorter BACKSLASH e.letter e.byte s)
 
+pub unescaped_shorter : (s : List ℕ) → length (unescaped s) ≤ length s
+unfolding unescaped
+unescaped_shorter s = all_shorter escapes s
+
 pub unquoted_shorter : (s : List ℕ) → length (unquoted s) ≤ length s
-unfolding unquoted unescaped between
+unfolding unquoted between
 unquoted_shorter s =
     let n = length s - 2 in
     let cut = drop 1 s in
     by_cases (λ l. length l ≤ length s) (quoted s) (unescaped (between s)) s
-    (omega (arith, all_shorter escapes (take n cut), ap length (take-append-drop n cut), length-append (take n cut) (drop n cut), length-drop 1 s))
+    (omega (arith, unescaped_shorter (take n cut), ap length (take-append-drop n cut), length-append (take n cut) (drop n cut), length-drop 1 s))
     (omega arith)

@@ -1,8 +1,10 @@
 -- The five replacements by one walk over the bytes, as the code takes it; `UnquoteLaws` shows that it answers what the definition does. A
 -- token is the byte that comes out next and how many bytes it stands for. Assumes nothing.
-use Rattle.std.specs.Prelude.{ℕ, ◌+◌, List, eqb, get_or, if◌then◌else◌}
+use Rattle.std.specs.Prelude.{ℕ, List, eqb, get_or, if◌then◌else◌}
 use Rattle.text.specs.Base.{◌&◌, TAB, LF, CR, QUOTE, BACKSLASH}
+use Rattle.values.specs.Unquote.{unescaped}
 use Rattle.unquote.specs.declared.Token.{Token}
+use Rattle.unquote.specs.declared.Unescaped.{Unescaped}
 
 -- what a backslash and c become by the first four, or 0
 unfoldable pub meant : ℕ → ℕ
@@ -20,6 +22,10 @@ escape_of y z =
 unfoldable pub token_of : (x y z : ℕ) → Token
 token_of x y z = if eqb x BACKSLASH then escape_of y z else token x 1
 
--- the first token of a text from i on
-unfoldable pub token_at : List ℕ → ℕ → Token
-token_at s i = token_of (get_or s i 0) (get_or s (i + 1) 0) (get_or s (i + 2) 0)
+-- the first token of a text
+unfoldable pub first_token : List ℕ → Token
+first_token s = token_of (get_or s 0 0) (get_or s 1 0) (get_or s 2 0)
+
+-- what the walk has still to give
+abbrev pub unescaped_left : Unescaped → List ℕ
+unescaped_left u = unescaped u.0.now

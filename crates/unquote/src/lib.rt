@@ -4,7 +4,8 @@
 ghost use Rattle.std.specs.Prelude.{◌≡◌, ◌<◌, length};
 ghost use Rattle.text.specs.Base.{overlaid};
 ghost use Rattle.values.specs.Unquote.{quoted, unescaped, unquoted};
-ghost use Rattle.unquote.specs.UnquoteWalk.{meant, escape_of, token_at};
+ghost use Rattle.std.specs.Iterator.{YieldsFirst, item_count};
+ghost use Rattle.unquote.specs.UnquoteWalk.{meant, escape_of, first_token, unescaped_left};
 
 // A byte of the result, and how many bytes of the text it stands for.
 #[derive(Clone, Copy)]
@@ -48,15 +49,37 @@ fn escape_of(y: u8, z: u8) -> Token
     }
 }
 
-// The first token of the text from i on. A plain byte costs one test.
-#[tactic(auto, unfolding(crate::specs::UnquoteWalk::token_of, crate::specs::UnquoteWalk::token_at))]
-fn token_at(s: &[u8], i: usize) -> Token
-    requires { i < length s.now }
-    ensures { result ≡ token_at s.now i }
+// The first token of the text. A plain byte costs one test.
+#[tactic(auto, unfolding(crate::specs::UnquoteWalk::token_of, crate::specs::UnquoteWalk::first_token))]
+fn first_token(s: &[u8]) -> Token
+    requires { 0 < length s.now }
+    ensures { result ≡ first_token s.now }
 {
-    match s[i] {
-        b'\\' => escape_of(text::byte::byte_at(s, i + 1), text::byte::byte_at(s, i + 2)),
+    match s[0] {
+        b'\\' => escape_of(text::byte::byte_at(s, 1), text::byte::byte_at(s, 2)),
         byte => Token { byte, size: 1 },
+    }
+}
+
+// The bytes of a text with its escapes undone.
+#[derive(Drop)]
+struct Unescaped<'a>(&'a [u8]);
+
+impl<'a> Iterator for Unescaped<'a> {
+    type Item = u8;
+
+    ghost next_gives = { YieldsFirst unescaped_left };
+
+    ghost remaining = { item_count unescaped_left };
+
+    #[tactic(auto, using(crate::proofs::UnquoteLaws::none_left, crate::proofs::UnquoteLaws::token_fits, crate::proofs::UnquoteLaws::token_law))]
+    fn next(&mut self) -> Option<u8> {
+        if self.0.is_empty() {
+            return None;
+        }
+        let token = first_token(self.0);
+        self.0 = &self.0[token.size..];
+        Some(token.byte)
     }
 }
 
@@ -64,13 +87,7 @@ fn token_at(s: &[u8], i: usize) -> Token
 fn unescaped_len(s: &[u8]) -> usize
     ensures { result ≡ length (unescaped s.now) }
 {
-    let mut i: usize = 0;
-    let mut len: usize = 0;
-    while i < s.len() {
-        i += token_at(s, i).size;
-        len += 1;
-    }
-    len
+    Unescaped(s).count()
 }
 
 // Writes s with its escapes undone over all of out, which has exactly the room.
@@ -78,11 +95,8 @@ fn unescape(s: &[u8], out: &mut [u8])
     requires { length out.old ≡ length (unescaped s.now) }
     ensures { out.new ≡ unescaped s.now }
 {
-    let mut i: usize = 0;
-    for byte in out {
-        let t = token_at(s, i);
-        *byte = t.byte;
-        i += t.size;
+    for (o, byte) in Unescaped(s).enumerate() {
+        out[o] = byte;
     }
 }
 
@@ -118,6 +132,7 @@ fn unquote_fill(s: &[u8], out: &mut [u8])
 }
 
 // Writes s unquoted at the front of out, if there is room for all of it, and says how many bytes that are.
+#[tactic(auto, using(text::proofs::Front::fronts))]
 pub fn unquote(s: &[u8], out: &mut [u8]) -> usize
     ensures value { result ≡ length (unquoted s.now) }
     ensures out_after { out.new ≡ overlaid (unquoted s.now) out.old }

@@ -5,13 +5,15 @@ use mathlib.Core.Bool.{Bool, true, false}
 use mathlib.Core.List.{List, [], ◌∷◌}
 use native.Mathlib.Omega.{arith}
 use native.Mathlib.Nat.{le_trans, le_refl}
-use lib.Dec.{eqb, ltb}
+use lib.Dec.{eqb, leb, ltb}
 use lib.ListN.{length, get_or, drop}
-use borrow.Author.Tests.{lt-ltb, le-ltb, ltb-true}
+use borrow.Author.Tests.{eqb-true, lt-ltb, le-ltb, ltb-true}
 use Rattle.std.specs.Prelude.{if◌then◌else◌, None, Option, Some}
-use Rattle.text.specs.Base.{◌&◌, PLUS}
+use Rattle.text.specs.Base.{◌&◌, within, PLUS}
 use Rattle.values.specs.Numbers.{all_digits, decimal_from, digits, number}
-use Rattle.text.proofs.Scan.{rest_more, rest-none, and_false, by_cases, within-true, within_low, within_high}
+use Rattle.std.specs.Char.{is_ascii_digit}
+use Rattle.text.proofs.Scan.{rest_more, rest-none, never, and_false, by_cases}
+use Rattle.text.proofs.StdLaws.{both_ways}
 
 -- the digits of `rest`, after those that spelled v
 unfoldable pub digits_from : (limit v : ℕ) → List ℕ → Option ℕ
@@ -45,6 +47,10 @@ number-below limit (x ∷ rest) = by_cases (Below limit) (eqb x PLUS) _ _ (digit
 
 -- ---- the walk
 
+digit_is : (x : ℕ) → is_ascii_digit x ≡ within 0x30 0x39 x
+unfolding within
+digit_is x = both_ways (leb 0x30 x) refl
+
 -- more digits make no smaller number
 grows : (v : ℕ) (rest : List ℕ) → v ≤ decimal_from v rest
 unfolding decimal_from
@@ -55,14 +61,15 @@ beyond : (limit v : ℕ) (rest : List ℕ) → limit ≤ v → digits_from limit
 unfolding digits_from
 beyond limit v rest h = rw (le-ltb (decimal_from v rest) limit (le_trans h (grows v rest)), and_false (all_digits rest))
 
-module _ (limit : ℕ) (s : List ℕ) (at : ℕ) where
-  pub no_digit : length s ≤ at → None ≡ digits limit (drop at s)
-  unfolding digits
-  no_digit h = rw (rest-none s at h)
+pub no_digit : (limit : ℕ) (s : List ℕ) → true ≡ eqb (length s) 0 → None ≡ digits limit s
+unfolding digits
+no_digit limit [] e = refl
+no_digit limit (x ∷ rest) e = let z = eqb-true (length (x ∷ rest)) 0 (sym e) in absurd (omega arith)
 
-  pub begun : at < length s → digits_from limit 0 (drop at s) ≡ digits limit (drop at s)
-  unfolding digits digits_from
-  begun h = rw (rest_more s at h)
+pub begun : (limit : ℕ) (s : List ℕ) → false ≡ eqb (length s) 0 → digits_from limit 0 s ≡ digits limit s
+unfolding digits digits_from
+begun limit [] e = never (sym e)
+begun limit (x ∷ rest) e = refl
 
 module _ (s : List ℕ) (i limit v : ℕ) (whole : Option ℕ) where
   abbrev pub Here : Type 0
@@ -72,17 +79,14 @@ module _ (s : List ℕ) (i limit v : ℕ) (whole : Option ℕ) where
   unfolding digits_from all_digits decimal_from
   done e h l = rw (rest-none s i h, lt-ltb v limit l) at e
 
-  pub low : Here → i < length s → get_or s i 0 < 0x30 → None ≡ whole
-  unfolding digits_from all_digits
-  low e h x = rw (rest_more s i h, within_low 0x30 0x39 _ x) at e
+  module _ (e : Here) (h : i < length s) where
+    pub other : false ≡ is_ascii_digit (get_or s i 0) → None ≡ whole
+    unfolding digits_from all_digits
+    other x = rw (rest_more s i h, ← digit_is (get_or s i 0), ← x) at e
 
-  pub high : Here → i < length s → 0x39 < get_or s i 0 → None ≡ whole
-  unfolding digits_from all_digits
-  high e h x = rw (rest_more s i h, within_high 0x30 0x39 _ x) at e
+    pub a_digit : true ≡ is_ascii_digit (get_or s i 0) → digits_from limit (v * 10 + (get_or s i 0 - 0x30)) (drop (i + 1) s) ≡ whole
+    unfolding digits_from all_digits decimal_from
+    a_digit x = rw (rest_more s i h, ← digit_is (get_or s i 0), ← x) at e
 
-  pub a_digit : Here → i < length s → 0x30 ≤ get_or s i 0 → get_or s i 0 ≤ 0x39 → digits_from limit (v * 10 + (get_or s i 0 - 0x30)) (drop (i + 1) s) ≡ whole
-  unfolding digits_from all_digits decimal_from
-  a_digit e h a b = rw (rest_more s i h, within-true 0x30 0x39 _ a b) at e
-
-  pub too_large : Here → i < length s → 0x30 ≤ get_or s i 0 → get_or s i 0 ≤ 0x39 → limit ≤ v * 10 + (get_or s i 0 - 0x30) → None ≡ whole
-  too_large e h a b l = sym (beyond _ _ _ l) ∙ a_digit e h a b
+    pub too_large : true ≡ is_ascii_digit (get_or s i 0) → limit ≤ v * 10 + (get_or s i 0 - 0x30) → None ≡ whole
+    too_large x l = sym (beyond _ _ _ l) ∙ a_digit x

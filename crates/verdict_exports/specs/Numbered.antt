@@ -8,7 +8,9 @@ use Rattle.script.specs.declared.response.HandshakeInfo.{HandshakeInfo}
 use Rattle.verdicts.specs.Expected.{Expected}
 use Rattle.verdicts.specs.Told.{Subject, greeting, reply}
 use Rattle.verdicts.specs.Held.{expected_of, response_of, info_of, expect_in, response_in, info_in}
+use Rattle.verdicts.specs.Subjects.{held_by, parts_in}
 use Rattle.verdicts.specs.Verdicts.{verdict, code}
+use Rattle.verdicts.specs.declared.handed.Handed.{Handed}
 use Rattle.told.specs.Told.{counted}
 
 -- whether every part of the expectation lies inside the text, and every part of what it is judged against inside its bytes
@@ -30,4 +32,13 @@ module _ (text : List ℕ) (e : Expect) (bytes : List ℕ) (lists : List (List �
       (expect_in (length text) e)
       (info_in (length bytes) (counted lists) i)
       (greeting (info_of bytes (counted lists) i))
+      (expected_of text e)
+
+  -- by what it is judged against: each of the two above, for its kind
+  abbrev pub subject_number : Handed → ℕ
+  subject_number h =
+      numbered
+      (expect_in (length text) e)
+      (parts_in bytes (counted lists) h)
+      (held_by bytes (counted lists) h)
       (expected_of text e)

@@ -3,55 +3,32 @@
 
 ghost use Rattle.std.specs.Prelude.{◌≡◌};
 ghost use Rattle.rows.specs.Rows.{expect_row, response_row, info_row};
-ghost use Rattle.verdict_exports.specs.Numbered.{entry_number, handshake_number};
+ghost use Rattle.verdict_exports.specs.Numbered.{entry_number, handshake_number, subject_number};
 
-use lookups::looked::{looked_entry, looked_handshake};
 use places::expect_in;
-use response_places::{info_in, response_in};
 use script::records::Expect;
 use script::refusals::Reason;
-use script::response::{DaemonResponse, HandshakeInfo};
+use subjects::handed::{Subject, looked_value};
+use texts::Held;
 use told::counted_of;
-use verdict_of::{entry_verdict, handshake_verdict};
+use verdicts::handed::Handed;
 
-fn entry_number(
-    text: &[u8],
-    e: Expect,
-    r: DaemonResponse,
-    bytes: &[u8],
-    lists: &[[usize; 2]],
-) -> u64
-    ensures { result ≡ entry_number text.now e bytes.now lists.now r }
+fn number(text: &[u8], e: Expect, h: Handed, bytes: &[u8], lists: &[[usize; 2]]) -> u64
+    ensures { result ≡ subject_number text.now e bytes.now lists.now h }
 {
     if !expect_in(text.len(), e) {
         return Reason::ExpectationOutside.number();
     }
-    let table = counted_of(lists);
-    if !response_in(bytes.len(), table, r) {
+    let lists = counted_of(lists);
+    let subject = Subject {
+        handed: h,
+        held: Held { bytes, lists },
+    };
+    if !subject.parts_in() {
         return Reason::PartOutside.number();
     }
-    let value = looked_entry(e, text, r);
-    u8::from(entry_verdict(e, value, text, r, bytes, table)) as u64
-}
-
-fn handshake_number(
-    text: &[u8],
-    e: Expect,
-    i: HandshakeInfo,
-    bytes: &[u8],
-    lists: &[[usize; 2]],
-) -> u64
-    ensures { result ≡ handshake_number text.now e bytes.now lists.now i }
-{
-    if !expect_in(text.len(), e) {
-        return Reason::ExpectationOutside.number();
-    }
-    let table = counted_of(lists);
-    if !info_in(bytes.len(), table, i) {
-        return Reason::PartOutside.number();
-    }
-    let value = looked_handshake(e, i);
-    u8::from(handshake_verdict(e, value, text, i, bytes, table)) as u64
+    let value = looked_value(e, text, h);
+    u8::from(subject.verdict(e, value, text)) as u64
 }
 
 // Of an expectation that is judged against a response; both come in rows of numbers, as for Message.
@@ -67,11 +44,11 @@ pub extern "C" fn nwscript_entry_verdict(
     ensures { result ≡ entry_number text.now (expect_row expectation.now n) bytes.now lists.now (response_row response.now) }
 {
     let e = row_expects::expect_of(expectation, n);
-    let r = row_responses::response_of(response);
-    entry_number(text, e, r, bytes, lists)
+    let h = Handed::Response(row_responses::response_of(response));
+    number(text, e, h, bytes, lists)
 }
 
-// And of one that is judged against what the handshake told.
+// And of one that is judged against what the handshake told: a function of its own, for no enum with data goes through C.
 #[unsafe(no_mangle)]
 pub extern "C" fn nwscript_handshake_verdict(
     text: &[u8],
@@ -84,6 +61,6 @@ pub extern "C" fn nwscript_handshake_verdict(
     ensures { result ≡ handshake_number text.now (expect_row expectation.now n) bytes.now lists.now (info_row information.now) }
 {
     let e = row_expects::expect_of(expectation, n);
-    let i = row_infos::info_of(information);
-    handshake_number(text, e, i, bytes, lists)
+    let h = Handed::Info(row_infos::info_of(information));
+    number(text, e, h, bytes, lists)
 }

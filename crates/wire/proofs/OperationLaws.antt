@@ -64,6 +64,9 @@ coded-code AddBuildLog = refl
 coded-code BuildPathsWithResults = refl
 coded-code AddPermRoot = refl
 
+pub coded_as : (o : Op) (n k : ℕ) → n ≡ k → coded k ≡ Some o → Some o ≡ coded n
+coded_as o n k e f = sym (ap coded e ∙ f)
+
 -- ---- one test for all
 
 -- all operations of a list pass a test
@@ -135,11 +138,11 @@ pub name-named : (s : List ℕ) (o : Op) → named s ≡ Some o → s ≡ codes 
 name-named s o e = spelled (operation o).name s (named_spelled s o e)
 
 -- the code of what was found, or 0
-abbrev code_of : Option Op → ℕ
+abbrev pub code_of : Option Op → ℕ
 code_of None = 0
 code_of (Some o) = (operation o).code
 
-found : (x : Option Op) (o : Op) → eqb (code_of x) (operation o).code ≡ true → x ≡ Some o
+pub found : (x : Option Op) (o : Op) → eqb (code_of x) (operation o).code ≡ true → x ≡ Some o
 found None o e = absurd (omega (arith, no_zero o, eqb-true 0 (operation o).code e))
 found (Some p) o e = ap Some (same_code p o (eqb-true (operation p).code (operation o).code e))
 

@@ -4,9 +4,7 @@ ghost use Rattle.text.specs.Base.{overlaid};
 ghost use Rattle.text.specs.Literal.{spells};
 ghost use Rattle.text.proofs.LiteralLaws.{codes};
 ghost use Rattle.wire.specs.Operations.{operation, operations, named, coded};
-ghost use Rattle.wire.specs.OperationTables.{letters, Spelt, Starts, Hints};
-
-use text::parts::Span;
+ghost use Rattle.wire.specs.OperationTables.{Hints};
 
 #[derive(Clone, Copy, PartialEq, Eq)]
 pub enum Op {
@@ -49,215 +47,99 @@ pub enum Op {
     AddPermRoot = 47,
 }
 
-// The names, one behind the other, by rising code.
-const NAMES: [u8; 565] = *b"\
-    IsValidPath\
-    QueryReferrers\
-    AddToStore\
-    AddTextToStore\
-    BuildPaths\
-    EnsurePath\
-    AddTempRoot\
-    AddIndirectRoot\
-    SyncWithGC\
-    FindRoots\
-    QueryDeriver\
-    SetOptions\
-    CollectGarbage\
-    QuerySubstitutablePathInfo\
-    QueryDerivationOutputs\
-    QueryAllValidPaths\
-    QueryPathInfo\
-    QueryDerivationOutputNames\
-    QueryPathFromHashPart\
-    QuerySubstitutablePathInfos\
-    QueryValidPaths\
-    QuerySubstitutablePaths\
-    QueryValidDerivers\
-    OptimiseStore\
-    VerifyStore\
-    BuildDerivation\
-    AddSignatures\
-    NarFromPath\
-    AddToStoreNar\
-    QueryMissing\
-    QueryDerivationOutputMap\
-    RegisterDrvOutput\
-    QueryRealisation\
-    AddMultipleToStore\
-    AddBuildLog\
-    BuildPathsWithResults\
-    AddPermRoot";
-
-// By code, where the name begins in NAMES. It ends where that of the next code begins: a code that is not in use has none.
-const STARTS: [u16; 49] = [
-    0, 0, // IsValidPath
-    11, 11, 11, 11, 11, // QueryReferrers
-    25, // AddToStore
-    35, // AddTextToStore
-    49, // BuildPaths
-    59, // EnsurePath
-    69, // AddTempRoot
-    80, // AddIndirectRoot
-    95, // SyncWithGC
-    105, // FindRoots
-    114, 114, 114, 114, // QueryDeriver
-    126, // SetOptions
-    136, // CollectGarbage
-    150, // QuerySubstitutablePathInfo
-    176, // QueryDerivationOutputs
-    198, // QueryAllValidPaths
-    216, 216, 216, // QueryPathInfo
-    229, 229, // QueryDerivationOutputNames
-    255, // QueryPathFromHashPart
-    276, // QuerySubstitutablePathInfos
-    303, // QueryValidPaths
-    318, // QuerySubstitutablePaths
-    341, // QueryValidDerivers
-    359, // OptimiseStore
-    372, // VerifyStore
-    383, // BuildDerivation
-    398, // AddSignatures
-    411, // NarFromPath
-    422, // AddToStoreNar
-    435, // QueryMissing
-    447, // QueryDerivationOutputMap
-    471, // RegisterDrvOutput
-    488, // QueryRealisation
-    504, // AddMultipleToStore
-    522, // AddBuildLog
-    533, // BuildPathsWithResults
-    554, // AddPermRoot
-    565,
+// By the sum of `hint`, the only operation whose name comes to it.
+const HINTS: [Option<Op>; 71] = [
+    None,
+    None,
+    None,
+    Some(Op::QueryDeriver),
+    Some(Op::QueryMissing),
+    None,
+    Some(Op::AddTextToStore),
+    None,
+    Some(Op::QueryValidPaths),
+    Some(Op::AddSignatures),
+    None,
+    Some(Op::QueryValidDerivers),
+    None,
+    Some(Op::QueryDerivationOutputs),
+    Some(Op::BuildPaths),
+    Some(Op::QueryDerivationOutputMap),
+    None,
+    Some(Op::QueryDerivationOutputNames),
+    Some(Op::AddPermRoot),
+    Some(Op::RegisterDrvOutput),
+    None,
+    None,
+    None,
+    None,
+    None,
+    Some(Op::BuildPathsWithResults),
+    None,
+    None,
+    Some(Op::CollectGarbage),
+    Some(Op::QueryPathInfo),
+    None,
+    Some(Op::SetOptions),
+    Some(Op::FindRoots),
+    None,
+    None,
+    None,
+    None,
+    Some(Op::QueryPathFromHashPart),
+    Some(Op::AddIndirectRoot),
+    None,
+    None,
+    None,
+    Some(Op::AddMultipleToStore),
+    None,
+    None,
+    Some(Op::NarFromPath),
+    Some(Op::QueryReferrers),
+    None,
+    Some(Op::QueryRealisation),
+    None,
+    None,
+    Some(Op::IsValidPath),
+    None,
+    Some(Op::VerifyStore),
+    Some(Op::SyncWithGC),
+    None,
+    Some(Op::QueryAllValidPaths),
+    Some(Op::AddTempRoot),
+    Some(Op::EnsurePath),
+    None,
+    Some(Op::AddBuildLog),
+    Some(Op::AddToStore),
+    None,
+    Some(Op::QuerySubstitutablePaths),
+    Some(Op::AddToStoreNar),
+    Some(Op::BuildDerivation),
+    Some(Op::QuerySubstitutablePathInfo),
+    Some(Op::QuerySubstitutablePathInfos),
+    None,
+    Some(Op::OptimiseStore),
+    None,
 ];
 
-// By the sum of `code_hint`, the code of the only name that comes to it, or 0.
-const HINTS: [u8; 71] = [
-    0, 0, 0, 18, // QueryDeriver
-    40, // QueryMissing
-    0, 8, // AddTextToStore
-    0, 31, // QueryValidPaths
-    37, // AddSignatures
-    0, 33, // QueryValidDerivers
-    0, 22, // QueryDerivationOutputs
-    9, // BuildPaths
-    41, // QueryDerivationOutputMap
-    0, 28, // QueryDerivationOutputNames
-    47, // AddPermRoot
-    42, // RegisterDrvOutput
-    0, 0, 0, 0, 0, 46, // BuildPathsWithResults
-    0, 0, 20, // CollectGarbage
-    26, // QueryPathInfo
-    0, 19, // SetOptions
-    14, // FindRoots
-    0, 0, 0, 0, 29, // QueryPathFromHashPart
-    12, // AddIndirectRoot
-    0, 0, 0, 44, // AddMultipleToStore
-    0, 0, 38, // NarFromPath
-    6, // QueryReferrers
-    0, 43, // QueryRealisation
-    0, 0, 1, // IsValidPath
-    0, 35, // VerifyStore
-    13, // SyncWithGC
-    0, 23, // QueryAllValidPaths
-    11, // AddTempRoot
-    10, // EnsurePath
-    0, 45, // AddBuildLog
-    7, // AddToStore
-    0, 32, // QuerySubstitutablePaths
-    39, // AddToStoreNar
-    36, // BuildDerivation
-    21, // QuerySubstitutablePathInfo
-    30, // QuerySubstitutablePathInfos
-    0, 34, // OptimiseStore
-    0,
-];
-
-// The tables, each tested here, once for all who use it.
-fn names() -> [u8; 565]
-    ensures { result ≡ letters operations }
-{
-    NAMES
-}
-
-fn starts() -> [u16; 49]
-    ensures { Starts result }
-{
-    STARTS
-}
-
-fn hints() -> [u8; 71]
+// The table, tested here, once for all who use it.
+fn hints() -> [Option<Op>; 71]
     ensures { Hints result }
 {
     HINTS
 }
 
-// Where the name of an operation stands in NAMES.
-fn name_span(op: Op) -> Span
-    ensures { Spelt op result.start result.end }
-{
-    let starts = starts();
-    let code = op.code() as usize;
-    let start = starts[code] as usize;
-    let end = starts[code + 1] as usize;
-    Span { start, end }
-}
-
-// The only code that an operation with the name s can have: no two of the 37 names come to the same sum.
-fn code_hint(s: &[u8]) -> u8
-    ensures { (op : Op) → named s.now ≡ Some op → result ≡ (operation op).code }
+// The only operation that can have the name s: no two of the 37 names come to the same sum. A table and no match on the names, since the proof of such a
+// match has a goal for each byte of each name, a thousand in all.
+fn hint(s: &[u8]) -> Option<Op>
+    ensures { (op : Op) → named s.now ≡ Some op → result ≡ Some op }
 {
     if s.len() < 6 {
-        return 0;
+        return None;
     }
     let sum = s.len() + 2 * (s[3] as usize) + 8 * (s[5] as usize);
     let hints = hints();
     hints[sum % 71]
-}
-
-// The only operation that can have the code.
-fn coded_op(code: u64) -> Op
-    ensures { (op : Op) → code ≡ (operation op).code → op ≡ result }
-{
-    match code {
-        1 => Op::IsValidPath,
-        6 => Op::QueryReferrers,
-        7 => Op::AddToStore,
-        8 => Op::AddTextToStore,
-        9 => Op::BuildPaths,
-        10 => Op::EnsurePath,
-        11 => Op::AddTempRoot,
-        12 => Op::AddIndirectRoot,
-        13 => Op::SyncWithGC,
-        14 => Op::FindRoots,
-        18 => Op::QueryDeriver,
-        19 => Op::SetOptions,
-        20 => Op::CollectGarbage,
-        21 => Op::QuerySubstitutablePathInfo,
-        22 => Op::QueryDerivationOutputs,
-        23 => Op::QueryAllValidPaths,
-        26 => Op::QueryPathInfo,
-        28 => Op::QueryDerivationOutputNames,
-        29 => Op::QueryPathFromHashPart,
-        30 => Op::QuerySubstitutablePathInfos,
-        31 => Op::QueryValidPaths,
-        32 => Op::QuerySubstitutablePaths,
-        33 => Op::QueryValidDerivers,
-        34 => Op::OptimiseStore,
-        35 => Op::VerifyStore,
-        36 => Op::BuildDerivation,
-        37 => Op::AddSignatures,
-        38 => Op::NarFromPath,
-        39 => Op::AddToStoreNar,
-        40 => Op::QueryMissing,
-        41 => Op::QueryDerivationOutputMap,
-        42 => Op::RegisterDrvOutput,
-        43 => Op::QueryRealisation,
-        44 => Op::AddMultipleToStore,
-        45 => Op::AddBuildLog,
-        46 => Op::BuildPathsWithResults,
-        _ => Op::AddPermRoot,
-    }
 }
 
 impl Op {
@@ -270,11 +152,95 @@ impl Op {
     }
 
     // The Rust's `from_u64`.
+    #[tactic(auto, using(crate::proofs::OperationLaws::coded_as), unfolding(crate::specs::Operations::operation, crate::specs::Operations::coded, crate::specs::Operations::first))]
     pub fn from_code(code: u64) -> Option<Op>
         ensures { result ≡ coded code }
     {
-        let op = coded_op(code);
-        (op.code() == code).then_some(op)
+        Some(match code {
+            1 => Op::IsValidPath,
+            6 => Op::QueryReferrers,
+            7 => Op::AddToStore,
+            8 => Op::AddTextToStore,
+            9 => Op::BuildPaths,
+            10 => Op::EnsurePath,
+            11 => Op::AddTempRoot,
+            12 => Op::AddIndirectRoot,
+            13 => Op::SyncWithGC,
+            14 => Op::FindRoots,
+            18 => Op::QueryDeriver,
+            19 => Op::SetOptions,
+            20 => Op::CollectGarbage,
+            21 => Op::QuerySubstitutablePathInfo,
+            22 => Op::QueryDerivationOutputs,
+            23 => Op::QueryAllValidPaths,
+            26 => Op::QueryPathInfo,
+            28 => Op::QueryDerivationOutputNames,
+            29 => Op::QueryPathFromHashPart,
+            30 => Op::QuerySubstitutablePathInfos,
+            31 => Op::QueryValidPaths,
+            32 => Op::QuerySubstitutablePaths,
+            33 => Op::QueryValidDerivers,
+            34 => Op::OptimiseStore,
+            35 => Op::VerifyStore,
+            36 => Op::BuildDerivation,
+            37 => Op::AddSignatures,
+            38 => Op::NarFromPath,
+            39 => Op::AddToStoreNar,
+            40 => Op::QueryMissing,
+            41 => Op::QueryDerivationOutputMap,
+            42 => Op::RegisterDrvOutput,
+            43 => Op::QueryRealisation,
+            44 => Op::AddMultipleToStore,
+            45 => Op::AddBuildLog,
+            46 => Op::BuildPathsWithResults,
+            47 => Op::AddPermRoot,
+            _ => return None,
+        })
+    }
+
+    // The Rust's name of it.
+    fn letters(self) -> &'static [u8]
+        ensures { result.now ≡ codes (operation self).name }
+    {
+        match self {
+            Op::IsValidPath => b"IsValidPath",
+            Op::QueryReferrers => b"QueryReferrers",
+            Op::AddToStore => b"AddToStore",
+            Op::AddTextToStore => b"AddTextToStore",
+            Op::BuildPaths => b"BuildPaths",
+            Op::EnsurePath => b"EnsurePath",
+            Op::AddTempRoot => b"AddTempRoot",
+            Op::AddIndirectRoot => b"AddIndirectRoot",
+            Op::SyncWithGC => b"SyncWithGC",
+            Op::FindRoots => b"FindRoots",
+            Op::QueryDeriver => b"QueryDeriver",
+            Op::SetOptions => b"SetOptions",
+            Op::CollectGarbage => b"CollectGarbage",
+            Op::QuerySubstitutablePathInfo => b"QuerySubstitutablePathInfo",
+            Op::QueryDerivationOutputs => b"QueryDerivationOutputs",
+            Op::QueryAllValidPaths => b"QueryAllValidPaths",
+            Op::QueryPathInfo => b"QueryPathInfo",
+            Op::QueryDerivationOutputNames => b"QueryDerivationOutputNames",
+            Op::QueryPathFromHashPart => b"QueryPathFromHashPart",
+            Op::QuerySubstitutablePathInfos => b"QuerySubstitutablePathInfos",
+            Op::QueryValidPaths => b"QueryValidPaths",
+            Op::QuerySubstitutablePaths => b"QuerySubstitutablePaths",
+            Op::QueryValidDerivers => b"QueryValidDerivers",
+            Op::OptimiseStore => b"OptimiseStore",
+            Op::VerifyStore => b"VerifyStore",
+            Op::BuildDerivation => b"BuildDerivation",
+            Op::AddSignatures => b"AddSignatures",
+            Op::NarFromPath => b"NarFromPath",
+            Op::AddToStoreNar => b"AddToStoreNar",
+            Op::QueryMissing => b"QueryMissing",
+            Op::QueryDerivationOutputMap => b"QueryDerivationOutputMap",
+            Op::RegisterDrvOutput => b"RegisterDrvOutput",
+            Op::QueryRealisation => b"QueryRealisation",
+            Op::AddMultipleToStore => b"AddMultipleToStore",
+            Op::AddBuildLog => b"AddBuildLog",
+            Op::BuildPathsWithResults => b"BuildPathsWithResults",
+            Op::AddPermRoot => b"AddPermRoot",
+        }
     }
 
     // Writes the name at the front of out, if there is room for all of it, and says how long it is.
@@ -282,25 +248,21 @@ impl Op {
         ensures value { result ≡ length (codes (operation self).name) }
         ensures out_after { out.new ≡ overlaid (codes (operation self).name) out.old }
     {
-        let span = name_span(self);
-        let names = names();
-        written::put_front(&names[span.start..span.end], out)
+        written::put_front(self.letters(), out)
     }
 
     // Whether s is the name.
     pub fn is_named(self, s: &[u8]) -> bool
         ensures { result ≡ spells (operation self).name s.now }
     {
-        let span = name_span(self);
-        let names = names();
-        text::parts::same(s, &names[span.start..span.end])
+        text::parts::same(s, self.letters())
     }
 
     // One operation can have the name, and one comparison tells whether it has.
     pub fn from_name(s: &[u8]) -> Option<Op>
         ensures { result ≡ named s.now }
     {
-        let op = coded_op(code_hint(s) as u64);
+        let op = hint(s)?;
         op.is_named(s).then_some(op)
     }
 }

@@ -8,12 +8,14 @@ ghost use Rattle.text.specs.Words.{word_from, word_at};
 
 use text::parts::Span;
 
-// Where the White_Space from `at` on ends.
+// Where the White_Space from `at` on ends. By the place, as all of `word_at`, whose answer is two places of s.
+#[tactic(auto, using(text::proofs::WordLaws::word_steps), unfolding(text::specs::Words::word_at))]
 fn skip_white(s: &[u8], at: usize) -> usize
     ensures s_value { word_from 0 result result (drop result s.now) ≡ word_at s.now at }
     ensures s_value_2 { result < length s.now → size_of white_bytes (drop result s.now) ≡ 0 }
 {
     let mut i = at;
+    // No `for`: a step is as long as the character.
     while i < s.len() {
         let n = trimming::white_at(s, i);
         if n == 0 {
@@ -25,6 +27,7 @@ fn skip_white(s: &[u8], at: usize) -> usize
 }
 
 // Where the word that begins at start ends.
+#[tactic(auto, using(text::proofs::WordLaws::word_steps))]
 fn skip_word(s: &[u8], start: usize) -> usize
     requires { start < length s.now → size_of white_bytes (drop start s.now) ≡ 0 }
     ensures { span start result ≡ word_from 0 start start (drop start s.now) }

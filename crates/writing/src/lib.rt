@@ -1,5 +1,4 @@
-// Words written into a lent slice, and how much room is left once they stand there.
+// How much room is left of a lent slice, and the laws of what is written into it.
 #![tactic(auto)]
 
 pub mod room;
-pub mod words;

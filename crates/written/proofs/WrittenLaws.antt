@@ -1,13 +1,12 @@
--- Laws of what is written into a table: nothing, one more, two runs in a row, a word byte by byte, bytes at the front, and a loop that writes one after
--- another. Assumes nothing.
+-- Laws of what is written into a table: nothing, one more, two runs in a row, bytes at the front, and a loop that writes one after another. Assumes
+-- nothing.
 use Prim.Native.Nat.{ℕ, suc, ◌+◌, ◌-◌, ◌≤◌, ◌<◌}
 use mathlib.Core.Path.{◌≡◌, sym, ap, ◌∙◌}
 use mathlib.Core.List.{List, [], ◌∷◌, ◌++◌, append_assoc, append-nil}
 use native.Mathlib.Nat.{add-zero, zero-add}
-use native.Mathlib.Numerals.{add-one}
 use native.Mathlib.Omega.{arith}
-use lib.ListN.{length, take, drop, get_or, set, length-append, length-drop, take-append-drop, drop_of_length-le}
-use lib.Seq.{sets, sets-eq, length-sets, length-take-le, take-suc, take-add, take_all, take-append_seam, drop-append_seam, drop-drop}
+use lib.ListN.{length, take, drop, set, length-append, length-drop, take-append-drop, drop_of_length-le}
+use lib.Seq.{sets, sets-eq, length-sets, length-take-le, take-add, take_all, take-append_seam, drop-append_seam, drop-drop}
 use borrow.Author.Tests.{le-leb, lt-leb}
 use borrow.Rule.Slice.PartMut.{mid_of, put_mid}
 use Rattle.text.specs.Base.{overlaid}
@@ -105,26 +104,6 @@ part_written xs ys at t u e h k =
     )
     (sym (append_assoc (take at t) xs (drop (at + length xs) t)))
 
--- ---- a word, byte by byte
-
-module _ (at i : ℕ) (w t u : List ℕ) (room : at + length w ≤ length t) (e : u ≡ written_at at (take i w) t) where
-  pub word_more : i < length w → set u (at + i) (get_or w i 0) ≡ written_at at (take (i + 1) w) t
-  word_more h =
-      let l = length-take-le i w (omega arith) in
-      let s : take (i + 1) w ≡ take i w ++ (get_or w i 0 ∷ []) = ap (λ (k : ℕ). take k w) (add-one i) ∙ take-suc w i 0 h in
-      ap (λ (v : List ℕ). set v (at + i) (get_or w i 0)) e
-      ∙ ap (λ (k : ℕ). set (written_at at (take i w) t) (at + k) (get_or w i 0)) (sym l)
-      ∙ sym (written_more at (take i w) (get_or w i 0) t (omega arith))
-      ∙ ap (λ (xs : List ℕ). written_at at xs t) (sym s)
-
-  pub word_all : length w ≤ i → u ≡ written_at at w t
-  word_all k = e ∙ ap (λ (xs : List ℕ). written_at at xs t) (take_all i w k)
-
-pub word_begun : (at : ℕ) (w t : List ℕ) → at + length w ≤ length t → t ≡ written_at at (take 0 w) t
-word_begun at w t h = sym (written_none at t)
-
-pub ruleset word_laws = (word_begun, word_more, word_all)
-
 -- ---- bytes at the front
 
 module _ (bytes lent : List ℕ) where
@@ -132,11 +111,15 @@ module _ (bytes lent : List ℕ) where
   unfolding overlaid
   front_short h = rw (lt-leb (length bytes) (length lent) h)
 
-  pub front_written : (left : List ℕ) → length bytes ≤ length lent → left ≡ written_at 0 bytes lent → left ≡ overlaid bytes lent
-  unfolding overlaid written_at
-  front_written left h e = rw (le-leb (length bytes) (length lent) h) (rw (zero-add (length bytes)) at e)
+  pub front_copied : (front : List ℕ) → front ≡ bytes → length bytes ≤ length lent → front ++ drop (length bytes) lent ≡ overlaid bytes lent
+  unfolding overlaid
+  front_copied front e h = rw (e, le-leb (length bytes) (length lent) h)
 
-pub ruleset front_laws = (front_short, front_written)
+-- they stand at the front
+pub front_taken : (xs t u : List ℕ) (n : ℕ) → length xs ≤ length t → n ≡ length xs → u ≡ overlaid xs t → take n u ≡ xs
+unfolding overlaid
+front_taken xs t u n h e k =
+    ap (λ (m : ℕ). take m u) e ∙ ap (take (length xs)) (k ∙ rw (le-leb (length xs) (length t) h)) ∙ take-append_seam xs (drop (length xs) t)
 
 -- ---- a loop that writes one after another
 

@@ -1,32 +1,62 @@
-// What is written from a place on, all else as it was, and its laws: reading writes its tables so, and the judge its verdicts and messages. Bytes are
-// written so into a lent slice, one by one.
+// What is written from a place on, all else as it was, and its laws: reading writes its tables so, and the judge its verdicts and messages.
 #![tactic(auto)]
 
-ghost use Rattle.std.specs.Prelude.{◌≡◌, ◌+◌, ◌≤◌, length};
+ghost use Rattle.std.specs.Prelude.{◌≡◌, ◌+◌, ◌≤◌, [], ◌∷◌, length};
 ghost use Rattle.text.specs.Base.{overlaid};
-ghost use Rattle.written.specs.Written.{written_at};
+ghost use Rattle.written.specs.Writing.{writer, Room, wrote};
 
-// Writes a word from `at` on, and says where the next byte goes.
-pub fn put_bytes(word: &[u8], out: &mut [u8], at: usize) -> usize
-    requires { at + length word.now ≤ length out.old }
-    ensures value { result ≡ at + length word.now }
-    ensures out_after { out.new ≡ written_at at word.now out.old }
-{
-    let mut i: usize = 0;
-    while i < word.len() {
-        out[at + i] = word[i];
-        i += 1;
+// A lent slice, and the place in it where the next element goes.
+#[derive(Drop)]
+pub struct Writer<'a, T> {
+    out: &'a mut [T],
+    at: usize,
+}
+
+impl<'a, T: Copy> Writer<'a, T> {
+    // From the slice's start on.
+    pub fn new(out: &'a mut [T]) -> Writer<'a, T>
+        ensures { result ≡ writer out.entry }
+    {
+        Writer { out, at: 0 }
     }
-    at + i
+
+    pub fn position(&self) -> usize
+        ensures { result ≡ self.now.at }
+    {
+        self.at
+    }
+
+    #[tactic(auto, using(crate::proofs::WriterLaws::wrote_one))]
+    pub fn put_one(&mut self, x: T)
+        requires { Room 1 self.old }
+        ensures { self.new ≡ wrote (x ∷ []) self.old }
+    {
+        self.out[self.at] = x;
+        self.at += 1;
+    }
+}
+
+impl Writer<'_, u8> {
+    #[tactic(auto, using(crate::proofs::WriterLaws::wrote_word))]
+    pub fn put(&mut self, word: &[u8])
+        requires { Room (length word.now) self.old }
+        ensures { self.new ≡ wrote word.now self.old }
+    {
+        let end = self.at + word.len();
+        blocks::copy(word, &mut self.out[self.at..end]);
+        self.at = end;
+    }
 }
 
 // Writes bytes at the front of out, if there is room for all of them, and says how many they are.
+#[tactic(auto, using(crate::proofs::WrittenLaws::front_short, crate::proofs::WrittenLaws::front_copied))]
 pub fn put_front(bytes: &[u8], out: &mut [u8]) -> usize
     ensures value { result ≡ length bytes.now }
     ensures out_after { out.new ≡ overlaid bytes.now out.old }
 {
-    if out.len() < bytes.len() {
-        return bytes.len();
+    let n = bytes.len();
+    if n <= out.len() {
+        blocks::copy(bytes, &mut out[..n]);
     }
-    put_bytes(bytes, out, 0)
+    n
 }

@@ -1,12 +1,14 @@
 -- `call_fields::flag` meets its contract. Assumes nothing.
+use mathlib.Core.Path.{◌≡◌, refl, ◌∙◌}
+use mathlib.Core.Bool.{Bool, true, false}
+use Rattle.std.specs.Int.{from_bool}
 use Rattle.call_fields.specs.CallFields.{flag}
-use borrow.Author.Rules.{rules}
 use Rattle.call_fields.proofs.flag.Goals as goal
 
-pub returns-then-b : goal.returns-then-b
+as_flag : (b : Bool) → from_bool b ≡ flag b
 unfolding flag
-returns-then-b c = search rules
+as_flag true = refl
+as_flag false = refl
 
-pub returns-else-b : goal.returns-else-b
-unfolding flag
-returns-else-b c = search rules
+pub returns : goal.returns
+returns c = c.from.ensures ∙ as_flag _

@@ -3,4 +3,4 @@ use Rattle.expectations.proofs.ExpectationLaws.{a_daemon}
 use Rattle.expectations.proofs.on_daemon.Goals as goal
 
 pub returns : goal.returns
-returns c = a_daemon _ _ _ c.requires.r_value c.about_word.ensures
+returns c = a_daemon _ _ _ c.requires c.about_word.ensures

@@ -3,4 +3,4 @@ use Rattle.expectations.proofs.ExpectationLaws.{an_error}
 use Rattle.expectations.proofs.on_error.Goals as goal
 
 pub returns : goal.returns
-returns c = an_error _ _ _ c.requires.r_value c.about_word.ensures
+returns c = an_error _ _ _ c.requires c.about_word.ensures

@@ -1,14 +1,11 @@
--- `expectations::on_result` meets its contract: the sign behind the word tells the form. Assumes nothing.
+-- `expectations::on_result` meets its contract, by what was found. Assumes nothing.
 use Rattle.pieces.proofs.BehindLaws.{front_bounds}
-use Rattle.expectations.proofs.ExpectationLaws.{no_result, a_result}
+use Rattle.expectations.proofs.ExpectationLaws.{result_words}
 use borrow.Author.Rules.{rules}
 use Rattle.expectations.proofs.on_result.Goals as goal
 
-pub behind_trimmed-requires : goal.behind_trimmed-requires
-behind_trimmed-requires c = search (rules, front_bounds)
-
-pub returns-then-begins : goal.returns-then-begins
-returns-then-begins c = search (rules, a_result)
+pub returns-then-starts_with : goal.returns-then-starts_with
+returns-then-starts_with c = search (rules, result_words, front_bounds)
 
 pub returns : goal.returns
-returns c = search (rules, no_result)
+returns c = search (rules, result_words, front_bounds)

@@ -3,4 +3,4 @@ use Rattle.expectations.proofs.ExpectationLaws.{a_trust}
 use Rattle.expectations.proofs.on_trust.Goals as goal
 
 pub returns : goal.returns
-returns c = a_trust _ _ _ c.requires.r_value c.about_word.ensures
+returns c = a_trust _ _ _ c.requires c.about_word.ensures

@@ -1,5 +1,5 @@
 -- `hexadecimal::hex_count` meets its contract. The loop's invariant: the bytes counted, and those that the rest becomes with what is held, are
--- as many as the text becomes. The measure is what is left of the text. Assumes nothing.
+-- as many as the text becomes. Assumes nothing.
 use Prim.Native.Nat.{ℕ, ◌+◌, ◌≤◌, ◌<◌}
 use mathlib.Core.Path.{◌≡◌, ap, ◌∙◌}
 use mathlib.Core.List.{List}
@@ -12,6 +12,7 @@ use Rattle.hexadecimal.specs.declared.HexStep.{HexStep}
 use Rattle.hexadecimal.specs.declared.HexStep.TheVariants.{Held, Byte}
 use Rattle.hexadecimal.proofs.HexLaws.{walked, at_held, at_byte, none_left}
 use Rattle.hexadecimal.proofs.hex_count.Goals as goal
+use Rattle.hexadecimal.proofs.hex_count.Goals.{in-Held, in-Byte}
 
 module _ (s : List ℕ) (i held n total : ℕ) (q : n + length (hex_from held (drop i s)) ≡ total) where
   over : length s ≤ i → n ≡ total
@@ -26,14 +27,14 @@ module _ (s : List ℕ) (i held n total : ℕ) (q : n + length (hex_from held (d
 
 ruleset walk = (over, counted-held, counted-byte)
 
-pub loop-i-init : goal.loop-i-init
-loop-i-init c = (search rules, search rules, zero-add _ ∙ ap length (walked _))
+pub loop-x-init : goal.loop-x-init
+loop-x-init c = record { few = search rules; counted = zero-add _ ∙ ap length (walked _) }
 
-pub loop-i-preserved-in-Held : goal.loop-i-preserved-in-Held
-loop-i-preserved-in-Held c = search (rules, walk)
-
-pub loop-i-preserved : goal.loop-i-preserved
-loop-i-preserved c = search (rules, walk)
+pub loop-x-preserved : goal.loop-x-preserved
+loop-x-preserved c = elim c.match-hex_step.branch [
+  | in-Held w ↦ rw (w.held-is, w.n-is) (record { few = omega arith; counted = search (rules, walk) })
+  | in-Byte w ↦ rw (w.held-is, w.n-is) (record { few = omega arith; counted = search (rules, walk) })
+]
 
 pub returns : goal.returns
 returns c = search (rules, walk)

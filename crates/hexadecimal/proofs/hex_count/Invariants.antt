@@ -1,12 +1,12 @@
-use Prim.Native.Nat.{◌+◌, ◌-◌, ◌≤◌}
+use Prim.Native.Nat.{◌+◌, ◌≤◌}
 use mathlib.Core.Path.{◌≡◌}
 use lib.ListN.{length, drop}
 use Rattle.values.specs.Hex.{hex_decoded}
 use Rattle.hexadecimal.specs.HexWalk.{hex_from}
 use Rattle.hexadecimal.proofs.hex_count.Given as goal
 
-abbrev pub invariant-loop-i : goal.invariant-loop-i
-invariant-loop-i l = (l.i ≤ length l.s) × (l.n ≤ l.i) × (l.n + length (hex_from l.held (drop l.i l.s)) ≡ length (hex_decoded l.s))
-
-abbrev pub decreases-loop-i : goal.decreases-loop-i
-decreases-loop-i l = length l.s - l.i
+abbrev pub invariant-loop-x : goal.invariant-loop-x
+invariant-loop-x l = record {
+  few : l.n ≤ l.x-index;
+  counted : l.n + length (hex_from l.held (drop l.x-index l.s)) ≡ length (hex_decoded l.s);
+}

@@ -1,5 +1,5 @@
 -- `hexadecimal::hex_fill` meets its contract. The loop's invariant: what is written, and then what the rest becomes with what is held, is what
--- the text becomes. The measure is what is left of the text. Assumes nothing.
+-- the text becomes. Assumes nothing.
 use Prim.Native.Nat.{ℕ, ◌+◌, ◌≤◌, ◌<◌}
 use mathlib.Core.Path.{◌≡◌}
 use mathlib.Core.List.{List}
@@ -11,6 +11,7 @@ use Rattle.hexadecimal.specs.declared.HexStep.TheVariants.{Held, Byte}
 use Rattle.text.proofs.Front.{Written, begun, in_room, stored, filled}
 use Rattle.hexadecimal.proofs.HexLaws.{walked, at_held, at_byte, none_left}
 use Rattle.hexadecimal.proofs.hex_fill.Goals as goal
+use Rattle.hexadecimal.proofs.hex_fill.Goals.{in-Held, in-Byte}
 
 module _ (out : List ℕ) (o : ℕ) (s : List ℕ) (i held : ℕ) (whole : List ℕ) (w : Written out o (hex_from held (drop i s)) whole) where
   over : length s ≤ i → out ≡ whole
@@ -28,17 +29,17 @@ module _ (out : List ℕ) (o : ℕ) (s : List ℕ) (i held : ℕ) (whole : List 
 
 ruleset walk = (begun, walked, over, kept, fits, written)
 
-pub loop-i-init : goal.loop-i-init
-loop-i-init c = search (rules, walk)
-
-pub loop-i-preserved-in-Held : goal.loop-i-preserved-in-Held
-loop-i-preserved-in-Held c = search (rules, walk)
+pub loop-x-init : goal.loop-x-init
+loop-x-init c = search (rules, walk)
 
 pub bounds-out-o : goal.bounds-out-o
 bounds-out-o c = search (rules, walk)
 
-pub loop-i-preserved : goal.loop-i-preserved
-loop-i-preserved c = search (rules, walk)
+pub loop-x-preserved : goal.loop-x-preserved
+loop-x-preserved c = elim c.match-hex_step.branch [
+  | in-Held w ↦ rw (w.out-is, w.held-is, w.o-is) (search (rules, walk))
+  | in-Byte w ↦ rw (w.out-is, w.held-is, w.o-is) (search (rules, walk))
+]
 
 pub returns : goal.returns
 returns c = search (rules, walk)

@@ -1,39 +1,46 @@
 -- `item_sets::put_features` meets its contract. Assumes nothing.
-use Rattle.written.proofs.WrittenLaws.{same_laws, same_room, same_count, same_written}
-use Rattle.tables.proofs.ItemLaws.{feature_laws, features-braced, inner_in}
+use mathlib.Core.Path.{refl, sym, ap, ◌∙◌}
+use Rattle.tables.specs.Items.{items_for, features_of}
+use Rattle.tables.specs.Walks.{filled_left, words_left}
+use Rattle.tables.proofs.ItemLaws.{features-braced, features_apart}
+use Rattle.tables.proofs.WalkLaws.{places_room, places_count, places_written}
 use Rattle.item_sets.proofs.put_features.Goals as goal
 
-pub overflow_sub-q : goal.overflow_sub-q
-overflow_sub-q c = search (same_laws, feature_laws)
+pub put_places-requires : goal.put_places-requires
+unfolding features_of
+put_places-requires c κs =
+    let i = c.in-Some.ensures in
+    let same = ap items_for (features-braced c.args.v c.trimmed-q.result c.trimmed-q.ensures.text c.trimmed-q.ensures.at c.in-Some.p i.0 i.1 i.2 ∙ sym c.of.ensures) in
+    ((refl, tt), (tt, (tt, places_room _ _ _ _ same c.requires)))
 
-pub put_parts-requires-clause-fact : goal.put_parts-requires-clause-fact
-put_parts-requires-clause-fact c =
-    let b = c.in_braces.ensures in
-    let q = c.trimmed-q.ensures in
-    let given = c.requires in
-    search inner_in
+pub put_places-requires-in-None : goal.put_places-requires-in-None
+unfolding features_of
+put_places-requires-in-None c κs =
+    let same = ap items_for (features_apart c.args.v c.trimmed-q.result c.trimmed-q.ensures.text c.trimmed-q.ensures.at c.in-None.ensures ∙ sym c.of-in-None.ensures) in
+    ((refl, tt), (tt, (tt, places_room _ _ _ _ same c.requires)))
 
-pub put_parts-requires-clause-p_in_bounds : goal.put_parts-requires-clause-p_in_bounds
-put_parts-requires-clause-p_in_bounds c =
-    let b = c.in_braces.ensures in
-    let q = c.trimmed-q.ensures in
-    let given = c.requires in
-    same_room _ _ (features-braced _ _ _ q.value _ b.value c.if-in_braces.true) _ _ given.v_in_bounds
+pub returns-in-Some-clause-value : goal.returns-in-Some-clause-value
+unfolding features_of
+returns-in-Some-clause-value c =
+    let i = c.in-Some.ensures in
+    let same = ap items_for (features-braced c.args.v c.trimmed-q.result c.trimmed-q.ensures.text c.trimmed-q.ensures.at c.in-Some.p i.0 i.1 i.2 ∙ sym c.of.ensures) in
+    places_count filled_left _ _ _ _ _ _ c.put_places.ensures same
 
-pub returns-then-in_braces-clause-value : goal.returns-then-in_braces-clause-value
-returns-then-in_braces-clause-value c =
-    let done = c.put_parts.ensures in
-    let same = features-braced _ _ _ c.trimmed-q.ensures.value _ c.in_braces.ensures.value c.if-in_braces.true in
-    same_count _ _ same _ done.value
+pub returns-in-Some-clause-after : goal.returns-in-Some-clause-after
+unfolding features_of
+returns-in-Some-clause-after c =
+    let i = c.in-Some.ensures in
+    let same = ap items_for (features-braced c.args.v c.trimmed-q.result c.trimmed-q.ensures.text c.trimmed-q.ensures.at c.in-Some.p i.0 i.1 i.2 ∙ sym c.of.ensures) in
+    places_written filled_left _ _ _ _ _ _ c.put_places.ensures same
 
-pub returns-then-in_braces-clause-after : goal.returns-then-in_braces-clause-after
-returns-then-in_braces-clause-after c =
-    let done = c.put_parts.ensures in
-    let same = features-braced _ _ _ c.trimmed-q.ensures.value _ c.in_braces.ensures.value c.if-in_braces.true in
-    same_written _ _ same _ _ _ done.after
+pub returns-in-None-clause-value : goal.returns-in-None-clause-value
+unfolding features_of
+returns-in-None-clause-value c =
+    let same = ap items_for (features_apart c.args.v c.trimmed-q.result c.trimmed-q.ensures.text c.trimmed-q.ensures.at c.in-None.ensures ∙ sym c.of-in-None.ensures) in
+    places_count words_left _ _ _ _ _ _ c.put_places-in-None.ensures same
 
-pub put_words-requires : goal.put_words-requires
-put_words-requires c = search (same_laws, feature_laws)
-
-pub returns : goal.returns
-returns c = search (same_laws, feature_laws)
+pub returns-in-None-clause-after : goal.returns-in-None-clause-after
+unfolding features_of
+returns-in-None-clause-after c =
+    let same = ap items_for (features_apart c.args.v c.trimmed-q.result c.trimmed-q.ensures.text c.trimmed-q.ensures.at c.in-None.ensures ∙ sym c.of-in-None.ensures) in
+    places_written words_left _ _ _ _ _ _ c.put_places-in-None.ensures same

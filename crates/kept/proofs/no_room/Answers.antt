@@ -3,4 +3,4 @@ use Rattle.kept.proofs.KeptLaws.{blank_memo}
 use Rattle.kept.proofs.no_room.Goals as goal
 
 pub returns : goal.returns
-returns c = λ text. rw c.blank.ensures (blank_memo text 1)
+returns c = λ text. blank_memo text 1

@@ -1,25 +1,16 @@
 -- `op_records::rest_of` meets its contract. Assumes nothing.
-use Rattle.op_records.proofs.OpLaws.{rest_laws, rest_in, rest_holds}
+use mathlib.Core.Path.{refl}
+use Rattle.op_records.proofs.RestLaws.{rest_plain, rest_braced}
 use borrow.Author.Rules.{rules}
 use Rattle.op_records.proofs.rest_of.Goals as goal
 
-pub returns-then-not-begins : goal.returns-then-not-begins
-returns-then-not-begins c = search (rules, rest_laws)
+pub returns-then-not-starts_with-clause-at : goal.returns-then-not-starts_with-clause-at
+returns-then-not-starts_with-clause-at c =
+    rest_plain _ _ c.trimmed-q.result (search rules) c.trimmed-q.ensures.at _ c.starts_with.ensures.value c.if-not-starts_with.true
+    c.behind.result (search rules) c.behind.ensures.at _ c.trimmed.ensures.at
 
-pub find_in-requires : goal.find_in-requires
-find_in-requires c = search (rules, rest_laws)
-
-pub returns-in_default : goal.returns-in_default
-returns-in_default c = search (rules, rest_laws)
-
-pub overflow_add-start-2 : goal.overflow_add-start-2
-overflow_add-start-2 c = search (rules, rest_laws)
-
-pub overflow_add-start-3 : goal.overflow_add-start-3
-overflow_add-start-3 c = search (rules, rest_holds)
-
-pub trimmed-requires-2 : goal.trimmed-requires-2
-trimmed-requires-2 c = search (rules, rest_in)
-
-pub returns : goal.returns
-returns c = search (rules, rest_laws)
+pub returns-in-Some-clause-at : goal.returns-in-Some-clause-at
+returns-in-Some-clause-at c =
+    rest_braced _ _ c.trimmed-q.result (search rules) c.trimmed-q.ensures.at _ c.starts_with.ensures.value c.if-not-starts_with.false
+    c.behind-2.result (search rules) c.behind-2.ensures.at _ c.split_once.ensures.value
+    (c.in-Some.field-0-0, c.in-Some.rest) c.in-Some.rest c.in-Some.is refl (search rules) _ c.trimmed-in-Some.ensures.at

@@ -45,11 +45,11 @@ module _ (text : List ℕ) (p q : Span) (z : q ≡ trim text p) (b : Bool) (e : 
 
 ruleset walk = (plain, tested, inner_in, not-true, not-false)
 
-pub returns-then-not-begins : goal.returns-then-not-begins
-returns-then-not-begins c = search (rules, walk)
-
-pub find_in-requires : goal.find_in-requires
-find_in-requires c = search (rules, walk)
+pub returns-then-not-starts_with : goal.returns-then-not-starts_with
+returns-then-not-starts_with c = search (rules, walk)
 
 pub returns : goal.returns
-returns c = search (rules, walk)
+returns c =
+    let begins = rw c.trimmed-q.ensures.text at c.starts_with.ensures.value in
+    let found = rw (c.behind.ensures.text, c.trimmed-q.ensures.text, c.behind.ensures.at) at c.find.ensures.value in
+    tested _ _ _ c.trimmed-q.ensures.at _ begins c.if-not-starts_with.false _ found _ c.is_none.ensures

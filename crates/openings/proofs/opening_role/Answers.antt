@@ -30,9 +30,6 @@ rest_in text a s i h = rw h at i
 
 ruleset walk = (read, bad, rest_in)
 
-pub named_role-requires : goal.named_role-requires
-named_role-requires c = search (rules, walk)
-
 pub returns-in-Ok : goal.returns-in-Ok
 returns-in-Ok c = search (rules, walk)
 

@@ -19,10 +19,9 @@ module _ (text : List ℕ) (p : Span) (n : ℕ) (a : Answer Time) (k : a ≡ tim
 
 ruleset walk = (read)
 
-pub returns : goal.returns
-unfolding bytes
-returns c = search (rules, walk)
+pub returns-clause-result_value : goal.returns-clause-result_value
+returns-clause-result_value c = search (rules, walk)
 
-pub returns-in_err-time : goal.returns-in_err-time
-unfolding bytes stamped_at with_time
-returns-in_err-time c = search (rules, walk)
+pub returns-in_err-time-clause-result_value : goal.returns-in_err-time-clause-result_value
+unfolding stamped_at with_time
+returns-in_err-time-clause-result_value c = search (rules, walk)

@@ -54,23 +54,14 @@ module _ (text : List ℕ) (p : Span) (b : Bool) (e : b ≡ starts_with (codes "
 
 ruleset walk = (bare, rest_in, forward, no-ms, fits, found, not-true, not-false)
 
-pub returns-then-not-begins : goal.returns-then-not-begins
-returns-then-not-begins c = search (rules, walk)
+pub returns-then-not-starts_with-clause-result_value : goal.returns-then-not-starts_with-clause-result_value
+returns-then-not-starts_with-clause-result_value c = search (rules, walk)
 
-pub slice_bounds-find_pair-count : goal.slice_bounds-find_pair-count
-slice_bounds-find_pair-count c = search (rules, walk)
-
-pub slice_bounds-find_pair-start : goal.slice_bounds-find_pair-start
-slice_bounds-find_pair-start c = search (rules, walk)
-
-pub returns-in_err-n : goal.returns-in_err-n
-unfolding bytes
-returns-in_err-n c = search (rules, walk)
+pub returns-in_err-n-clause-result_value : goal.returns-in_err-n-clause-result_value
+returns-in_err-n-clause-result_value c = search (rules, walk)
 
 pub stamp_before-requires : goal.stamp_before-requires
-unfolding bytes
 stamp_before-requires c = search (rules, walk)
 
-pub returns : goal.returns
-unfolding bytes
-returns c = search (rules, walk)
+pub returns-clause-result_value : goal.returns-clause-result_value
+returns-clause-result_value c = search (rules, walk)

@@ -5,4 +5,4 @@ use Rattle.script.specs.Roles.{behind_signs}
 use Rattle.remarks.proofs.behind_signs.Given as goal
 
 abbrev pub invariant-loop-i : goal.invariant-loop-i
-invariant-loop-i l = behind_signs l.i (bytes l.text (span l.i l.t.end)) ≡ behind_signs l.t.start (bytes l.text (span l.t.start l.t.end))
+invariant-loop-i l = behind_signs l.i (bytes l.t.text.now (span l.i l.t.at.end)) ≡ behind_signs l.t.at.start (bytes l.t.text.now l.t.at)

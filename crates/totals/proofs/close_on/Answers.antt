@@ -1,14 +1,10 @@
--- `totals::close_on` meets its contract. Assumes nothing.
-use Rattle.totals.proofs.OpenLaws.{count_laws}
-use Rattle.totals.proofs.BoundLaws.{sums_fit}
+-- `totals::close_on` meets its contract: the sums fit. Assumes nothing.
+use Rattle.totals.proofs.BoundLaws.{items_fit, store_fit}
 use borrow.Author.Rules.{rules}
 use Rattle.totals.proofs.close_on.Goals as goal
 
 pub overflow_add-result : goal.overflow_add-result
-overflow_add-result c = search (rules, sums_fit)
+overflow_add-result c = search (rules, items_fit)
 
 pub overflow_add-result-2 : goal.overflow_add-result-2
-overflow_add-result-2 c = search (rules, sums_fit)
-
-pub returns : goal.returns
-returns c = search (rules, count_laws)
+overflow_add-result-2 c = search (rules, store_fit)

@@ -8,7 +8,7 @@ use Rattle.script.specs.declared.roles.Saying.{Saying}
 use Rattle.script.specs.declared.roles.Saying.TheVariants.{Known, Pair, NoColon, Unknown, NoPair, NoRaw}
 use Rattle.measuring.specs.declared.Open.{Open}
 use Rattle.measuring.specs.Measure.{told, pairs_on, say_on}
-use Rattle.totals.proofs.OpenLaws.{said_laws}
+use Rattle.totals.proofs.OpenLaws.{known_in, said_laws}
 use borrow.Author.Rules.{rules}
 use Rattle.totals.proofs.say_on.Goals as goal
 
@@ -21,8 +21,8 @@ other text o (Unknown a b) _ _ = refl
 other text o NoPair _ _ = refl
 other text o NoRaw _ _ = refl
 
-pub known_on-requires : goal.known_on-requires
-known_on-requires c = search (rules, said_laws)
+pub invariant_of-known_on : goal.invariant_of-known_on
+invariant_of-known_on c = record { inside = known_in _ c.args.o _ _ _ c.in-Known.is c.requires.saying_in }
 
 pub returns-in-Known : goal.returns-in-Known
 returns-in-Known c = search (rules, said_laws)

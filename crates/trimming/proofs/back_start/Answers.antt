@@ -38,17 +38,8 @@ ruleset walk = (over, stop, on)
 pub loop-i-init : goal.loop-i-init
 loop-i-init c = (search rules, begun _)
 
-pub white_before-n-requires : goal.white_before-n-requires
-white_before-n-requires c = search (rules, walk)
-
 pub returns-then-n-eq0 : goal.returns-then-n-eq0
 returns-then-n-eq0 c = search (rules, walk)
-
-pub overflow_sub-i : goal.overflow_sub-i
-overflow_sub-i c = search (rules, walk)
-
-pub loop-i-smaller : goal.loop-i-smaller
-loop-i-smaller c = search (rules, walk)
 
 pub loop-i-preserved : goal.loop-i-preserved
 loop-i-preserved c = search (rules, walk)

@@ -31,17 +31,8 @@ pub loop-i-init : goal.loop-i-init
 unfolding trimmed_front
 loop-i-init c = (search rules, refl)
 
-pub white_at-n-requires : goal.white_at-n-requires
-white_at-n-requires c = search (rules, walk)
-
 pub returns-then-n-eq0 : goal.returns-then-n-eq0
 returns-then-n-eq0 c = search (rules, walk)
-
-pub overflow_add-i : goal.overflow_add-i
-overflow_add-i c = search (rules, walk)
-
-pub loop-i-smaller : goal.loop-i-smaller
-loop-i-smaller c = search (rules, walk)
 
 pub loop-i-preserved : goal.loop-i-preserved
 loop-i-preserved c = search (rules, walk)

@@ -1,8 +1,10 @@
 -- `turns::look` meets its contract. Assumes nothing.
-use mathlib.Core.Path.{refl}
-use Rattle.turns.proofs.TurnLaws.{told}
-use borrow.Author.Rules.{rules}
+use Rattle.turns.proofs.TurnLaws.{told, kept_at}
 use Rattle.turns.proofs.look.Goals as goal
 
-pub returns-then-is_of : goal.returns-then-is_of
-returns-then-is_of c = record { step_value = (told c.args.text.now c.args.kept.now c.args.number c.args.at c.args.w (search rules) _ refl (c.is_of.ensures c.if-is_of.true) _ c.turn_of.ensures).0; next_value = (told c.args.text.now c.args.kept.now c.args.number c.args.at c.args.w (search rules) _ refl (c.is_of.ensures c.if-is_of.true) _ c.turn_of.ensures).1 }
+pub returns : goal.returns
+returns c =
+    let here = c.in-Some-Some.ensures.lookup in
+    let found = kept_at _ _ _ _ here.0 here.1 c.in-Some-Some.field-0-is in
+    let t = told _ _ _ _ _ c.requires.memo _ found (c.is_of.ensures c.if-is_of.true) _ c.turn_of.ensures in
+    record { step_value = t.0; next_value = t.1 }

@@ -1,24 +1,28 @@
 -- `verdict_of::number_verdict` meets its contract: the digits stand at the front of the array. Assumes nothing.
-use mathlib.Core.Path.{sym, ap, ◌∙◌}
+use borrow.Author.Rules.{rules}
+use mathlib.Core.Path.{◌≡◌, sym, ap, ◌∙◌}
+use Prim.Native.Nat.{ℕ, ◌^◌, ◌≤◌, ◌<◌}
 use native.Mathlib.Omega.{arith}
-use lib.ListN.{length, replicate}
+use lib.ListN.{length, take, replicate}
 use Rattle.values.specs.Decimal.{decimal}
+use Rattle.written.proofs.WrittenLaws.{front_taken}
+use Rattle.written.proofs.WriterLaws.{handed_at, handed_back}
 use Rattle.writing.proofs.DecimalLaws.{decimal-length}
-use Rattle.writing.proofs.PutLaws.{wrote_front, front_taken}
 use Rattle.verdicts.specs.Decisions.{decides}
 use Rattle.verdicts.specs.Held.{matching_of}
 use Rattle.verdict_of.proofs.number_verdict.Goals as goal
 
-pub put_decimal-len-requires : goal.put_decimal-len-requires
-put_decimal-len-requires c = omega (arith, decimal-length c.args.n (omega arith))
+few : (n : ℕ) → n < 2 ^ 64 → length (decimal n) ≤ length {A = ℕ} (replicate 20 0)
+few n h = decimal-length n h
 
-pub slice_bounds-decide-end : goal.slice_bounds-decide-end
-slice_bounds-decide-end c =
-    let w = wrote_front (decimal c.args.n) (replicate 20 0) c.put_decimal-len.new.out c.put_decimal-len.result (omega (arith, decimal-length c.args.n (omega arith))) (c.put_decimal-len.ensures.value, c.put_decimal-len.ensures.out_after) in
-    w.0 ∙ ap length (sym (front_taken (decimal c.args.n) (replicate 20 0) c.put_decimal-len.new.out c.put_decimal-len.result (omega (arith, decimal-length c.args.n (omega arith))) w.0 w.1))
+pub put_decimal-requires : goal.put_decimal-requires
+put_decimal-requires c = rw c.new-w.ensures (omega (arith, decimal-length c.args.n (omega arith)))
 
 pub returns : goal.returns
 returns c =
-    let w = wrote_front (decimal c.args.n) (replicate 20 0) c.put_decimal-len.new.out c.put_decimal-len.result (omega (arith, decimal-length c.args.n (omega arith))) (c.put_decimal-len.ensures.value, c.put_decimal-len.ensures.out_after) in
+    let small = few c.args.n (omega arith) in
     c.decide.ensures
-    ∙ ap (decides (matching_of c.args.text.now c.args.m)) (front_taken (decimal c.args.n) (replicate 20 0) c.put_decimal-len.new.out c.put_decimal-len.result (omega (arith, decimal-length c.args.n (omega arith))) w.0 w.1)
+    ∙ ap (decides (matching_of c.args.text.now c.args.m))
+    (front_taken (decimal c.args.n) (replicate 20 0) _ _ small
+    (c.position-len.ensures ∙ handed_at _ _ _ _ c.put_decimal.ensures.written c.new-w.ensures)
+    (handed_back _ _ _ _ c.put_decimal.ensures.written c.new-w.ensures _ (search rules) small))

@@ -1,38 +1,37 @@
 -- `walker::expect_lines` meets its contract. Assumes nothing.
-use mathlib.Core.Path.{◌≡◌, sym, ◌∙◌}
-use mathlib.Core.Bool.{true}
-use Rattle.walker.specs.Walk.{left, has_more}
-use Rattle.walker.proofs.WalkLaws.{first-is}
-use Rattle.walker.proofs.CountLaws.{at_end, forward, in_text, turned, nearer}
+use mathlib.Core.Path.{ap, ◌∙◌}
+use native.Mathlib.Omega.{arith}
+use native.Mathlib.Nat.{zero-add}
+use Rattle.text.proofs.LineLaws.{lines-in}
+use Rattle.lines.specs.Walk.{left}
+use Rattle.walker.proofs.CountLaws.{all_few, counts, passes_by, none_left}
 use Rattle.walker.proofs.expect_lines.Goals as goal
 
-pub counted-n-requires-clause-start_le_end : goal.counted-n-requires-clause-start_le_end
-counted-n-requires-clause-start_le_end c =
-    let w = c.loop-w.w in
-    let m : has_more (left w) ≡ true = sym c.more.ensures ∙ c.loop-w-test.true in
-    let s = c.next_line-l in
-    forward c.args.text.now w c.loop-w.n c.loop-w.invariant m s.result s.new.self 0 (first-is w m s.result (left s.new.self) s.ensures.self_value_2) s.ensures.self_after
+pub loop-line-init : goal.loop-line-init
+loop-line-init c =
+    let e = ap left c.into_iter-line-iterator.ensures.into_iter_gives ∙ c.new-line-items.ensures.all in
+    record { callable = grind arith; ends = tt; inside = rw e (lines-in c.args.text.now); counted = rw e (zero-add _) }
 
-pub counted-n-requires-clause-end_in_bounds : goal.counted-n-requires-clause-end_in_bounds
-counted-n-requires-clause-end_in_bounds c =
-    let w = c.loop-w.w in
-    let m : has_more (left w) ≡ true = sym c.more.ensures ∙ c.loop-w-test.true in
-    let s = c.next_line-l in
-    in_text c.args.text.now w c.loop-w.n c.loop-w.invariant m s.result s.new.self 0 (first-is w m s.result (left s.new.self) s.ensures.self_value_2) s.ensures.self_after
+pub overflow_add-n : goal.overflow_add-n
+overflow_add-n c =
+    let k = counts _ _ _ _ c.loop-line.invariant.counted _ _ c.in-Some.ensures.steps c.if-is_expect.ensures in
+    record { fits = omega (arith, k, all_few c.args.text.now) }
 
-pub loop-w-smaller : goal.loop-w-smaller
-loop-w-smaller c =
-    let w = c.loop-w.w in
-    let m : has_more (left w) ≡ true = sym c.more.ensures ∙ c.loop-w-test.true in
-    let s = c.next_line-l in
-    nearer c.args.text.now w c.loop-w.n c.loop-w.invariant m s.result s.new.self 0 (first-is w m s.result (left s.new.self) s.ensures.self_value_2) s.ensures.self_after
+pub loop-line-preserved-then-is_expect : goal.loop-line-preserved-then-is_expect
+loop-line-preserved-then-is_expect c = record {
+  callable = c.in-Some.ensures.goes.keeps;
+  ends = tt;
+  inside = (rw c.in-Some.ensures.steps at c.loop-line.invariant.inside).2;
+  counted = counts _ _ _ _ c.loop-line.invariant.counted _ _ c.in-Some.ensures.steps c.if-is_expect.ensures;
+}
 
-pub loop-w-preserved : goal.loop-w-preserved
-loop-w-preserved c =
-    let w = c.loop-w.w in
-    let m : has_more (left w) ≡ true = sym c.more.ensures ∙ c.loop-w-test.true in
-    let s = c.next_line-l in
-    turned c.args.text.now w c.loop-w.n c.loop-w.invariant m s.result s.new.self c.counted-n.result (first-is w m s.result (left s.new.self) s.ensures.self_value_2) s.ensures.self_after c.counted-n.ensures
+pub loop-line-preserved : goal.loop-line-preserved
+loop-line-preserved c = record {
+  callable = c.in-Some.ensures.goes.keeps;
+  ends = tt;
+  inside = (rw c.in-Some.ensures.steps at c.loop-line.invariant.inside).2;
+  counted = passes_by _ _ _ _ c.loop-line.invariant.counted _ _ c.in-Some.ensures.steps c.if-is_expect.ensures;
+}
 
 pub returns : goal.returns
-returns c = at_end c.args.text.now c.loop-w.w c.loop-w.n c.loop-w.invariant (sym c.more.ensures ∙ c.loop-w-test.false)
+returns c = none_left _ _ _ _ c.loop-line.invariant.counted c.in-None.ensures.steps.0

@@ -1,23 +1,17 @@
--- `arguments::arguments::pair_in` meets its contract: the name is in quotes or not. Assumes nothing.
+-- `arguments::arguments::pair_in` meets its contract, by what was found. Assumes nothing.
 use borrow.Author.Tests.{not-true, not-false}
-use Rattle.pieces.proofs.BehindLaws.{front_bounds, cut_bounds, sums}
-use Rattle.arguments.proofs.ArgumentLaws.{name-words}
+use Rattle.arguments.proofs.ArgumentLaws.{pair-words}
 use borrow.Author.Rules.{rules}
 use Rattle.arguments.proofs.arguments.pair_in.Goals as goal
 
-ruleset bounds = (front_bounds, cut_bounds, sums, not-true, not-false)
+pub returns-in_default-clause-value : goal.returns-in_default-clause-value
+returns-in_default-clause-value c = search (rules, pair-words, not-true, not-false)
 
-pub returns-then-not-begins : goal.returns-then-not-begins
-returns-then-not-begins c = search (rules, bounds, name-words)
+pub returns-then-not-starts_with-clause-value : goal.returns-then-not-starts_with-clause-value
+returns-then-not-starts_with-clause-value c = search (rules, pair-words, not-true, not-false)
 
-pub find_in-requires : goal.find_in-requires
-find_in-requires c = search (rules, bounds)
+pub returns-in-None-clause-value : goal.returns-in-None-clause-value
+returns-in-None-clause-value c = search (rules, pair-words, not-true, not-false)
 
-pub returns-in_default : goal.returns-in_default
-returns-in_default c = search (rules, bounds, name-words)
-
-pub pair_cut-requires : goal.pair_cut-requires
-pair_cut-requires c = search (rules, bounds)
-
-pub returns : goal.returns
-returns c = search (rules, bounds, name-words)
+pub returns-in-Some-quoted-clause-value : goal.returns-in-Some-quoted-clause-value
+returns-in-Some-quoted-clause-value c = search (rules, pair-words, not-true, not-false)

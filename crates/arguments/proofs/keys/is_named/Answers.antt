@@ -8,12 +8,8 @@ use lib.ListN.{get_or, length, drop, length-drop}
 use lib.Seq.{length-take-le}
 use Rattle.text.specs.Base.{part}
 use Rattle.text.specs.Parts.{same_bytes}
-use Rattle.text.specs.declared.parts.Span.{Span}
 use Rattle.text.proofs.LiteralLaws.{other_length}
 use Rattle.script.specs.Operations.{key_row}
-use Rattle.script.specs.Pieces.{bytes}
-use Rattle.script.specs.Inside.{In}
-use Rattle.script.proofs.Inside.{length-bytes}
 use Rattle.arguments.specs.KeyTables.{argument_keys, name_at, letters, Starts}
 use borrow.Author.Rules.{rules}
 use Rattle.arguments.proofs.keys.is_named.Goals as goal
@@ -36,16 +32,16 @@ module _ (n : ℕ) (small : n < 26) (table : List ℕ) (t : Starts table) where
   name-length : length (name_at n) ≡ get_or table (n + 1) 0 - get_or table n 0
   name-length = let k = t.rule n small in rw (← k.bytes) (length-take-le _ (drop (get_or table n 0) (letters argument_keys)) (omega (arith, length-drop (get_or table n 0) (letters argument_keys), k.inside, letters-length)))
 
-  longer : (text : List ℕ) (p : Span) → In text p → (p.end - p.start ≡ get_or table (n + 1) 0 - get_or table n 0 → ⊥) → false ≡ same_bytes (bytes text p) (name_at n)
-  longer text p i h = other_length (bytes text p) (name_at n) (λ e. h (sym (length-bytes text p i) ∙ e ∙ name-length))
+  longer : (s : List ℕ) → (length s ≡ get_or table (n + 1) 0 - get_or table n 0 → ⊥) → false ≡ same_bytes s (name_at n)
+  longer s h = other_length s (name_at n) (λ e. h (e ∙ name-length))
 
 ruleset places = (forward, inside, compared, longer)
 
 pub overflow_sub-end : goal.overflow_sub-end
 overflow_sub-end c = search (rules, places)
 
-pub returns-then-p-end : goal.returns-then-p-end
-returns-then-p-end c = search (rules, places)
+pub returns-then-bytes-end : goal.returns-then-bytes-end
+returns-then-bytes-end c = search (rules, places)
 
 pub slice_bounds-is_word-count : goal.slice_bounds-is_word-count
 slice_bounds-is_word-count c = search (rules, places)

@@ -1,15 +1,6 @@
--- `closing::front::put_features_of` meets its contract. Assumes nothing.
-use Rattle.written.proofs.WrittenLaws.{same_laws, none_laws}
-use Rattle.said.proofs.SaidLaws.{said_in}
-use Rattle.stored.proofs.WriteLaws.{said_laws, item_laws}
-use borrow.Author.Rules.{rules}
+-- `closing::front::put_features_of` meets its contract: the items of the piece are those of the key. Assumes nothing.
+use Rattle.stored.proofs.WriteLaws.{features_written}
 use Rattle.closing.proofs.front.put_features_of.Goals as goal
 
-pub put_features-requires : goal.put_features-requires
-put_features-requires c = search (rules, item_laws, said_laws, said_in)
-
-pub returns-in-None : goal.returns-in-None
-returns-in-None c = search (rules, none_laws, item_laws, said_laws)
-
-pub returns-in-Some : goal.returns-in-Some
-returns-in-Some c = search (rules, same_laws, item_laws, said_laws)
+pub returns-in-Some-clause-after : goal.returns-in-Some-clause-after
+returns-in-Some-clause-after c = features_written _ _ _ c.value.ensures.place _ c.in-Some.is c.in-Some.ensures.text _ _ _ c.put_features.ensures.after

@@ -1,16 +1,23 @@
 -- `counts::counts::set_count` meets its contract. Assumes nothing.
-use Rattle.counts.proofs.CountLaws.{set-counts}
+use mathlib.Core.Path.{sym, ◌∙◌}
+use Rattle.counts.proofs.CountLaws.{set-braced, set_one, count_fits, set-counts}
 use borrow.Author.Rules.{rules}
 use Rattle.counts.proofs.counts.set_count.Goals as goal
 
-pub braced_count-requires : goal.braced_count-requires
-braced_count-requires c = search (rules, set-counts)
+pub returns-then-starts_with : goal.returns-then-starts_with
+returns-then-starts_with c =
+    let q = c.trimmed-q.ensures in
+    let test = rw q.text at c.starts_with.ensures.value in
+    let inner = rw (c.behind.ensures.text, c.behind.ensures.at, q.text) at c.braced_count.ensures in
+    let counted = set-braced _ _ _ q.at _ test _ c.if-starts_with.true inner in
+    record { value = counted; result_bound = count_fits _ _ _ c.args.v.inside counted }
 
-pub returns-then-begins : goal.returns-then-begins
-returns-then-begins c = search (rules, set-counts)
-
-pub returns-then-q : goal.returns-then-q
-returns-then-q c = search (rules, set-counts)
+pub returns-then-is_empty : goal.returns-then-is_empty
+returns-then-is_empty c = search (rules, set-counts)
 
 pub returns : goal.returns
-returns c = search (rules, set-counts)
+returns c =
+    let q = c.trimmed-q.ensures in
+    let test = rw q.text at c.starts_with.ensures.value in
+    let one = set_one _ _ _ q.at _ test c.if-starts_with.false (sym c.is_empty.ensures ∙ c.if-is_empty.false) in
+    record { value = one; result_bound = count_fits _ _ _ c.args.v.inside one }

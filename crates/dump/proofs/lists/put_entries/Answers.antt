@@ -1,25 +1,18 @@
--- `dump::lists::put_entries` meets its contract. Assumes nothing.
+-- `dump::lists::put_entries` meets its contract: what stands for each that was passed is written. Assumes nothing.
 use mathlib.Core.Path.{refl}
-use Rattle.dump.specs.Dump.{entry_bytes}
-use Rattle.numbers.proofs.PuttingLaws.{putting_begun, putting_room, putting_on, putting_laws}
 use borrow.Author.Rules.{rules}
+use Rattle.written.proofs.WriterLaws.{each_none, each_all, each_room, each_wrote}
+use Rattle.dump.specs.Dump.{entry_bytes}
 use Rattle.dump.proofs.lists.put_entries.Goals as goal
 
-pub loop-i-init : goal.loop-i-init
-loop-i-init c = (search rules, putting_begun _ _ _ _ (search rules))
+pub loop-e-init : goal.loop-e-init
+loop-e-init c = each_none entry_bytes c.args.w.now
 
-pub put_entry-p-requires : goal.put_entry-p-requires
-put_entry-p-requires c =
-    let L = c.loop-i in
-    putting_room entry_bytes _ _ _ L.out L.p L.i L.invariant.1 _ (search rules) _ refl
+pub put_entry-requires : goal.put_entry-requires
+put_entry-requires c = each_room entry_bytes c.args.entries.now _ c.args.w.now _ c.loop-e.invariant c.requires _ (search rules) _ refl
 
-pub loop-i-preserved : goal.loop-i-preserved
-loop-i-preserved c =
-    let L = c.loop-i in
-    (search rules, putting_on entry_bytes _ _ _ L.out L.p L.i L.invariant.1 _ (search rules) _ refl _ _ c.put_entry-p.ensures.out_after c.put_entry-p.ensures.value)
+pub loop-e-preserved : goal.loop-e-preserved
+loop-e-preserved c = each_wrote entry_bytes c.args.entries.now _ c.args.w.now _ c.loop-e.invariant c.requires _ (search rules) _ refl _ c.put_entry.ensures
 
-pub returns-clause-value : goal.returns-clause-value
-returns-clause-value c = search (rules, putting_laws)
-
-pub returns-clause-out_after : goal.returns-clause-out_after
-returns-clause-out_after c = search (rules, putting_laws)
+pub returns : goal.returns
+returns c = each_all entry_bytes c.args.entries.now _ c.args.w.now _ c.loop-e.invariant c.requires (search rules)

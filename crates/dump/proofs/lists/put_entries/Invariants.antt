@@ -1,11 +1,9 @@
-use Prim.Native.Nat.{◌-◌, ◌≤◌}
-use lib.ListN.{length}
+use mathlib.Core.Path.{◌≡◌}
+use mathlib.Core.List.{flat_map}
+use lib.ListN.{take}
+use Rattle.written.specs.Writing.{wrote}
 use Rattle.dump.specs.Dump.{entry_bytes}
-use Rattle.numbers.proofs.PuttingLaws.{Putting}
 use Rattle.dump.proofs.lists.put_entries.Given as goal
 
-abbrev pub invariant-loop-i : goal.invariant-loop-i
-invariant-loop-i l = (l.i ≤ length l.entries) × Putting entry_bytes l.initial.p l.entries l.initial.out l.out l.p l.i
-
-abbrev pub decreases-loop-i : goal.decreases-loop-i
-decreases-loop-i l = length l.entries - l.i
+abbrev pub invariant-loop-e : goal.invariant-loop-e
+invariant-loop-e l = l.w ≡ wrote (flat_map entry_bytes (take l.e-index l.entries)) l.fn.w

@@ -1,16 +1,13 @@
--- `dump::lists::put_entry` meets its contract. Assumes nothing.
-use Rattle.dump.proofs.DumpLaws.{head_fits, call_fits, entry_end, entry_put}
-use borrow.Author.Rules.{rules}
+-- `dump::lists::put_entry` meets its contract: its head, and behind it its call. Assumes nothing.
+use mathlib.Core.Path.{refl}
+use Rattle.dump.proofs.DumpLaws.{head_fits, call_fits, entry_put}
 use Rattle.dump.proofs.lists.put_entry.Goals as goal
 
-pub put_numbers-p-requires : goal.put_numbers-p-requires
-put_numbers-p-requires c = search (rules, head_fits)
-
 pub put_numbers-requires : goal.put_numbers-requires
-put_numbers-requires c = search (rules, call_fits)
+put_numbers-requires c = head_fits c.args.e _ _ c.entry_head.ensures refl c.args.w.now c.requires
 
-pub returns-clause-value : goal.returns-clause-value
-returns-clause-value c = search (rules, entry_end)
+pub put_numbers-requires-2 : goal.put_numbers-requires-2
+put_numbers-requires-2 c = call_fits c.args.e _ _ c.entry_head.ensures c.call_numbers.ensures c.args.w.now c.requires _ c.put_numbers.ensures
 
-pub returns-clause-out_after : goal.returns-clause-out_after
-returns-clause-out_after c = search (rules, entry_put)
+pub returns : goal.returns
+returns c = entry_put c.args.e _ _ c.entry_head.ensures c.call_numbers.ensures c.args.w.now c.requires _ c.put_numbers.ensures _ c.put_numbers-2.ensures

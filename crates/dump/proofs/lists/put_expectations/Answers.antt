@@ -1,25 +1,19 @@
--- `dump::lists::put_expectations` meets its contract. Assumes nothing.
-use mathlib.Core.Path.{refl}
-use Rattle.dump.specs.Dump.{expectation_bytes}
-use Rattle.numbers.proofs.PuttingLaws.{putting_begun, putting_room, putting_on, putting_laws}
+-- `dump::lists::put_expectations` meets its contract: what stands for each that was passed is written. Assumes nothing.
+use mathlib.Core.Path.{ap}
 use borrow.Author.Rules.{rules}
+use Rattle.written.proofs.WriterLaws.{each_none, each_all, each_room, each_wrote}
+use Rattle.numbers.specs.Numbers.{in_bytes}
+use Rattle.dump.specs.Dump.{expectation_bytes}
 use Rattle.dump.proofs.lists.put_expectations.Goals as goal
 
-pub loop-i-init : goal.loop-i-init
-loop-i-init c = (search rules, putting_begun _ _ _ _ (search rules))
+pub loop-x-init : goal.loop-x-init
+loop-x-init c = each_none expectation_bytes c.args.w.now
 
-pub put_expectation-p-requires : goal.put_expectation-p-requires
-put_expectation-p-requires c =
-    let L = c.loop-i in
-    putting_room expectation_bytes _ _ _ L.out L.p L.i L.invariant.1 _ (search rules) _ refl
+pub put_numbers-requires : goal.put_numbers-requires
+put_numbers-requires c = each_room expectation_bytes c.args.expectations.now _ c.args.w.now _ c.loop-x.invariant c.requires _ (search rules) _ (ap in_bytes c.expectation_numbers.ensures)
 
-pub loop-i-preserved : goal.loop-i-preserved
-loop-i-preserved c =
-    let L = c.loop-i in
-    (search rules, putting_on expectation_bytes _ _ _ L.out L.p L.i L.invariant.1 _ (search rules) _ refl _ _ c.put_expectation-p.ensures.out_after c.put_expectation-p.ensures.value)
+pub loop-x-preserved : goal.loop-x-preserved
+loop-x-preserved c = each_wrote expectation_bytes c.args.expectations.now _ c.args.w.now _ c.loop-x.invariant c.requires _ (search rules) _ (ap in_bytes c.expectation_numbers.ensures) _ c.put_numbers.ensures
 
-pub returns-clause-value : goal.returns-clause-value
-returns-clause-value c = search (rules, putting_laws)
-
-pub returns-clause-out_after : goal.returns-clause-out_after
-returns-clause-out_after c = search (rules, putting_laws)
+pub returns : goal.returns
+returns c = each_all expectation_bytes c.args.expectations.now _ c.args.w.now _ c.loop-x.invariant c.requires (search rules)

@@ -1,11 +1,9 @@
-use Prim.Native.Nat.{◌-◌, ◌≤◌}
-use lib.ListN.{length}
+use mathlib.Core.Path.{◌≡◌}
+use mathlib.Core.List.{flat_map}
+use lib.ListN.{take}
+use Rattle.written.specs.Writing.{wrote}
 use Rattle.dump.specs.Dump.{expectation_bytes}
-use Rattle.numbers.proofs.PuttingLaws.{Putting}
 use Rattle.dump.proofs.lists.put_expectations.Given as goal
 
-abbrev pub invariant-loop-i : goal.invariant-loop-i
-invariant-loop-i l = (l.i ≤ length l.expectations) × Putting expectation_bytes l.initial.p l.expectations l.initial.out l.out l.p l.i
-
-abbrev pub decreases-loop-i : goal.decreases-loop-i
-decreases-loop-i l = length l.expectations - l.i
+abbrev pub invariant-loop-x : goal.invariant-loop-x
+invariant-loop-x l = l.w ≡ wrote (flat_map expectation_bytes (take l.x-index l.expectations)) l.fn.w

@@ -1,26 +1,19 @@
--- `dump::lists::put_items` meets its contract. Assumes nothing.
-use mathlib.Core.Path.{refl}
-use mathlib.Core.List.{[]}
-use Rattle.dump.specs.Dump.{item_bytes}
-use Rattle.numbers.proofs.PuttingLaws.{putting_begun, putting_room, putting_on, putting_laws}
+-- `dump::lists::put_items` meets its contract: what stands for each that was passed is written. Assumes nothing.
+use mathlib.Core.Path.{ap}
 use borrow.Author.Rules.{rules}
+use Rattle.written.proofs.WriterLaws.{each_none, each_all, each_room, each_wrote}
+use Rattle.numbers.specs.Numbers.{in_bytes}
+use Rattle.dump.specs.Dump.{item_bytes}
 use Rattle.dump.proofs.lists.put_items.Goals as goal
 
-pub loop-i-init : goal.loop-i-init
-loop-i-init c = (search rules, putting_begun _ _ _ _ (search rules))
+pub loop-item-init : goal.loop-item-init
+loop-item-init c = each_none item_bytes c.args.w.now
 
-pub put_item-p-requires : goal.put_item-p-requires
-put_item-p-requires c =
-    let L = c.loop-i in
-    putting_room item_bytes _ _ _ L.out L.p L.i L.invariant.1 [] (search rules) _ refl
+pub put_numbers-requires : goal.put_numbers-requires
+put_numbers-requires c = each_room item_bytes c.args.items.now _ c.args.w.now _ c.loop-item.invariant c.requires _ (search rules) _ (ap in_bytes c.item_numbers.ensures)
 
-pub loop-i-preserved : goal.loop-i-preserved
-loop-i-preserved c =
-    let L = c.loop-i in
-    (search rules, putting_on item_bytes _ _ _ L.out L.p L.i L.invariant.1 [] (search rules) _ refl _ _ c.put_item-p.ensures.out_after c.put_item-p.ensures.value)
+pub loop-item-preserved : goal.loop-item-preserved
+loop-item-preserved c = each_wrote item_bytes c.args.items.now _ c.args.w.now _ c.loop-item.invariant c.requires _ (search rules) _ (ap in_bytes c.item_numbers.ensures) _ c.put_numbers.ensures
 
-pub returns-clause-value : goal.returns-clause-value
-returns-clause-value c = search (rules, putting_laws)
-
-pub returns-clause-out_after : goal.returns-clause-out_after
-returns-clause-out_after c = search (rules, putting_laws)
+pub returns : goal.returns
+returns c = each_all item_bytes c.args.items.now _ c.args.w.now _ c.loop-item.invariant c.requires (search rules)

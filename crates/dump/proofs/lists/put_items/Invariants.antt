@@ -1,11 +1,9 @@
-use Prim.Native.Nat.{◌-◌, ◌≤◌}
-use lib.ListN.{length}
+use mathlib.Core.Path.{◌≡◌}
+use mathlib.Core.List.{flat_map}
+use lib.ListN.{take}
+use Rattle.written.specs.Writing.{wrote}
 use Rattle.dump.specs.Dump.{item_bytes}
-use Rattle.numbers.proofs.PuttingLaws.{Putting}
 use Rattle.dump.proofs.lists.put_items.Given as goal
 
-abbrev pub invariant-loop-i : goal.invariant-loop-i
-invariant-loop-i l = (l.i ≤ length l.items) × Putting item_bytes l.initial.p l.items l.initial.out l.out l.p l.i
-
-abbrev pub decreases-loop-i : goal.decreases-loop-i
-decreases-loop-i l = length l.items - l.i
+abbrev pub invariant-loop-item : goal.invariant-loop-item
+invariant-loop-item l = l.w ≡ wrote (flat_map item_bytes (take l.item-index l.items)) l.fn.w

@@ -10,7 +10,7 @@ pub loop-n-preserved : goal.loop-n-preserved
 loop-n-preserved c =
     let L = c.loop-n in
     let R = c.read-a in
-    (search rules, search rules, search rules, search rules, search rules, once_more _ L.es L.is L.xs L.bs L.invariant.0 L.invariant.1 L.invariant.2 L.invariant.3 R.result R.ensures.result_value _ c.number_of-last.ensures L.n)
+    (search rules, search rules, search rules, search rules, search rules, once_more _ L.es L.is L.xs L.bs L.invariant.0 L.invariant.1 L.invariant.2 L.invariant.3 R.result R.ensures.result_value _ c.number_of-last.ensures L._n)
 
 pub returns : goal.returns
 returns c = search (rules, last_turn)

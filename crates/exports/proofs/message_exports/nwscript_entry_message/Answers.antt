@@ -1,21 +1,26 @@
 -- `exports::message_exports::nwscript_entry_message` meets its contract. Assumes nothing.
-use mathlib.Core.Path.{refl, ap, ◌∙◌}
-use mir.Syntax.{w64}
-use mir.Val.{to_z, of_z}
-use Rattle.rows.specs.Rows.{expect_row, response_row}
+use mathlib.Core.Path.{ap, ◌∙◌}
+use Rattle.script.specs.declared.response.DaemonResponse.{DaemonResponse}
+use Rattle.verdicts.specs.Lookup.{looked}
+use Rattle.verdicts.specs.Messages.{message}
+use Rattle.verdicts.specs.Subjects.{held_by, parts_in}
 use Rattle.given.specs.Told.{refusal_of, verdict_of, length_of}
-use Rattle.row_messages.proofs.MessageLaws.{entry_told_lem, entry_scratch, entry_buffer}
+use Rattle.row_messages.proofs.MessageLaws.{row_handed}
+use Rattle.rows.specs.Rows.{response_row}
+use Rattle.verdicts.specs.declared.handed.Handed.TheVariants.{Response}
 use Rattle.exports.proofs.message_exports.nwscript_entry_message.Goals as goal
 
 pub returns : goal.returns
+unfolding held_by parts_in looked message
 returns c =
     let S = c.args in
-    let M = c.entry_message in
-    let e = entry_told_lem S.expectation.now S.n c.ranges.n (expect_row S.expectation.now (to_z w64 (of_z w64 S.n))) refl S.text.now S.bytes.now S.lists.now _ _ _ S.response.now (response_row S.response.now) refl M.ensures.value in
+    let M = c.message-told.ensures in
+    let e = ap (λ (x : DaemonResponse). Response x) c.response_of.ensures in
+    let a = row_handed S.text.now S.bytes.now S.lists.now S.scratch.now S.buffer.now _ _ _ S.expectation.now S.n c.ranges.n _ (Response (response_row S.response.now)) e (M.value, (M.scratch_after, M.buffer_after)) in
     record {
-      value = c.give_told.ensures.value ∙ ap refusal_of e;
-      verdict_after = c.give_told.ensures.verdict_after ∙ ap verdict_of e;
-      len_after = c.give_told.ensures.len_after ∙ ap length_of e;
-      scratch_after = entry_scratch S.expectation.now S.n c.ranges.n (expect_row S.expectation.now (to_z w64 (of_z w64 S.n))) refl S.text.now S.bytes.now S.lists.now _ _ _ S.response.now (response_row S.response.now) refl refl _ _ M.ensures.scratch_after;
-      buffer_after = entry_buffer S.expectation.now S.n c.ranges.n (expect_row S.expectation.now (to_z w64 (of_z w64 S.n))) refl S.text.now S.bytes.now S.lists.now _ _ _ S.response.now (response_row S.response.now) refl refl _ _ M.ensures.buffer_after;
+      value = c.give_told.ensures.value ∙ ap refusal_of a.0;
+      verdict_after = c.give_told.ensures.verdict_after ∙ ap verdict_of a.0;
+      len_after = c.give_told.ensures.len_after ∙ ap length_of a.0;
+      scratch_after = a.1.0;
+      buffer_after = a.1.1;
     }

@@ -1,7 +1,7 @@
 -- `finding::search::contains` meets its contract. The loop's invariant: the pattern stands in the rest of the value just where it stands in the
 -- value. Assumes nothing.
 use Prim.Native.Nat.{ℕ, ◌+◌, ◌-◌, ◌≤◌, ◌<◌}
-use mathlib.Core.Path.{◌≡◌, refl, sym, ◌∙◌}
+use mathlib.Core.Path.{◌≡◌, sym, ◌∙◌}
 use mathlib.Core.Bool.{Bool, true, false}
 use mathlib.Core.List.{List}
 use native.Mathlib.Omega.{arith}
@@ -45,9 +45,6 @@ ruleset walk = (empty_in, over, here, later)
 
 pub returns-then-pattern-eq0 : goal.returns-then-pattern-eq0
 returns-then-pattern-eq0 c = search (rules, walk)
-
-pub loop-i-init : goal.loop-i-init
-loop-i-init c = (search rules, refl)
 
 pub returns-then-starts_with : goal.returns-then-starts_with
 returns-then-starts_with c = search (rules, walk)

@@ -1,63 +1,46 @@
--- `lines::lines::trimmed_bytes` meets its contract. The loop's invariant: the bytes counted and those of the lines from `at` on are those of all lines.
+-- `lines::lines::trimmed_bytes` meets its contract. The loop's invariant: the bytes counted and those of the lines that are left are those of all lines.
 -- Assumes nothing.
-use Prim.Native.Nat.{ℕ, ◌+◌, ◌-◌, ◌≤◌, ◌<◌}
-use mathlib.Core.Path.{◌≡◌, ap}
-use mathlib.Core.List.{List}
+use Prim.Native.Nat.{ℕ, ◌+◌}
+use mathlib.Core.Path.{◌≡◌, ap, ◌∙◌}
+use mathlib.Core.List.{List, [], ◌∷◌}
 use native.Mathlib.Omega.{arith}
 use native.Mathlib.Nat.{zero-add}
-use lib.ListN.{length, drop, length-drop, length-take}
-use Rattle.text.specs.Base.{part}
+use lib.ListN.{length}
 use Rattle.text.specs.declared.lines.Line.{Line}
+use Rattle.text.specs.Lines.{lines, line_bytes, trimmed_length}
 use Rattle.text.specs.Trim.{trimmed}
-use Rattle.text.specs.Lines.{line_at, lines, line_bytes, trimmed_length}
-use Rattle.text.proofs.LineLaws.{lines_at, known, lines_none, line_steps}
-use Rattle.text.proofs.TrimLaws.{trimmed-fits}
-use borrow.Author.Rules.{rules}
+use Rattle.text.proofs.LineLaws.{lines-in, trimmed_few}
+use Rattle.lines.specs.Walk.{left}
 use Rattle.lines.proofs.lines.trimmed_bytes.Goals as goal
 
-module _ (text : List ℕ) (at number sum whole : ℕ) where
-  abbrev Here : Type 0
-  Here = sum + trimmed_length text (lines_at text at number) ≡ whole
+-- a line less is left; none is
+one_more : (text : List ℕ) (sum whole : ℕ) (l : Line) (ls rest : List Line) (t : List ℕ) → sum + trimmed_length text ls ≡ whole → ls ≡ l ∷ rest → t ≡ trimmed (line_bytes text l)
+    → sum + length t + trimmed_length text rest ≡ whole
+unfolding trimmed_length
+one_more text sum whole l ls rest t q e f = omega (arith, ap (trimmed_length text) e, ap length f)
 
-  over : Here → length text ≤ at → sum ≡ whole
-  unfolding trimmed_length
-  over q h = let z = ap (trimmed_length text) (lines_none text at number h) in omega arith
+over : (text : List ℕ) (sum whole : ℕ) (ls : List Line) → sum + trimmed_length text ls ≡ whole → ls ≡ [] → sum ≡ whole
+unfolding trimmed_length
+over text sum whole ls q e = omega (arith, ap (trimmed_length text) e)
 
-  module _ (q : Here) (h : at < length text) (l : Line) (e : l ≡ line_at text at number) (t : List ℕ) (f : t ≡ trimmed (part text l.start (l.end - l.start))) where
-    one_more : sum + length t + trimmed_length text (lines_at text l.next (number + 1)) ≡ whole
-    unfolding trimmed_length
-    one_more = let z = ap (trimmed_length text) (known text at number l h e).more in let n = ap length f in omega arith
+counted : (c : goal.After-trim) → c.loop-line.sum + length c.trim.result.now + trimmed_length c.args.text.now (left c.next.new.self) ≡ trimmed_length c.args.text.now (lines c.args.text.now)
+counted c = one_more _ _ _ _ _ _ _ c.loop-line.invariant.total c.in-Some.ensures.steps c.trim.ensures
 
-    -- a trimmed line is no longer than the line
-    fits : sum ≤ at → sum + length t ≤ l.next
-    fits b =
-        let k = known text at number l h e in
-        let n = ap length f in
-        omega (arith, trimmed-fits (line_bytes text l), length-take (l.end - l.start) (drop l.start text), length-drop l.start text)
-
-ruleset walk = (over, one_more, fits, line_steps)
-
-pub loop-at-init : goal.loop-at-init
-unfolding lines
-loop-at-init c = (search rules, search rules, search rules, zero-add _)
-
-pub slice_bounds-trim-count : goal.slice_bounds-trim-count
-slice_bounds-trim-count c = search (rules, walk)
-
-pub slice_bounds-trim-start : goal.slice_bounds-trim-start
-slice_bounds-trim-start c = search (rules, walk)
-
-pub slice_bounds-trim-end : goal.slice_bounds-trim-end
-slice_bounds-trim-end c = search (rules, walk)
-
-pub loop-at-smaller : goal.loop-at-smaller
-loop-at-smaller c = search (rules, walk)
+pub loop-line-init : goal.loop-line-init
+loop-line-init c =
+    let e = ap left c.into_iter-line-iterator.ensures.into_iter_gives ∙ c.new-line-items.ensures.all in
+    record { callable = grind arith; ends = tt; inside = rw e (lines-in c.args.text.now); total = rw e (zero-add _) }
 
 pub overflow_add-sum : goal.overflow_add-sum
-overflow_add-sum c = search (rules, walk)
+overflow_add-sum c = record { fits = omega (arith, counted c, trimmed_few c.args.text.now) }
 
-pub loop-at-preserved : goal.loop-at-preserved
-loop-at-preserved c = search (rules, walk)
+pub loop-line-preserved : goal.loop-line-preserved
+loop-line-preserved c = record {
+  callable = c.in-Some.ensures.goes.keeps;
+  ends = tt;
+  inside = (rw c.in-Some.ensures.steps at c.loop-line.invariant.inside).2;
+  total = counted c;
+}
 
 pub returns : goal.returns
-returns c = search (rules, walk)
+returns c = over _ _ _ _ c.loop-line.invariant.total c.in-None.ensures.steps.0

@@ -1,33 +1,19 @@
 -- `list_pieces::compare::opens_at` meets its contract. The loop's invariant: what is left of the pattern opens what is left of the list just where the whole
 -- pattern opens the list from the place given. Assumes nothing.
-use mathlib.Core.Path.{refl, ap}
-use native.Mathlib.Omega.{arith}
-use lib.ListN.{length}
+use mathlib.Core.Path.{◌∙◌}
 use borrow.Author.Rules.{rules}
-use Rattle.list_pieces.proofs.PieceLaws.{count_is}
-use Rattle.list_pieces.proofs.OpenLaws.{list_turns}
+use Rattle.list_pieces.specs.Pieces.{row}
+use Rattle.list_pieces.proofs.OpenLaws.{list_turns, list_same, list_over}
 use Rattle.list_pieces.proofs.compare.opens_at.Goals as goal
 
-pub loop-k-init : goal.loop-k-init
-loop-k-init c = (search (rules, count_is), search rules, search rules, refl)
+pub returns-then-not-whole : goal.returns-then-not-whole
+returns-then-not-whole c = search (rules, list_turns)
 
-pub slice_bounds-here-count : goal.slice_bounds-here-count
-slice_bounds-here-count c = omega (arith, ap length c.piece_at-piece.ensures)
+pub returns-then-not-starts_with : goal.returns-then-not-starts_with
+returns-then-not-starts_with c = search (rules, list_turns)
 
-pub slice_bounds-here-start : goal.slice_bounds-here-start
-slice_bounds-here-start c = omega (arith, ap length c.piece_at-piece.ensures)
-
-pub returns-then-whole : goal.returns-then-whole
-returns-then-whole c = search (rules, list_turns)
-
-pub returns-then-left-here : goal.returns-then-left-here
-returns-then-left-here c = search (rules, list_turns)
-
-pub loop-k-preserved : goal.loop-k-preserved
-loop-k-preserved c = (search rules, search rules, search rules, search (rules, list_turns))
-
-pub returns-else-starts_with : goal.returns-else-starts_with
-returns-else-starts_with c = search (rules, list_turns)
-
-pub returns : goal.returns
-returns c = search (rules, list_turns)
+pub returns-in-None : goal.returns-in-None
+unfolding row
+returns-in-None c =
+    let e = list_same _ _ _ _ _ c.loop-rest.invariant _ c.starts_with-in-loop-rest.ensures c.if-rest-here.false c.if-not-starts_with.false in
+    c.is_empty.ensures ∙ list_over _ _ _ (rw c.in-None.ensures.steps.0 at e)

@@ -1,15 +1,12 @@
-use Prim.Native.Nat.{◌-◌, ◌≤◌}
 use mathlib.Core.Path.{◌≡◌}
-use mathlib.Core.List.{[]}
-use lib.ListN.{length, get_or, drop}
-use Rattle.list_pieces.specs.Pieces.{pieces_of, row_from, opens}
+use mathlib.Core.List.{◌++◌}
+use lib.ListN.{length}
+use Rattle.list_pieces.specs.Pieces.{row, opens}
+use Rattle.list_pieces.specs.Left.{left}
 use Rattle.list_pieces.proofs.compare.opens_at.Given as goal
 
-abbrev pub invariant-loop-k : goal.invariant-loop-k
-invariant-loop-k l = (l.end ≡ length (pieces_of l.bytes l.lists l.signs l.n l.r))
-    × (l.from ≤ length (get_or (pieces_of l.bytes l.lists l.signs l.n l.r) l.k []))
-    × (l.p ≤ length l.pattern)
-    × (opens l.whole (drop l.p l.pattern) (row_from (pieces_of l.bytes l.lists l.signs l.n l.r) l.k l.from) ≡ opens l.whole l.pattern (row_from (pieces_of l.bytes l.lists l.signs l.n l.r) l.j l.o))
+abbrev pub invariant-loop-rest : goal.invariant-loop-rest
+invariant-loop-rest l = opens l.whole l.rest (l.here ++ row (left l.behind)) ≡ opens l.fn.whole l.fn.pattern (l.fn.piece ++ row (left l.fn.behind))
 
-abbrev pub decreases-loop-k : goal.decreases-loop-k
-decreases-loop-k l = l.end - l.k
+abbrev pub decreases-loop-rest : goal.decreases-loop-rest
+decreases-loop-rest l = length (left l.behind)

@@ -16,16 +16,16 @@ returns-in-Err c =
     record {
       value = (let a = c.args in
           let r = c.read-answer in
-          let p = c.put_refusal in
-          refused-lists a.text.now _ (was_refused _ r.result r.ensures.result_value _ c.in-Err.is) a.out.now p.new.out p.result p.auto.out (p.ensures.value, (p.ensures.out_after, p.ensures.upper_bound))).0;
+          let p = c.list_refusal in
+          refused-lists a.text.now _ (was_refused _ r.result r.ensures.result_value _ c.in-Err.is) a.out.now p.new.out p.result p.auto.out p.ensures.value p.ensures.out_after).0;
       out_after = (let a = c.args in
           let r = c.read-answer in
-          let p = c.put_refusal in
-          refused-lists a.text.now _ (was_refused _ r.result r.ensures.result_value _ c.in-Err.is) a.out.now p.new.out p.result p.auto.out (p.ensures.value, (p.ensures.out_after, p.ensures.upper_bound))).1.0;
+          let p = c.list_refusal in
+          refused-lists a.text.now _ (was_refused _ r.result r.ensures.result_value _ c.in-Err.is) a.out.now p.new.out p.result p.auto.out p.ensures.value p.ensures.out_after).1.0;
       front = (let a = c.args in
           let r = c.read-answer in
-          let p = c.put_refusal in
-          refused-lists a.text.now _ (was_refused _ r.result r.ensures.result_value _ c.in-Err.is) a.out.now p.new.out p.result p.auto.out (p.ensures.value, (p.ensures.out_after, p.ensures.upper_bound))).1.1;
+          let p = c.list_refusal in
+          refused-lists a.text.now _ (was_refused _ r.result r.ensures.result_value _ c.in-Err.is) a.out.now p.new.out p.result p.auto.out p.ensures.value p.ensures.out_after).1.1;
     }
 
 pub returns-in-Ok : goal.returns-in-Ok

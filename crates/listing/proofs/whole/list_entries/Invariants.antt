@@ -1,9 +1,8 @@
-use Prim.Native.Nat.{◌-◌}
-use Rattle.listing.proofs.WholeLaws.{Printed}
+use Prim.Native.Nat.{◌*◌}
+use lib.ListN.{take}
+use Rattle.printed.specs.Listing.{entry_lines}
+use Rattle.printed.proofs.PutLaws.{Put}
 use Rattle.listing.proofs.whole.list_entries.Given as goal
 
-abbrev pub invariant-loop-i : goal.invariant-loop-i
-invariant-loop-i l = Printed l.entries l.n l.at l.initial.out l.out l.next l.i
-
-abbrev pub decreases-loop-i : goal.decreases-loop-i
-decreases-loop-i l = l.n - l.i
+abbrev pub invariant-loop-entry : goal.invariant-loop-entry
+invariant-loop-entry l = Put (entry_lines (take l.entry-index l.entries)) (l.entry-index * 63) l.fn.w l.w

@@ -1,44 +1,19 @@
--- `lists::joined::put_joined` meets its contract. Assumes nothing.
-use native.Mathlib.Omega.{arith}
+-- `lists::joined::put_joined` meets its contract: the first text, then the others. Assumes nothing.
 use Rattle.verdicts.specs.Held.{item_text}
-use Rattle.writing.proofs.PutLaws.{wrote_none}
-use Rattle.lists.proofs.JoinedLaws.{joined-none, first-length, joined_wrote}
+use Rattle.lists.proofs.JoinedLaws.{joined_none, one_room, rest_room, joined_wrote}
 use Rattle.lists.proofs.joined.put_joined.Goals as goal
 
-pub returns-then-items-eq0 : goal.returns-then-items-eq0
-returns-then-items-eq0 c =
-    record {
-      value = (let A = c.args in
-          wrote_none _ (joined-none A.bytes.now A.items.now (omega arith)) A.at A.out.now (omega (arith, c.requires))).0;
-      out_after = (let A = c.args in
-          wrote_none _ (joined-none A.bytes.now A.items.now (omega arith)) A.at A.out.now (omega (arith, c.requires))).1;
-    }
-
-pub put_word-next-requires : goal.put_word-next-requires
+pub put-requires : goal.put-requires
 unfolding item_text
-put_word-next-requires c =
-    let A = c.args in
-    let l = first-length A.bytes.now A.items.now (omega arith) _ c.part_of.ensures in
-    omega (arith, c.requires)
+put-requires c = one_room c.args.bytes.now _ c.args.w.now _ _ c.in-Some.ensures.cases.0 _ c.part_of.ensures c.requires
 
-pub put_rest-requires : goal.put_rest-requires
+pub put_behind-requires : goal.put_behind-requires
 unfolding item_text
-put_rest-requires c =
-    let A = c.args in
-    let w = c.put_word-next in
-    let l = first-length A.bytes.now A.items.now (omega arith) _ c.part_of.ensures in
-    omega (arith, c.requires, w.ensures.value, w.auto.out)
+put_behind-requires c = rest_room c.args.bytes.now _ c.args.w.now _ _ c.in-Some.ensures.cases.0 _ c.part_of.ensures c.requires _ c.put.ensures
 
-pub returns : goal.returns
+pub returns-in-Some : goal.returns-in-Some
 unfolding item_text
-returns c =
-    record {
-      value = (let A = c.args in
-          let w = c.put_word-next in
-          let r = c.put_rest in
-          joined_wrote A.bytes.now A.items.now (omega arith) _ c.part_of.ensures A.at A.out.now w.new.out r.new.out w.result r.result c.requires (w.ensures.value, w.ensures.out_after) (r.ensures.value, r.ensures.out_after)).0;
-      out_after = (let A = c.args in
-          let w = c.put_word-next in
-          let r = c.put_rest in
-          joined_wrote A.bytes.now A.items.now (omega arith) _ c.part_of.ensures A.at A.out.now w.new.out r.new.out w.result r.result c.requires (w.ensures.value, w.ensures.out_after) (r.ensures.value, r.ensures.out_after)).1;
-    }
+returns-in-Some c = joined_wrote c.args.bytes.now _ c.args.w.now _ _ c.in-Some.ensures.cases.0 _ c.part_of.ensures c.requires _ c.put.ensures _ c.put_behind.ensures
+
+pub returns-in_default : goal.returns-in_default
+returns-in_default c = joined_none _ _ _ c.in_default.ensures.cases

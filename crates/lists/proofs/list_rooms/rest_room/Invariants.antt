@@ -1,12 +1,9 @@
-use Prim.Native.Nat.{◌-◌}
 use mathlib.Core.Path.{◌≡◌}
-use lib.ListN.{length}
-use Rattle.writing.specs.Room.{less_by}
-use Rattle.lists.proofs.JoinedLaws.{rest}
+use lib.ListN.{drop}
+use Rattle.lists.specs.Lists.{item_texts}
+use Rattle.lists.proofs.ListRoomLaws.{left_behind}
 use Rattle.lists.proofs.list_rooms.rest_room.Given as goal
 
-abbrev pub invariant-loop-i : goal.invariant-loop-i
-invariant-loop-i l = less_by l.left (length (rest l.bytes l.items l.i)) ≡ less_by l.initial.left (length (rest l.bytes l.items 1))
-
-abbrev pub decreases-loop-i : goal.decreases-loop-i
-decreases-loop-i l = length l.items - l.i
+-- what is left, less the texts still to come, is what is left in the end
+abbrev pub invariant-loop-item : goal.invariant-loop-item
+invariant-loop-item l = left_behind l.left (item_texts l.bytes (drop l.item-index l.items)) ≡ left_behind l.fn.room (item_texts l.bytes l.items)

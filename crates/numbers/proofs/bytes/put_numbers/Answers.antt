@@ -1,24 +1,17 @@
--- `numbers::bytes::put_numbers` meets its contract. Assumes nothing.
-use Rattle.numbers.specs.Numbers.{bytes_of}
-use Rattle.numbers.proofs.PuttingLaws.{putting_begun, putting_room, putting_on, putting_laws}
+-- `numbers::bytes::put_numbers` meets its contract: the bytes of the numbers passed are written. Assumes nothing.
 use borrow.Author.Rules.{rules}
+use Rattle.written.proofs.WriterLaws.{each_none, each_all, each_room, each_wrote}
+use Rattle.numbers.specs.Numbers.{bytes_of}
 use Rattle.numbers.proofs.bytes.put_numbers.Goals as goal
 
-pub loop-i-init : goal.loop-i-init
-loop-i-init c = (search rules, putting_begun _ _ _ _ (search rules))
+pub loop-n-init : goal.loop-n-init
+loop-n-init c = each_none bytes_of c.args.w.now
 
-pub put_bytes-p-requires : goal.put_bytes-p-requires
-put_bytes-p-requires c =
-    let L = c.loop-i in
-    putting_room bytes_of _ _ _ L.out L.p L.i L.invariant.1 0 (search rules) _ c.bytes_of-bytes.ensures
+pub put-requires : goal.put-requires
+put-requires c = each_room bytes_of c.args.numbers.now _ c.args.w.now _ c.loop-n.invariant c.requires 0 (search rules) _ (search rules)
 
-pub loop-i-preserved : goal.loop-i-preserved
-loop-i-preserved c =
-    let L = c.loop-i in
-    (search rules, putting_on bytes_of _ _ _ L.out L.p L.i L.invariant.1 0 (search rules) _ c.bytes_of-bytes.ensures _ _ c.put_bytes-p.ensures.out_after c.put_bytes-p.ensures.value)
+pub loop-n-preserved : goal.loop-n-preserved
+loop-n-preserved c = each_wrote bytes_of c.args.numbers.now _ _ _ c.loop-n.invariant c.requires 0 (search rules) _ (search rules) _ c.put.ensures
 
-pub returns-clause-value : goal.returns-clause-value
-returns-clause-value c = search (rules, putting_laws)
-
-pub returns-clause-out_after : goal.returns-clause-out_after
-returns-clause-out_after c = search (rules, putting_laws)
+pub returns : goal.returns
+returns c = each_all bytes_of _ _ _ _ c.loop-n.invariant c.requires (search rules)

@@ -1,11 +1,8 @@
-use Prim.Native.Nat.{◌-◌, ◌≤◌}
-use lib.ListN.{length}
-use Rattle.numbers.specs.Numbers.{bytes_of}
-use Rattle.numbers.proofs.PuttingLaws.{Putting}
+use mathlib.Core.Path.{◌≡◌}
+use lib.ListN.{take}
+use Rattle.written.specs.Writing.{wrote}
+use Rattle.numbers.specs.Numbers.{in_bytes}
 use Rattle.numbers.proofs.bytes.put_numbers.Given as goal
 
-abbrev pub invariant-loop-i : goal.invariant-loop-i
-invariant-loop-i l = (l.i ≤ length l.numbers) × Putting bytes_of l.initial.p l.numbers l.initial.out l.out l.p l.i
-
-abbrev pub decreases-loop-i : goal.decreases-loop-i
-decreases-loop-i l = length l.numbers - l.i
+abbrev pub invariant-loop-n : goal.invariant-loop-n
+invariant-loop-n l = l.w ≡ wrote (in_bytes (take l.n-index l.numbers)) l.fn.w

@@ -1,30 +1,66 @@
 -- `ranges::steps::judge_on` meets its contract. Assumes nothing.
+use mathlib.Core.Path.{◌≡◌, sym, ap, ◌∙◌}
+use mathlib.Core.List.{List, [], map}
+use Prim.Native.Nat.{ℕ, ◌-◌}
 use native.Mathlib.Omega.{arith}
-use lib.ListN.{length}
+use lib.Dec.{ltb}
+use lib.ListN.{length, drop, length-take, length-drop}
+use Rattle.script.specs.declared.records.Expectation.{Expectation}
+use Rattle.verdicts.specs.Held.{ranged}
 use Rattle.verdicts.specs.Lookup.{looked}
-use Rattle.verdicts.specs.Subjects.{held_by}
-use Rattle.ranges.proofs.StepLaws.{Begun, begun}
+use Rattle.verdicts.specs.Verdicts.{verdict, code}
+use Rattle.written.specs.Written.{written_at}
+use Rattle.written.proofs.WrittenLaws.{part_written}
+use Rattle.judging.specs.Calls.{said, too_long}
+use Rattle.subjects.specs.Against.{against}
+use Rattle.tallies.specs.Tally.{added_all}
+use Rattle.ranges.specs.Judging.{lent_of, asked_of}
+use Rattle.ranges.proofs.RangeLaws.{codes_length}
+use Rattle.ranges.proofs.StepLaws.{Begun, begun, none_tried, written_there, judged_ok}
 use Rattle.ranges.proofs.steps.judge_on.Goals as goal
-use Rattle.ranges.proofs.steps.judge_on.Goals.{After-settled-q}
+use Rattle.ranges.proofs.steps.judge_on.Goals.{After-part_of-judged}
 
 -- a judging that comes so far is not refused
-begun_of : (c : After-settled-q) → let s = c.args in Begun s.next s.counts s.text.now s.expectations.now s.entries s.number (looked (held_by s.bytes.now s.lists.now s.h)) (length s.verdicts.now) (length s.scratch.now) c.settled-q.result
-begun_of c = let s = c.args in begun s.next s.counts s.text.now s.script s.expectations.now s.entries s.r s.number s.h s.bytes.now s.lists.now _ _ _ _ _ c.refusal_of-tried.ensures c.in_default.is c.settled-q.ensures
+begun_of : (c : After-part_of-judged) → let s = c.args in Begun s.next s.counts s.text.now s.expectations.now s.entries s.number (looked (against s.s)) (length s.verdicts.now) (length s.scratch.now) s.r
+begun_of c = let s = c.args in begun s.next s.counts s.text.now s.script s.expectations.now s.entries s.r s.number s.s.handed s.s.held.bytes.now s.s.held.lists.now _ _ _ _ c.refusal_of-tried.ensures c.in_default.is
 
-pub judge_range-after-requires-clause-count_in_bounds : goal.judge_range-after-requires-clause-count_in_bounds
-judge_range-after-requires-clause-count_in_bounds c = (begun_of (goal.at.judge_range-after-requires-clause-count_in_bounds c).After-settled-q).in_table
-
-pub judge_range-after-requires-clause-count_in_bounds_2 : goal.judge_range-after-requires-clause-count_in_bounds_2
-judge_range-after-requires-clause-count_in_bounds_2 c = (begun_of (goal.at.judge_range-after-requires-clause-count_in_bounds_2 c).After-settled-q).in_list
+pub judge_range-after-requires-clause-slots_bound : goal.judge_range-after-requires-clause-slots_bound
+judge_range-after-requires-clause-slots_bound c =
+    let b = begun_of (goal.at.judge_range-after-requires-clause-slots_bound c).After-part_of-judged in
+    let v = c.args.verdicts.now in
+    let n = c.min-first.result in
+    omega (arith, b.slots, ap length c.part_of-judged.ensures, c.min-first.ensures, length-take (length v - n) (drop n v), length-drop n v)
 
 pub judge_range-after-requires-clause-count_bound : goal.judge_range-after-requires-clause-count_bound
-judge_range-after-requires-clause-count_bound c = (begun_of (goal.at.judge_range-after-requires-clause-count_bound c).After-settled-q).among_first
+judge_range-after-requires-clause-count_bound c =
+    let b = begun_of (goal.at.judge_range-after-requires-clause-count_bound c).After-part_of-judged in omega (arith, b.among_first, ap length c.part_of-judged.ensures)
 
 pub judge_range-after-requires-clause-passed_bound : goal.judge_range-after-requires-clause-passed_bound
-judge_range-after-requires-clause-passed_bound c = (begun_of (goal.at.judge_range-after-requires-clause-passed_bound c).After-settled-q).few
+judge_range-after-requires-clause-passed_bound c = (begun_of (goal.at.judge_range-after-requires-clause-passed_bound c).After-part_of-judged).few
 
-pub judge_range-after-requires-clause-r_value : goal.judge_range-after-requires-clause-r_value
-judge_range-after-requires-clause-r_value c = (begun_of (goal.at.judge_range-after-requires-clause-r_value c).After-settled-q).fit
+pub judge_range-after-requires-clause-fit : goal.judge_range-after-requires-clause-fit
+judge_range-after-requires-clause-fit c =
+    let b = begun_of (goal.at.judge_range-after-requires-clause-fit c).After-part_of-judged in
+    let s = c.args in
+    ap (λ (es : List Expectation). too_long (length s.scratch.now) (map (looked (against s.s)) (said s.text.now es))) c.part_of-judged.ensures ∙ b.fit
 
 pub overflow_add-result : goal.overflow_add-result
-overflow_add-result c = let b = begun_of (goal.at.overflow_add-result c).After-settled-q in omega (arith, b.is_next, b.is_entry, c.requires.entries_bound)
+overflow_add-result c = let b = begun_of (goal.at.overflow_add-result c).After-part_of-judged in omega (arith, b.is_next, b.is_entry, c.requires)
+
+pub returns-clause-verdicts_after : goal.returns-clause-verdicts_after
+returns-clause-verdicts_after c =
+    let b = begun_of (goal.at.returns-clause-verdicts_after c).After-part_of-judged in
+    let s = c.args in
+    let f = verdict (against s.s) in
+    let v = s.verdicts.now in
+    let n = c.min-first.result in
+    let r = c.judge_range-after in
+    let es = ranged s.expectations.now s.r in
+    let codes = map code (map f (said s.text.now es)) in
+    let to_range : codes ≡ map code (map f (said s.text.now c.part_of-judged.result.now)) = ap (λ (l : List Expectation). map code (map f (said s.text.now l))) (sym c.part_of-judged.ensures) in
+    judged_ok (lent_of s.text.now s.script [] s.expectations.now) (ltb s.entries s.number) s.r (record { next = s.next; counts = s.counts; verdicts = v })
+    (asked_of s.number s.s.handed s.s.held.bytes.now s.s.held.lists.now (length s.scratch.now)) r.result _ (none_tried _ _ (sym c.refusal_of-tried.ensures ∙ c.in_default.is))
+    (r.ensures.value ∙ ap (λ (l : List Expectation). added_all (map f (said s.text.now l)) s.counts) c.part_of-judged.ensures)
+    (part_written codes _ n v r.new.slots to_range (omega (arith, codes_length s.text.now f es, b.slots, c.min-first.ensures)) r.ensures.slots_after
+    ∙ ap (λ (m : ℕ). written_at m codes v) c.min-first.ensures
+    ∙ written_there f s.text.now s.expectations.now s.r v b.in_list)

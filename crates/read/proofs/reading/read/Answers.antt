@@ -6,7 +6,7 @@ use borrow.Author.Rules.{rules}
 use Rattle.read.proofs.reading.read.Goals as goal
 
 pub measure_keeping-requires : goal.measure_keeping-requires
-measure_keeping-requires c = rw c.blank-kept.ensures (blank_memo _ 1024)
+measure_keeping-requires c = blank_memo _ 1024
 
 pub read_script-requires-clause-text_len_bound : goal.read_script-requires-clause-text_len_bound
 read_script-requires-clause-text_len_bound c =

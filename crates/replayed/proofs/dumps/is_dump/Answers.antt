@@ -1,35 +1,24 @@
--- `replayed::dumps::is_dump` meets its contract. The loop's invariant: the words from `at` on are the dump from `p` on just where all are the whole. Assumes nothing.
-use Rattle.text.proofs.WordLaws.{word_places}
-use Rattle.replayed.proofs.DumpLaws.{word_less, line_over, no_word, other, goes_on, has_room}
+-- `replayed::dumps::is_dump` meets its contract. The loop's invariant: the words of `left` are the dump from `p` on just where all are the whole. Assumes nothing.
+use Prim.Native.Nat.{◌-◌, ◌<◌}
+use lib.ListN.{length}
+use Rattle.replayed.proofs.DumpLaws.{word_less, no_word, other, goes_on, has_room}
 use borrow.Author.Rules.{rules}
 use Rattle.replayed.proofs.dumps.is_dump.Goals as goal
 
-pub returns-then-start-end : goal.returns-then-start-end
-returns-then-start-end c = search (rules, no_word)
-
-pub slice_bounds-is_in_front-count : goal.slice_bounds-is_in_front-count
-slice_bounds-is_in_front-count c = search (rules, word_places)
-
-pub slice_bounds-is_in_front-start : goal.slice_bounds-is_in_front-start
-slice_bounds-is_in_front-start c = search (rules, word_places)
-
-pub slice_bounds-is_in_front-end : goal.slice_bounds-is_in_front-end
-slice_bounds-is_in_front-end c = search (rules, word_places)
-
-pub slice_bounds-is_in_front-count-in-loop-at : goal.slice_bounds-is_in_front-count-in-loop-at
-slice_bounds-is_in_front-count-in-loop-at c = search (rules, word_places)
+pub returns-then-is_empty : goal.returns-then-is_empty
+returns-then-is_empty c = no_word _ _ _ _ c.word.ensures.bytes c.word.ensures.at c.loop-word.left.inside _ c.args.found.now c.loop-word.p _ c.loop-word.invariant.1 (search rules) _ c.same.ensures
 
 pub returns-then-not-is_in_front : goal.returns-then-not-is_in_front
-returns-then-not-is_in_front c = search (rules, other)
+returns-then-not-is_in_front c = other _ _ _ _ c.word.ensures.bytes c.word.ensures.at c.loop-word.left.inside _ c.args.found.now c.loop-word.p _ c.loop-word.invariant.1 (search rules) _ c.is_in_front.ensures (search rules)
 
-pub overflow_add-p : goal.overflow_add-p
-overflow_add-p c = search (rules, has_room)
+pub loop-word-smaller : goal.loop-word-smaller
+loop-word-smaller c =
+    let n : length c.word.result.1.line.now - c.word.result.1.at < length c.loop-word.left.line.now - c.loop-word.left.at =
+    rw c.word.ensures.line (word_less _ _ _ _ c.word.ensures.bytes c.word.ensures.at c.loop-word.left.inside (search rules)) in
+    n
 
-pub loop-at-smaller : goal.loop-at-smaller
-loop-at-smaller c = search (rules, word_less)
-
-pub loop-at-preserved : goal.loop-at-preserved
-loop-at-preserved c = (search (rules, word_places), search (rules, has_room), search (rules, goes_on))
-
-pub returns : goal.returns
-returns c = search (rules, line_over)
+pub loop-word-preserved : goal.loop-word-preserved
+loop-word-preserved c = (
+  has_room _ _ _ _ c.word.ensures.bytes c.word.ensures.at c.loop-word.left.inside _ c.args.found.now c.loop-word.p _ c.loop-word.invariant.1 (search rules) _ c.is_in_front.ensures (search rules),
+  rw c.word.ensures.line (goes_on _ _ _ _ c.word.ensures.bytes c.word.ensures.at c.loop-word.left.inside _ c.args.found.now c.loop-word.p _ c.loop-word.invariant.1 (search rules) _ c.is_in_front.ensures (search rules)),
+)

@@ -5,10 +5,9 @@ use Rattle.text.proofs.WordLaws.{words_at}
 use Rattle.replayed.specs.Dumps.{is_dump}
 use Rattle.replayed.proofs.dumps.is_dump.Given as goal
 
-abbrev pub invariant-loop-at : goal.invariant-loop-at
-invariant-loop-at l = (l.at ≤ length l.line)
-    × (l.p ≤ length l.found)
-    × (is_dump l.line (words_at l.line l.at) l.store (drop l.p l.found) ≡ is_dump l.line (words_at l.line l.from) l.store l.found)
+abbrev pub invariant-loop-word : goal.invariant-loop-word
+invariant-loop-word l = (l.p ≤ length l.found)
+    × (is_dump l.left.line.now (words_at l.left.line.now l.left.at) l.store (drop l.p l.found) ≡ is_dump l.rest.line.now (words_at l.rest.line.now l.rest.at) l.store l.found)
 
-abbrev pub decreases-loop-at : goal.decreases-loop-at
-decreases-loop-at l = length l.line - l.at
+abbrev pub decreases-loop-word : goal.decreases-loop-word
+decreases-loop-word l = length l.left.line.now - l.left.at

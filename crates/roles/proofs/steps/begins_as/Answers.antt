@@ -3,14 +3,14 @@ use Rattle.roles.proofs.StepLaws.{front_words}
 use borrow.Author.Rules.{rules}
 use Rattle.roles.proofs.steps.begins_as.Goals as goal
 
-pub returns-then-t : goal.returns-then-t
-returns-then-t c = search (rules, front_words)
+pub returns-then-is_empty : goal.returns-then-is_empty
+returns-then-is_empty c = search (rules, front_words)
 
-pub returns-then-begins : goal.returns-then-begins
-returns-then-begins c = search (rules, front_words)
+pub returns-then-starts_with : goal.returns-then-starts_with
+returns-then-starts_with c = search (rules, front_words)
 
-pub returns-then-begins-2 : goal.returns-then-begins-2
-returns-then-begins-2 c = search (rules, front_words)
+pub returns-then-starts_with-2 : goal.returns-then-starts_with-2
+returns-then-starts_with-2 c = search (rules, front_words)
 
 pub returns : goal.returns
 returns c = search (rules, front_words)

@@ -1,7 +1,7 @@
 -- `scratch::put::put_value` meets its contract. Assumes nothing.
 use mathlib.Core.Path.{sym, ap, ◌∙◌}
 use lib.ListN.{length}
-use Rattle.writing.proofs.PutLaws.{front_taken}
+use Rattle.written.proofs.WrittenLaws.{front_taken}
 use Rattle.scratch.proofs.put.put_value.Goals as goal
 
 pub slice_bounds-result-end : goal.slice_bounds-result-end

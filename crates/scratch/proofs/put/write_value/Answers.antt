@@ -1,12 +1,13 @@
 -- `scratch::put::write_value` meets its contract. Assumes nothing.
-use Rattle.writing.proofs.PutLaws.{wrote_front}
+use borrow.Author.Rules.{rules}
+use mathlib.Core.Path.{◌∙◌}
+use Rattle.written.proofs.WriterLaws.{handed_at, handed_back}
 use Rattle.scratch.proofs.put.write_value.Goals as goal
 
 pub returns : goal.returns
 returns c =
+    let done = c.write_value_at.ensures in
     record {
-      value = (let w = c.write_value_at in
-          wrote_front _ c.args.scratch.now w.new.out w.result c.requires (w.ensures.value, w.ensures.out_after)).0;
-      scratch_after = (let w = c.write_value_at in
-          wrote_front _ c.args.scratch.now w.new.out w.result c.requires (w.ensures.value, w.ensures.out_after)).1;
+      value = c.position.ensures ∙ handed_at _ _ _ _ done c.new-w.ensures;
+      scratch_after = handed_back _ _ _ _ done c.new-w.ensures _ (search rules) c.requires;
     }

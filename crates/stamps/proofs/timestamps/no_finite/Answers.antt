@@ -1,20 +1,17 @@
 -- `stamps::timestamps::no_finite` meets its contract. Assumes nothing.
 
 use Rattle.std.specs.Char.{to_ascii_lowercase}
-use Rattle.std.specs.List.{slice_range}
-use Rattle.std.proofs.lemmas.Slice.{between_to_end}
 use Rattle.std.proofs.lemmas.Slice.Eq.{bytes_eq-Decides}
 use Rattle.std.proofs.lemmas.Bool.Decides.{nat_tests}
-use Prim.Native.Nat.{ℕ, ◌≤◌}
+use Prim.Native.Nat.{ℕ}
 use Prim.Native.String.{String}
 use mathlib.Core.Path.{◌≡◌, refl, sym, ◌∙◌}
 use mathlib.Core.Bool.{Bool, true, false}
 use mathlib.Core.List.{List, [], ◌∷◌, map}
 use native.Mathlib.Omega.{arith}
-use lib.ListN.{length, drop}
 use Rattle.text.specs.Base.{within}
 use Rattle.text.specs.Literal.{spells}
-use Rattle.text.proofs.Scan.{rest-none, never}
+use Rattle.text.proofs.Scan.{never}
 use Rattle.text.proofs.LiteralLaws.{codes, spells_as}
 use Rattle.text.proofs.StdLaws.{same_is}
 use Rattle.script.specs.Timestamps.{small, no_finite}
@@ -59,38 +56,30 @@ module _ (xs : List ℕ) (a : Bool) (p : a ≡ spells "inf" (map small xs)) wher
     unfolding no_finite
     by-third g r e = rw (← p, f, ← q, g) e
 
-pub returns-in_default : goal.returns-in_default
-unfolding no_finite spells
-returns-in_default c = let h = c.in_default.ensures.lookup in let l : length c.args.s.now ≤ c.args.at = omega arith in rw (rest-none c.args.s.now c.args.at l)
-
-module _ (s word : List ℕ) (at : ℕ) (e : word ≡ slice_range s at (length s)) where
-  rest : word ≡ drop at s
-  rest = e ∙ between_to_end s at (length s) (omega arith)
-
 pub returns-then-eq_ignore_ascii_case-2 : goal.returns-then-eq_ignore_ascii_case-2
 returns-then-eq_ignore_ascii_case-2 c =
     let first = c.eq_ignore_ascii_case in
-    let inf = told "inf" c.in-Some.word.now first.result refl first.ensures.test in
-    rw (← rest _ _ _ c.in-Some.ensures.lookup.0.2) (elim c.if-eq_ignore_ascii_case.branch [
+    let inf = told "inf" c.args.s.now first.result refl first.ensures.test in
+    elim c.if-eq_ignore_ascii_case.branch [
       | then-eq_ignore_ascii_case w ↦ w.value-is ∙ w.if-eq_ignore_ascii_case.true ∙ by-first _ _ inf w.if-eq_ignore_ascii_case.true
       | else-eq_ignore_ascii_case w ↦
           let second = w.eq_ignore_ascii_case-else-eq_ignore_ascii_case in
-          let infinity = told "infinity" c.in-Some.word.now second.result refl second.ensures.test in
+          let infinity = told "infinity" c.args.s.now second.result refl second.ensures.test in
           let yes = c.if-eq_ignore_ascii_case-2.true in
           yes ∙ by-second _ _ inf _ infinity w.if-eq_ignore_ascii_case.false (sym w.value-is ∙ yes)
-    ])
+    ]
 
 pub returns-else-eq_ignore_ascii_case-2 : goal.returns-else-eq_ignore_ascii_case-2
 returns-else-eq_ignore_ascii_case-2 c =
     let first = c.eq_ignore_ascii_case in
     let third = c.eq_ignore_ascii_case-else-eq_ignore_ascii_case-2 in
-    let inf = told "inf" c.in-Some.word.now first.result refl first.ensures.test in
-    let nan = told "nan" c.in-Some.word.now third.result refl third.ensures.test in
+    let inf = told "inf" c.args.s.now first.result refl first.ensures.test in
+    let nan = told "nan" c.args.s.now third.result refl third.ensures.test in
     let no = c.if-eq_ignore_ascii_case-2.false in
-    rw (← rest _ _ _ c.in-Some.ensures.lookup.0.2) (elim c.if-eq_ignore_ascii_case.branch [
+    elim c.if-eq_ignore_ascii_case.branch [
       | then-eq_ignore_ascii_case w ↦ never (sym w.if-eq_ignore_ascii_case.true ∙ sym w.value-is ∙ no)
       | else-eq_ignore_ascii_case w ↦
           let second = w.eq_ignore_ascii_case-else-eq_ignore_ascii_case in
-          let infinity = told "infinity" c.in-Some.word.now second.result refl second.ensures.test in
+          let infinity = told "infinity" c.args.s.now second.result refl second.ensures.test in
           by-third _ _ inf _ infinity w.if-eq_ignore_ascii_case.false (sym w.value-is ∙ no) _ nan
-    ])
+    ]

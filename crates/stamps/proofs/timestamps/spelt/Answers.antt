@@ -1,54 +1,53 @@
 -- `stamps::timestamps::spelt` meets its contract. The loop's invariant: the digits from here on, after those that spelled `number`, spell what all of them spell,
 -- and have room. Assumes nothing.
 use Prim.Native.Nat.{ℕ, ◌+◌, ◌-◌, ◌*◌, ◌^◌, ◌≤◌, ◌<◌}
-use mathlib.Core.Path.{◌≡◌, refl}
+use mathlib.Core.Path.{◌≡◌}
 use mathlib.Core.Bool.{true}
-use Rattle.std.specs.Char.{is_ascii_digit}
 use mathlib.Core.List.{List}
 use native.Mathlib.Omega.{arith}
-use lib.ListN.{length, get_or, drop}
 use native.Mathlib.Nat.{le_trans}
-use Rattle.values.specs.Numbers.{decimal_from}
-use Rattle.script.specs.Timestamps.{digit_run}
-use Rattle.stamps.proofs.TimeLaws.{Stopped, Room, run_over, run_none, run_more, room_more, room_fits}
-use borrow.Author.Rules.{rules}
+use lib.ListN.{length, get_or, drop}
+use Rattle.text.specs.Base.{within}
+use Rattle.text.proofs.Scan.{rest_more, rest-none, both, inside}
+use Rattle.values.specs.Numbers.{all_digits, decimal_from}
+use Rattle.stamps.proofs.TimeLaws.{Room, room_more, room_fits}
 use Rattle.stamps.proofs.timestamps.spelt.Goals as goal
 
-module _ (s : List ℕ) (i v whole : ℕ) (q : decimal_from v (digit_run (drop i s)).digits ≡ whole) where
-  ended : Stopped s i → v ≡ whole
-  unfolding decimal_from
-  ended e = rw e at q
+module _ (s : List ℕ) (i : ℕ) (h : i < length s) (e : all_digits (drop i s) ≡ true) where
+  tests : (within 0x30 0x39 (get_or s i 0) ≡ true) × (all_digits (drop (i + 1) s) ≡ true)
+  unfolding all_digits
+  tests = both (within 0x30 0x39 (get_or s i 0)) (all_digits (drop (i + 1) s)) (rw (rest_more s i h) at e)
 
-  on : i < length s → true ≡ is_ascii_digit (get_or s i 0) → (d : ℕ) → d ≡ get_or s i 0 - 0x30 → decimal_from (v * 10 + d) (digit_run (drop (i + 1) s)).digits ≡ whole
-  unfolding decimal_from
-  on h x d e = rw e (rw (run_more s i h x) at q)
+  bounds : (0x30 ≤ get_or s i 0) × (get_or s i 0 ≤ 0x39)
+  bounds = inside 0x30 0x39 (get_or s i 0) tests.0
 
-module _ (s : List ℕ) (i v : ℕ) (r : Room v (length (digit_run (drop i s)).digits)) (h : i < length s) (x : true ≡ is_ascii_digit (get_or s i 0)) (b : get_or s i 0 ≤ 0x39) where
-  room : (d : ℕ) → d ≡ get_or s i 0 - 0x30 → Room (v * 10 + d) (length (digit_run (drop (i + 1) s)).digits)
-  room d e = le_trans (room_more v (length (digit_run (drop (i + 1) s)).digits) d (omega arith)) (rw (run_more s i h x) at r)
+  module _ (v : ℕ) (r : Room v (length (drop i s))) where
+    room : Room (v * 10 + (get_or s i 0 - 0x30)) (length (drop (i + 1) s))
+    room = le_trans (room_more v (length (drop (i + 1) s)) (get_or s i 0 - 0x30) (omega (arith, bounds.1))) (rw (rest_more s i h) at r)
 
-  fits : (d : ℕ) → d ≡ get_or s i 0 - 0x30 → v * 10 + d < 2 ^ 64
-  fits d e = omega (arith, room_fits _ _ (room d e))
+    fits : v * 10 + (get_or s i 0 - 0x30) < 2 ^ 64
+    fits = omega (arith, room_fits _ _ room)
 
-  fits-tens : v * 10 < 2 ^ 64
-  fits-tens = omega (arith, fits _ refl)
-
-ruleset walk = (run_over, run_none, ended, on, room, fits, fits-tens)
-
-pub loop-i-init : goal.loop-i-init
-loop-i-init c = search (rules, walk)
-
-pub returns-then-not-is_ascii_digit : goal.returns-then-not-is_ascii_digit
-returns-then-not-is_ascii_digit c = let h = c.if-not-is_ascii_digit.ensures.value in search (rules, walk)
+pub overflow_sub-x : goal.overflow_sub-x
+overflow_sub-x c = (bounds _ _ c.loop-x-test.true c.loop-x.invariant.all).0
 
 pub overflow_mul-number : goal.overflow_mul-number
-overflow_mul-number c = let h = c.if-not-is_ascii_digit.ensures in search (rules, walk)
+overflow_mul-number c = omega (arith, fits _ _ c.loop-x-test.true c.loop-x.invariant.all _ c.loop-x.invariant.room)
 
 pub overflow_add-number : goal.overflow_add-number
-overflow_add-number c = let h = c.if-not-is_ascii_digit.ensures in search (rules, walk)
+overflow_add-number c = omega (arith, fits _ _ c.loop-x-test.true c.loop-x.invariant.all _ c.loop-x.invariant.room)
 
-pub loop-i-preserved : goal.loop-i-preserved
-loop-i-preserved c = let h = c.if-not-is_ascii_digit.ensures in search (rules, walk)
+pub loop-x-preserved : goal.loop-x-preserved
+unfolding decimal_from
+loop-x-preserved c =
+    let h = c.loop-x-test.true in
+    let d : c.from.result ≡ get_or c.args.digits.now c.loop-x.x-index 0 - 0x30 = omega arith in
+    rw d record {
+      all = (tests _ _ h c.loop-x.invariant.all).1;
+      room = room _ _ h c.loop-x.invariant.all _ c.loop-x.invariant.room;
+      walk = rw (rest_more _ _ h) at c.loop-x.invariant.walk;
+    }
 
 pub returns : goal.returns
-returns c = search (rules, walk)
+unfolding decimal_from
+returns c = rw (rest-none c.args.digits.now c.loop-x.x-index (omega arith)) at c.loop-x.invariant.walk

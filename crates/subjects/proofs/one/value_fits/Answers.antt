@@ -7,6 +7,6 @@ use Rattle.subjects.proofs.one.value_fits.Goals as goal
 
 pub returns : goal.returns
 returns c =
-    let s = c.args in
-    let l = c.looked_value in
-    c.is_some.ensures ∙ ap is_some c.value_room.ensures ∙ fits-left s.room _ _ (text-is s.bytes.now s.lists.now l.result _ (l.ensures s.bytes.now s.lists.now))
+    let h = c.args.s.held in
+    let l = c.looked_value-value in
+    c.is_some.ensures ∙ ap is_some c.value_room.ensures ∙ fits-left c.args.room _ _ (text-is h.bytes.now h.lists.now l.result _ (l.ensures h.bytes.now h.lists.now))

@@ -1,28 +1,16 @@
--- `text::skip::skip_others` meets its contract. The loop's invariant: the byte did not stand so far. Assumes nothing.
-use Rattle.text.proofs.SkipLaws.{skip_steps}
+-- `text::skip::skip_others` meets its contract: nearby by what was looked at, further off by what memchr says. Assumes nothing.
+use Rattle.std.proofs.lemmas.List.{take_rest}
+use Rattle.text.proofs.SkipLaws.{without_next, without_both, none_from, some_from}
 use borrow.Author.Rules.{rules}
 use Rattle.text.proofs.skip.skip_others.Goals as goal
 
-pub loop-i-init : goal.loop-i-init
-loop-i-init c = search (rules, skip_steps)
-
-pub overflow_add-i : goal.overflow_add-i
-overflow_add-i c = search (rules, skip_steps)
-
-pub not_in_eight-requires : goal.not_in_eight-requires
-not_in_eight-requires c = search (rules, skip_steps)
-
-pub overflow_add-i-then-not_in_eight : goal.overflow_add-i-then-not_in_eight
-overflow_add-i-then-not_in_eight c = search (rules, skip_steps)
-
-pub loop-i-smaller : goal.loop-i-smaller
-loop-i-smaller c = search (rules, skip_steps)
-
 pub loop-i-preserved : goal.loop-i-preserved
-loop-i-preserved c = search (rules, skip_steps)
+loop-i-preserved c = search (rules, without_next)
 
-pub returns-else-not_in_eight : goal.returns-else-not_in_eight
-returns-else-not_in_eight c = search (rules, skip_steps)
+pub returns-in-Some-clause-without : goal.returns-in-Some-clause-without
+returns-in-Some-clause-without c =
+    without_both _ _ _ _ _ (search rules) (some_from c.args.b c.args.s.now _ c.in-Some.i _ (take_rest c.args.s.now _) c.in-Some.ensures)
 
-pub returns : goal.returns
-returns c = search (rules, skip_steps)
+pub returns-in-None-clause-without : goal.returns-in-None-clause-without
+returns-in-None-clause-without c =
+    without_both _ _ _ _ _ (search rules) (none_from c.args.b c.args.s.now _ _ (take_rest c.args.s.now _) (search rules) c.in-None.ensures)

@@ -1,45 +1,39 @@
--- `values::number::digits_up_to` meets its contract. The loop's invariant: the digits from here, after those that spelled `v`, answer what the
--- digits from `at` answer. The measure is what is left of the text. Assumes nothing.
-use Rattle.std.specs.Prelude.{None, Option}
-use Prim.Native.Nat.{ℕ, ◌+◌, ◌-◌, ◌*◌, ◌/◌, ◌≤◌, ◌<◌}
-use mathlib.Core.Path.{◌≡◌}
-use mathlib.Core.List.{List}
+-- `values::number::digits_up_to` meets its contract. The loop's invariant: the digits from here, after those that spelled `v`, answer what all
+-- of them answer. Assumes nothing.
+use Prim.Native.Nat.{◌+◌, ◌-◌, ◌*◌}
+use mathlib.Core.Path.{◌≡◌, ◌∙◌}
 use native.Mathlib.Omega.{arith}
-use lib.ListN.{length, get_or}
-use borrow.Author.Rules.{rules}
-use Rattle.values.proofs.NumberLaws.{Here, no_digit, begun, done, low, high, a_digit, too_large}
+use lib.ListN.{get_or}
+use Rattle.values.proofs.NumberLaws.{no_digit, begun, done, other, a_digit, too_large}
 use Rattle.values.proofs.number.digits_up_to.Goals as goal
 
-module _ (s : List ℕ) (i max v : ℕ) (whole : Option ℕ) (e : Here s i (max + 1) v whole) (h : i < length s) (a : 0x30 ≤ get_or s i 0) (b : get_or s i 0 ≤ 0x39) where
-  -- the code's two tests for a number that does not fit
-  too_many : (tenth : ℕ) → tenth ≡ max / 10 → tenth < v → None ≡ whole
-  too_many tenth t l = too_large s i (max + 1) v whole e h a b (omega arith)
+pub returns-then-is_empty : goal.returns-then-is_empty
+returns-then-is_empty c = no_digit _ _ c.if-is_empty.ensures
 
-  too_much : max - v * 10 < get_or s i 0 - 0x30 → None ≡ whole
-  too_much l = too_large s i (max + 1) v whole e h a b (omega arith)
+pub loop-x-init : goal.loop-x-init
+loop-x-init c = record { below = omega arith; walk = begun _ _ c.if-is_empty.ensures }
 
-ruleset walk = (no_digit, begun, done, low, high, a_digit, too_many, too_much)
+pub returns-then-not-is_ascii_digit : goal.returns-then-not-is_ascii_digit
+returns-then-not-is_ascii_digit c = other _ _ _ _ _ c.loop-x.invariant.walk c.loop-x-test.true c.if-not-is_ascii_digit.ensures.value
 
-pub returns-then-s-at : goal.returns-then-s-at
-returns-then-s-at c = search (rules, walk)
+pub returns-in_err-checked_mul : goal.returns-in_err-checked_mul
+returns-in_err-checked_mul c =
+    c.from_residual.ensures ∙ too_large _ _ _ _ _ c.loop-x.invariant.walk c.loop-x-test.true c.if-not-is_ascii_digit.ensures.value (omega (arith, c.in_err-checked_mul.ensures))
 
-pub loop-i-init : goal.loop-i-init
-loop-i-init c = search (rules, walk)
+pub returns-in_err-v : goal.returns-in_err-v
+returns-in_err-v c =
+    c.from_residual-in_err-v.ensures ∙ too_large _ _ _ _ _ c.loop-x.invariant.walk c.loop-x-test.true c.if-not-is_ascii_digit.ensures.value (omega (arith, c.in_err-v.ensures))
 
-pub returns-then-x-lt48 : goal.returns-then-x-lt48
-returns-then-x-lt48 c = search (rules, walk)
+pub returns-then-max-v : goal.returns-then-max-v
+returns-then-max-v c = too_large _ _ _ _ _ c.loop-x.invariant.walk c.loop-x-test.true c.if-not-is_ascii_digit.ensures.value (omega arith)
 
-pub returns-then-x-gt57 : goal.returns-then-x-gt57
-returns-then-x-gt57 c = search (rules, walk)
-
-pub returns-then-tenth-v : goal.returns-then-tenth-v
-returns-then-tenth-v c = search (rules, walk)
-
-pub returns-then-max-tens : goal.returns-then-max-tens
-returns-then-max-tens c = search (rules, walk)
-
-pub loop-i-preserved : goal.loop-i-preserved
-loop-i-preserved c = search (rules, walk)
+pub loop-x-preserved : goal.loop-x-preserved
+loop-x-preserved c =
+    let v : c.in_ok-v.v ≡ c.loop-x.v * 10 + (get_or c.args.s.now c.loop-x.x-index 0 - 0x30) = omega arith in
+    record {
+      below = omega arith;
+      walk = rw v (a_digit _ _ _ _ _ c.loop-x.invariant.walk c.loop-x-test.true c.if-not-is_ascii_digit.ensures.value);
+    }
 
 pub returns : goal.returns
-returns c = search (rules, walk)
+returns c = done c.args.s.now c.loop-x.x-index _ _ _ c.loop-x.invariant.walk (omega arith) c.loop-x.invariant.below

@@ -2,23 +2,22 @@
 use mathlib.Core.Path.{◌≡◌, refl}
 use mathlib.Core.Bool.{Bool, true}
 use mathlib.Core.List.{List}
-use Prim.Native.Nat.{ℕ}
 use lib.Dec.{eqb}
 use lib.ListN.{get_or}
-use borrow.Author.Tests.{eqb-true}
+use Rattle.std.specs.Prelude.{None, Option}
 use Rattle.text.proofs.LiteralLaws.{codes}
 use Rattle.wire.specs.Operations.{operation, operations}
 use Rattle.wire.specs.OperationTables.{name_sum, Hints}
 use Rattle.wire.specs.declared.ops.Op.{Op}
-use Rattle.wire.proofs.OperationLaws.{every, each}
+use Rattle.wire.proofs.OperationLaws.{every, each, code_of, found}
 use Rattle.wire.proofs.ops.hints.Goals as goal
 
-hinted : List ℕ → Op → Bool
-hinted table o = eqb (get_or table (name_sum (codes (operation o).name)) 0) (operation o).code
+hinted : List (Option Op) → Op → Bool
+hinted table o = eqb (code_of (get_or table (name_sum (codes (operation o).name)) None)) (operation o).code
 
-right : (table : List ℕ) → every (hinted table) operations ≡ true → Hints table
+right : (table : List (Option Op)) → every (hinted table) operations ≡ true → Hints table
 unfolding hinted
-right table t = record { rule = λ o. eqb-true _ _ (each (hinted table) t o) }
+right table t = record { rule = λ o. found _ o (each (hinted table) t o) }
 
 pub returns : goal.returns
 unfolding operation hinted

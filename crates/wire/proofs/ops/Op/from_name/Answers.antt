@@ -1,6 +1,6 @@
 -- `wire::ops::Op::from_name` meets its contract: an operation whose name is confirmed is the one, and where the only one that can be has another name,
 -- there is none. Assumes nothing.
-use Rattle.std.specs.Prelude.{None, Some}
+use Rattle.std.specs.Prelude.{None, Option, Some}
 use Rattle.std.specs.Bool.{then_some}
 use Prim.Native.Nat.{ℕ}
 use mathlib.Core.Path.{◌≡◌, refl, sym, ap, ◌∙◌}
@@ -16,14 +16,16 @@ use Rattle.wire.proofs.ops.Op.from_name.Goals as goal
 confirmed : (s : List ℕ) (o : Op) → spells (operation o).name s ≡ true → Some o ≡ named s
 confirmed s o b = sym (ap named (spelled (operation o).name s b) ∙ named-name o)
 
-module _ (s : List ℕ) (hint : ℕ) (op : Op) (leads : (o : Op) → named s ≡ Some o → hint ≡ (operation o).code)
-    (only : (o : Op) → hint ≡ (operation o).code → o ≡ op) where
+module _ (s : List ℕ) (hint : Option Op) (op : Op) (leads : (o : Op) → named s ≡ Some o → hint ≡ Some o) (e : hint ≡ Some op) where
+  only : (o : Op) → named s ≡ Some o → o ≡ op
+  only o n = let h = leads o n in cc
+
   other_name : spells (operation op).name s ≡ false → None ≡ named s
-  other_name b = none_found (named s) op (λ o n. only o (leads o n)) (λ n. never (sym (named_spelled s op n) ∙ b))
+  other_name b = none_found (named s) op only (λ n. never (sym (named_spelled s op n) ∙ b))
 
   told : (b : Bool) → spells (operation op).name s ≡ b → then_some b op ≡ named s
   told true t = confirmed s op t
   told false t = other_name t
 
 pub returns : goal.returns
-returns c = c.then_some.ensures ∙ ap (λ b. then_some b c.coded_op-op.result) c.is_named.ensures ∙ told _ _ _ c.code_hint.ensures c.coded_op-op.ensures _ refl
+returns c = c.then_some.ensures ∙ ap (λ b. then_some b c.in_ok-op.op) c.is_named.ensures ∙ told _ _ _ c.hint.ensures c.in_ok-op.was _ refl

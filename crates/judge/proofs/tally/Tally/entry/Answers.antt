@@ -1,6 +1,0 @@
--- `judge::tally::Tally::entry` meets its contract. Assumes nothing.
-use Rattle.told.proofs.ToldLaws.{few}
-use Rattle.judge.proofs.tally.Tally.entry.Goals as goal
-
-pub judge_on-step-requires-clause-lists_len_bound : goal.judge_on-step-requires-clause-lists_len_bound
-judge_on-step-requires-clause-lists_len_bound c = few _ _ c.counted_of-table.ensures

@@ -1,8 +1,0 @@
--- `pieces::pieces::ends_in` meets its contract. Assumes nothing.
-use Rattle.script.specs.Pieces.{bytes}
-use borrow.Author.Rules.{rules}
-use Rattle.pieces.proofs.pieces.ends_in.Goals as goal
-
-pub returns : goal.returns
-unfolding bytes
-returns c = search rules
