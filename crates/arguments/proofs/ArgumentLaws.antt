@@ -188,14 +188,14 @@ module _ (text : List ℕ) where
   pub takes_told : (takes told : Takes) (list_open : Bool) (t : Span) (s : Saying) → takes ≡ told → s ≡ saying_in text told list_open t → s ≡ saying_in text takes list_open t
   takes_told takes told list_open t s h q = rw (h, q)
 
-pub ruleset raw-words = (raw_found, raw-missing)
+pub ruleset raw_words = (raw_found, raw-missing)
 
-pub ruleset keyed-words = (keyed_known, keyed_unknown)
+pub ruleset keyed_words = (keyed_known, keyed_unknown)
 
 pub ruleset colon_words = (colon_found, colon_missing)
 
 pub ruleset quote_words = (no_quote, in_quotes)
 
-pub ruleset pair-words = (no_name, no_equals, no_value, pair_found)
+pub ruleset pair_words = (no_name, no_equals, no_value, pair_found)
 
-pub ruleset list-words = (not_open, by_quote)
+pub ruleset list_words = (not_open, by_quote)

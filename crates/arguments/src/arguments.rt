@@ -9,6 +9,7 @@ use pieces::pieces::Piece;
 use script::roles::{Key, Saying, Takes};
 
 // What stands in quotes at the front of the piece, and what follows the second quote.
+#[tactic(auto, using(crate::proofs::ArgumentLaws::quote_words))]
 fn quoted<'a>(t: Piece<'a>) -> Option<(Piece<'a>, Piece<'a>)>
     ensures value { option_map (λ c. cut_into c.0.at c.1.at) result ≡ quoted t.entry.text.now t.entry.at }
     ensures text { IfSome result (λ c. (c.0.text ≡ t.entry.text) × (c.1.text ≡ t.entry.text)) }
@@ -20,6 +21,7 @@ fn quoted<'a>(t: Piece<'a>) -> Option<(Piece<'a>, Piece<'a>)>
 }
 
 // "name" = "value", or no pair.
+#[tactic(auto, using(crate::proofs::ArgumentLaws::pair_words))]
 fn pair_in(t: Piece<'_>) -> Saying
     ensures value { result ≡ pair_saying (pair_in t.entry.text.now t.entry.at) }
     ensures saying_in { SayingIn t.entry.text.now result }
@@ -38,6 +40,7 @@ fn pair_in(t: Piece<'_>) -> Saying
 }
 
 // What a line of the keys of an operation says that is cut at its colon.
+#[tactic(auto, using(crate::proofs::ArgumentLaws::keyed_words))]
 fn keyed<'a>(takes: Takes, key: Piece<'a>, value: Piece<'a>) -> Saying
     requires { key.text ≡ value.text }
     ensures value { result ≡ keyed key.entry.text.now (keys_of takes) (cut_into key.entry.at value.entry.at) }
@@ -52,6 +55,7 @@ fn keyed<'a>(takes: Takes, key: Piece<'a>, value: Piece<'a>) -> Saying
 }
 
 // What a line of the keys of an operation says.
+#[tactic(auto, using(crate::proofs::ArgumentLaws::colon_words))]
 fn key_saying(takes: Takes, t: Piece<'_>) -> Saying
     ensures value { result ≡ key_saying t.entry.text.now (keys_of takes) t.entry.at }
     ensures saying_in { SayingIn t.entry.text.now result }
@@ -62,6 +66,7 @@ fn key_saying(takes: Takes, t: Piece<'_>) -> Saying
     }
 }
 
+#[tactic(auto, using(crate::proofs::ArgumentLaws::raw_words))]
 fn raw_saying(t: Piece<'_>) -> Saying
     ensures value { result ≡ raw_saying t.entry.text.now t.entry.at }
     ensures saying_in { SayingIn t.entry.text.now result }
@@ -73,6 +78,7 @@ fn raw_saying(t: Piece<'_>) -> Saying
 }
 
 // Whether the line stands in an open override list as a pair, or where a pair is due: it begins with `"`.
+#[tactic(auto, using(crate::proofs::ArgumentLaws::list_words))]
 fn is_listed(takes: Takes, list_open: bool, t: Piece<'_>) -> bool
     ensures { result ≡ listed t.entry.text.now takes list_open t.entry.at }
 {
@@ -86,6 +92,7 @@ fn is_listed(takes: Takes, list_open: bool, t: Piece<'_>) -> bool
 }
 
 // What an argument line says. The keys of all operations are asked for in one place, so that the code for them stands in its caller.
+#[tactic(auto, using(crate::proofs::ArgumentLaws::in_list, crate::proofs::ArgumentLaws::beside_list, crate::proofs::ArgumentLaws::takes_told), unfolding(script::specs::Roles::saying_in))]
 pub fn saying_in(takes: Takes, list_open: bool, t: Piece<'_>) -> Saying
     ensures value { result ≡ saying_in t.entry.text.now takes list_open t.entry.at }
     ensures saying_in { SayingIn t.entry.text.now result }

@@ -104,6 +104,7 @@ const HINTS: [u8; 36] = [
 ];
 
 // The tables, each tested here, once for all who use it.
+#[tactic(auto, unfolding(script::specs::Operations::key_row, crate::specs::KeyTables::letters))]
 fn names() -> [u8; 257]
     ensures { result ≡ letters argument_keys }
 {
@@ -166,6 +167,7 @@ fn is_named(p: Piece<'_>, place: usize) -> bool
     p.is_word(&names[start..end])
 }
 
+#[tactic(auto, unfolding(crate::specs::KeyTables::key_at))]
 fn key_at(place: usize) -> Key
     requires { place < 26 }
     ensures { result ≡ key_at place }

@@ -1,1 +1,2 @@
+pub mod LeftLaws
 pub mod LinesLaws

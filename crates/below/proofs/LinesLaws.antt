@@ -2,10 +2,10 @@
 use Rattle.std.specs.Prelude.{Option}
 use Prim.Native.Nat.{ℕ, ◌+◌, ◌≤◌, ◌<◌}
 use mathlib.Core.Path.{◌≡◌, refl, sym, ap, ◌∙◌}
+use mathlib.Core.Logic.{◌⊎◌, inl, inr}
 use mathlib.Core.Bool.{Bool, true, false}
 use mathlib.Core.List.{List, [], ◌∷◌, ◌++◌, map, map-append}
-use native.Mathlib.Omega.{arith}
-use lib.ListN.{length, set, length-append}
+use lib.ListN.{length}
 use Rattle.text.specs.declared.parts.Span.{Span}
 use Rattle.text.specs.Lines.{line_at}
 use Rattle.text.proofs.LineLaws.{known, lines_none}
@@ -28,9 +28,10 @@ use Rattle.script.specs.declared.roles.Role.TheVariants.{Nothing, Says, Expects,
 use Rattle.script.proofs.RolesInside.{role_in}
 use Rattle.said.specs.Said.{said_of}
 use Rattle.said.specs.declared.said.Heard.{Heard}
-use Rattle.written.specs.Written.{written_at}
+use Rattle.written.specs.declared.Writer.{Writer}
+use Rattle.written.specs.Writing.{Room, wrote}
 use Rattle.tables.specs.Items.{item_of, items_for}
-use Rattle.written.proofs.WrittenLaws.{Filling, filling_begun, filling_length, filled, filling_room, filling_on, filling_place, filling_more, written_one}
+use Rattle.below.proofs.LeftLaws.{Left, left_begun, left_over, left_room, left_on}
 use Rattle.below.specs.Below.{roles_at, ahead, pairs_items}
 use Rattle.says.specs.Says.{pair_items, Forward}
 
@@ -45,10 +46,15 @@ forward_in text (Unknown a b) i = tt
 forward_in text NoPair i = tt
 forward_in text NoRaw i = tt
 
--- a place of the text that is later than another
-pub record Later (text : List ℕ) (at n : ℕ) : Type 0 where
+-- what the line at hand is, and where the next one begins
+pub record Line (text : List ℕ) (w : Where) (at number : ℕ) (s : Step) (n : ℕ) : Type 0 where
+  -- the line at hand, and those below it
+  pub more : roles_at text w at number ≡ marked number s.role ∷ roles_at text s.next n (number + 1)
+  -- the next line begins further on in the text
   pub later : at < n
   pub within : n ≤ length text
+  pub forward : (x : Saying) → s.role ≡ Says x → Forward x
+  pub args : (p : Opening) → s.role ≡ Opens p → In text p.args
 
 module _ (text : List ℕ) (w : Where) (at number : ℕ) where
   -- at the end of the text there is no line
@@ -57,30 +63,18 @@ module _ (text : List ℕ) (w : Where) (at number : ℕ) where
   roles-none h = rw (lines_none text at number h)
 
   -- s is what the line is, and n where the next one begins
-  module _ (h : at < length text) (s : Step) (n : ℕ) (f : s ≡ step_of plain_rules text w (line_at text at number)) (g : n ≡ (line_at text at number).next) where
-    -- the line at hand, and those below it
-    pub roles_more : roles_at text w at number ≡ marked number s.role ∷ roles_at text s.next n (number + 1)
-    unfolding roles_at roles_from
-    roles_more =
-        let k = known text at number (line_at text at number) h refl in
-        rw (k.more, ← f, g) (ap (λ (m : ℕ). marked m s.role ∷ roles_at text s.next (line_at text at number).next (number + 1)) k.called)
-
-    -- the next line begins further on in the text
-    pub line_later : Later text at n
-    line_later = let k = known text at number (line_at text at number) h refl in rw g (record { later = k.later; within = k.within })
-
-    line-role : RoleIn text s.role
-    line-role =
-        let k = known text at number (line_at text at number) h refl in
-        rw f (role_in text plain_rules w (line_at text at number) (record { forward = k.forward; inside = k.inside }))
-
-    pub line-forward : (x : Saying) → s.role ≡ Says x → Forward x
-    unfolding RoleIn
-    line-forward x r = forward_in text x (rw r at line-role)
-
-    pub line_args : (p : Opening) → s.role ≡ Opens p → In text p.args
-    unfolding RoleIn
-    line_args p r = rw r at line-role
+  pub line_known : at < length text → (s : Step) (n : ℕ) → s ≡ step_of plain_rules text w (line_at text at number) → n ≡ (line_at text at number).next → Line text w at number s n
+  unfolding roles_at roles_from RoleIn
+  line_known h s n f g =
+      let k = known text at number (line_at text at number) h refl in
+      let role : RoleIn text s.role = rw f (role_in text plain_rules w (line_at text at number) (record { forward = k.forward; inside = k.inside })) in
+      record {
+        more = rw (k.more, ← f, g) (ap (λ (m : ℕ). marked m s.role ∷ roles_at text s.next (line_at text at number).next (number + 1)) k.called);
+        later = rw g k.later;
+        within = rw g k.within;
+        forward = λ x r. forward_in text x (rw r at role);
+        args = λ p r. rw r at role;
+      }
 
 -- what a line that says s adds to the pairs
 pub pairs_more : (options : Bool) (s : Saying) (ss : List Saying) → pairs_items options (s ∷ ss) ≡ pair_items options s ++ pairs_items options ss
@@ -90,46 +84,37 @@ pairs_more true s ss = ap (map item_of) (map-append place (pair_of s) (pairs ss)
 
 -- ---- the loop
 
--- What holds at a line: what the tables and the values hold so far. `all` are the lines from the first on, `left` those that are still to come.
-pub record Led (options : Bool) (i x : ℕ) (heard₀ : Heard) (items₀ : List (List ℕ)) (expectations₀ : List Expectation) (all : List Marked) (heard : Heard)
-    (items : List (List ℕ)) (expects : List Expectation) (pairs count : ℕ) (left : List Marked) : Type 0 where
-  pub items_so_far : Filling i (pairs_items options (sayings (lead all))) items₀ items pairs (pairs_items options (sayings (lead left)))
-  pub expects_so_far : Filling x (expectations (lead all)) expectations₀ expects count (expectations (lead left))
+-- What holds at a line. `all` are the lines from the first on, `left` those that are still to come: what is left to write and to say of them is what all of
+-- them leave.
+pub record Led (options : Bool) (heard₀ : Heard) (items₀ : Writer (List ℕ)) (expects₀ : Writer Expectation) (all : List Marked) (heard : Heard)
+    (items : Writer (List ℕ)) (expects : Writer Expectation) (left : List Marked) : Type 0 where
+  pub pairs_left : Left (pairs_items options (sayings (lead all))) items₀ (pairs_items options (sayings (lead left))) items
+  pub expects_left : Left (expectations (lead all)) expects₀ (expectations (lead left)) expects
   pub values : (k : Key) → last_of k (said_of heard k) (sayings (lead left)) ≡ last_of k (said_of heard₀ k) (sayings (lead all))
   pub onward : ahead left ≡ ahead all
 
-module _ (options : Bool) (i x : ℕ) (heard₀ : Heard) (items₀ : List (List ℕ)) (expectations₀ : List Expectation) (all : List Marked) where
-  pub led_first : i + length (pairs_items options (sayings (lead all))) ≤ length items₀ → x + length (expectations (lead all)) ≤ length expectations₀
-      → Led options i x heard₀ items₀ expectations₀ all heard₀ items₀ expectations₀ 0 0 all
-  led_first a b = record {
-    items_so_far = filling_begun i _ items₀ _ refl a;
-    expects_so_far = filling_begun x _ expectations₀ _ refl b;
-    values = λ k. refl;
-    onward = refl;
-  }
+module _ {options : Bool} {heard₀ : Heard} {items₀ : Writer (List ℕ)} {expects₀ : Writer Expectation} {all : List Marked} where
+  pub led_first : Room (length (pairs_items options (sayings (lead all)))) items₀ → Room (length (expectations (lead all))) expects₀ → Led options heard₀ items₀ expects₀ all heard₀ items₀ expects₀ all
+  led_first a b = record { pairs_left = left_begun _ items₀ a; expects_left = left_begun _ expects₀ b; values = λ k. refl; onward = refl }
 
-  module _ (heard : Heard) (items : List (List ℕ)) (expects : List Expectation) (pairs count : ℕ) (left : List Marked)
-      (led : Led options i x heard₀ items₀ expectations₀ all heard items expects pairs count left) where
-    abbrev Turn : (heard : Heard) (items : List (List ℕ)) (expects : List Expectation) (pairs count : ℕ) (left : List Marked) → Type 0
-    Turn = Led options i x heard₀ items₀ expectations₀ all
+  module _ {heard : Heard} {items : Writer (List ℕ)} {expects : Writer Expectation} {left : List Marked} (led : Led options heard₀ items₀ expects₀ all heard items expects left) where
+    abbrev Next : (heard : Heard) (items : Writer (List ℕ)) (expects : Writer Expectation) (left : List Marked) → Type 0
+    Next = Led options heard₀ items₀ expects₀ all
 
-    module _ (n : ℕ) (r : Role) (later : List Marked) (e : left ≡ marked n r ∷ later) where
-      -- a line that says nothing, or is refused
-      silent : sayings (lead left) ≡ sayings (lead later) → expectations (lead left) ≡ expectations (lead later) → ahead left ≡ ahead later → Turn heard items expects pairs count later
+    module _ {n : ℕ} {r : Role} {later : List Marked} (e : left ≡ marked n r ∷ later) where
+      silent : sayings (lead left) ≡ sayings (lead later) → expectations (lead left) ≡ expectations (lead later) → ahead left ≡ ahead later → Next heard items expects later
       silent a b o = record {
-        items_so_far = rw a at led.items_so_far;
-        expects_so_far = rw b at led.expects_so_far;
+        pairs_left = rw a at led.pairs_left;
+        expects_left = rw b at led.expects_left;
         values = rw a at led.values;
         onward = sym o ∙ led.onward;
       }
 
-      pub led_nothing : r ≡ Nothing → Turn heard items expects pairs count later
+      -- a line that says nothing, or is refused
+      pub led_silent : (r ≡ Nothing) ⊎ ((k : Reason) × r ≡ Bad k) → Next heard items expects later
       unfolding lead is_opening sayings saying_of expectations expectation_of ahead
-      led_nothing q = silent (rw (e, q)) (rw (e, q)) (rw (e, q))
-
-      pub led_bad : (k : Reason) → r ≡ Bad k → Turn heard items expects pairs count later
-      unfolding lead is_opening sayings saying_of expectations expectation_of ahead
-      led_bad k q = silent (rw (e, q)) (rw (e, q)) (rw (e, q))
+      led_silent (inl q) = silent (rw (e, q)) (rw (e, q)) (rw (e, q))
+      led_silent (inr q) = silent (rw (e, q.1)) (rw (e, q.1)) (rw (e, q.1))
 
       -- a line that says something
       module _ (s : Saying) (q : r ≡ Says s) where
@@ -137,65 +122,41 @@ module _ (options : Bool) (i x : ℕ) (heard₀ : Heard) (items₀ : List (List 
         unfolding lead is_opening sayings saying_of
         says_more = rw (e, q)
 
-        pairs-left : pairs_items options (sayings (lead left)) ≡ pair_items options s ++ pairs_items options (sayings (lead later))
-        pairs-left = ap (pairs_items options) says_more ∙ pairs_more options s (sayings (lead later))
+        pairs_more_left : pairs_items options (sayings (lead left)) ≡ pair_items options s ++ pairs_items options (sayings (lead later))
+        pairs_more_left = ap (pairs_items options) says_more ∙ pairs_more options s (sayings (lead later))
 
-        pub says-room : i + pairs + length (pair_items options s) ≤ length items
-        says-room = filling_room i _ items₀ items pairs _ led.items_so_far (pair_items options s) _ pairs-left
+        pub says_room : Room (length (pair_items options s)) items
+        says_room = left_room led.pairs_left (pair_items options s) _ pairs_more_left
 
-        pub says-fits : (m : ℕ) → i + length (pairs_items options (sayings (lead all))) ≤ m → i + (pairs + length (pair_items options s)) ≤ m
-        says-fits m h = omega (arith, led.items_so_far.count, ap length pairs-left ∙ length-append (pair_items options s) (pairs_items options (sayings (lead later))))
-
-        pub led_says : (heard' : Heard) (items' : List (List ℕ)) → items' ≡ written_at (i + pairs) (pair_items options s) items
-            → ((k : Key) → said_of heard' k ≡ value_or k s (said_of heard k))
-            → Turn heard' items' expects (pairs + length (pair_items options s)) count later
+        pub led_says : (heard' : Heard) (items' : Writer (List ℕ)) → items' ≡ wrote (pair_items options s) items → ((k : Key) → said_of heard' k ≡ value_or k s (said_of heard k)) → Next heard' items' expects later
         unfolding lead is_opening expectations expectation_of ahead last_of
         led_says heard' items' a d = record {
-          items_so_far = filling_on i _ items₀ items pairs _ led.items_so_far (pair_items options s) _ pairs-left items' a;
-          expects_so_far = rw (e, q) at led.expects_so_far;
+          pairs_left = left_on led.pairs_left (pair_items options s) _ pairs_more_left items' a;
+          expects_left = rw (e, q) at led.expects_left;
           values = λ k. ap (λ (v : Option Span). last_of k v (sayings (lead later))) (d k) ∙ ap (last_of k (said_of heard k)) (sym says_more) ∙ led.values k;
           onward = (rw (e, q) at led.onward);
         }
 
       -- an expectation
       module _ (p : Expect) (q : r ≡ Expects p) where
-        abbrev expectation : Expectation
-        expectation = record { line = n; expect = p }
+        abbrev here : List Expectation
+        here = record { line = n; expect = p } ∷ []
 
-        expects-left : expectations (lead left) ≡ expectation ∷ expectations (lead later)
+        expects_more_left : expectations (lead left) ≡ here ++ expectations (lead later)
         unfolding lead is_opening expectations expectation_of
-        expects-left = rw (e, q)
+        expects_more_left = rw (e, q)
 
-        pub expects-room : x + count < length expects
-        expects-room = filling_place x _ expectations₀ expects count _ led.expects_so_far expectation _ expects-left
+        pub expects_room : Room 1 expects
+        expects_room = left_room led.expects_left here _ expects_more_left
 
-        pub expects-fits : (m : ℕ) → x + length (expectations (lead all)) ≤ m → x + count < m
-        expects-fits m h = omega (arith, led.expects_so_far.count, ap length expects-left)
-
-        pub led_expects : (expects' : List Expectation) → expects' ≡ set expects (x + count) expectation → Turn heard items expects' pairs (count + 1) later
+        pub led_expects : (expects' : Writer Expectation) → expects' ≡ wrote here expects → Next heard items expects' later
         unfolding lead is_opening sayings saying_of ahead
         led_expects expects' a = record {
-          items_so_far = rw (e, q) at led.items_so_far;
-          expects_so_far = filling_more x _ expectations₀ expects count _ led.expects_so_far expectation _ expects-left expects' (a ∙ sym (written_one (x + count) expectation expects expects-room));
+          pairs_left = rw (e, q) at led.pairs_left;
+          expects_left = left_on led.expects_left here _ expects_more_left expects' a;
           values = rw (e, q) at led.values;
           onward = rw (e, q) at led.onward;
         }
-
-    -- the same under other names
-    pub led_same : (heard' : Heard) (items' : List (List ℕ)) (expects' : List Expectation) (pairs' count' : ℕ)
-        → heard' ≡ heard → items' ≡ items → expects' ≡ expects → pairs' ≡ pairs → count' ≡ count → Turn heard' items' expects' pairs' count' left
-    led_same heard' items' expects' pairs' count' a c d f g = rw (a, c, d, f, g) led
-
-    -- and with the place of the next line under another name
-    pub led_at : (text : List ℕ) (w w' : Where) (at number : ℕ) → left ≡ roles_at text w at number → w' ≡ w → Turn heard items expects pairs count (roles_at text w' at number)
-    led_at text w w' at number e f = rw (f, ← e) led
-
-    -- the tables keep their lengths
-    pub led_items : length items ≡ length items₀
-    led_items = filling_length i _ items₀ items pairs _ led.items_so_far
-
-    pub led_expectations : length expects ≡ length expectations₀
-    led_expectations = filling_length x _ expectations₀ expects count _ led.expects_so_far
 
     -- no line is left before the next opening line
     module _ (o : lead left ≡ []) where
@@ -211,17 +172,11 @@ module _ (options : Bool) (i x : ℕ) (heard₀ : Heard) (items₀ : List (List 
       unfolding expectations
       no_expects = rw o
 
-      pub done_pairs : pairs ≡ length (pairs_items options (sayings (lead all)))
-      done_pairs = (filled i _ items₀ items pairs _ led.items_so_far no_pairs).0
+      pub done_items : items ≡ wrote (pairs_items options (sayings (lead all))) items₀
+      done_items = left_over led.pairs_left no_pairs
 
-      pub done_items : items ≡ written_at i (pairs_items options (sayings (lead all))) items₀
-      done_items = (filled i _ items₀ items pairs _ led.items_so_far no_pairs).1
-
-      pub done_count : count ≡ length (expectations (lead all))
-      done_count = (filled x _ expectations₀ expects count _ led.expects_so_far no_expects).0
-
-      pub done_expects : expects ≡ written_at x (expectations (lead all)) expectations₀
-      done_expects = (filled x _ expectations₀ expects count _ led.expects_so_far no_expects).1
+      pub done_expects : expects ≡ wrote (expectations (lead all)) expects₀
+      done_expects = left_over led.expects_left no_expects
 
       pub done_values : (k : Key) → said_of heard k ≡ last_of k (said_of heard₀ k) (sayings (lead all))
       unfolding sayings last_of
@@ -247,5 +202,3 @@ module _ (left : List Marked) (e : left ≡ []) where
   pub over_ahead : ahead left ≡ []
   unfolding ahead
   over_ahead = rw e
-
-pub ruleset turn_laws = (roles_more, line-forward, says-room, expects-room, led_items, led_expectations)

@@ -1,11 +1,12 @@
 // Words copied many bytes at a time. Bytes go through an array of their own: for all the compiler knows, what is written may be read next, and it would test
 // that at each word. `copy_from_slice` takes longer on words of 3 to 60 bytes (measured: 1.1 to 1.6 times as long).
+// All three ask and promise what `copy_from_slice` does; a struct of the two slices would be made for each call only to say it.
 #![tactic(auto)]
 
 ghost use Rattle.std.specs.Prelude.{◌≡◌, ◌+◌, ◌*◌, ◌≤◌, length};
 ghost use Rattle.text.specs.Base.{part};
 
-// The N bytes from i on.
+// The N bytes from i on. By the place, which its callers count: a slice from there would be cut again for its N bytes.
 fn block_at<const N: usize>(s: &[u8], i: usize) -> [u8; N]
     requires { i + N ≤ length s.now }
     ensures { result ≡ part s.now i N }

@@ -7,6 +7,7 @@ ghost use Rattle.call_ops.specs.CallOps.{op_of};
 use script::records::OpCall;
 use wire::ops::Op;
 
+#[tactic(auto, unfolding(crate::specs::CallOps::op_of))]
 pub fn op_of(call: OpCall) -> Op
     ensures { result ≡ op_of call }
 {

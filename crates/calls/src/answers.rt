@@ -19,6 +19,7 @@ fn outcome_code(o: Outcome) -> u64
     }
 }
 
+// No `From`, as for `outcome_code`.
 #[tactic(auto, unfolding(crate::specs::CallRows::answer_code))]
 pub fn answer_code(a: Result<Answer, Refusal>) -> u64
     ensures { result ≡ answer_code a }

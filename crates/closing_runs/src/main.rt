@@ -5,6 +5,7 @@
 use ran::RunError;
 use std::io;
 use std::io::Read;
+use texts::Held;
 
 // An answer by its number (calls/specs/CallRows.antt): a run answers its calls in numbers, as a host is given them (the C interface).
 fn print_answer(rt: &impl Print, code: u64) -> io::Result<()> {
@@ -30,11 +31,14 @@ fn run_text(rt: &impl Print, text: &[u8]) -> io::Result<()> {
     let mut verdicts = [0u8; 1024];
     let mut scratch = [0u8; 64];
     let mut answers = [0u64; 2];
+    let held = Held {
+        bytes: b"",
+        lists: &lists,
+    };
     let ran = run_alone::run_alone(
         text,
         &calls,
-        b"",
-        &lists,
+        held,
         &mut verdicts,
         &mut scratch,
         &mut answers,

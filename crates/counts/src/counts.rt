@@ -11,6 +11,7 @@ use tables::walks::{FilledItems, Words};
 use wire::ops::Op;
 
 // How many parts stand between the commas: one more than there are commas.
+#[tactic(auto, using(crate::proofs::CountLaws::parts_are), unfolding(text::specs::Parts::split))]
 fn part_count(s: &[u8]) -> usize
     ensures { result ≡ length (split COMMA s.now) }
 {

@@ -1,2 +1,3 @@
 pub mod SignedLaws
 pub mod PutLaws
+pub mod CountLaws

@@ -6,12 +6,13 @@ ghost use Rattle.writing.specs.Room.{number_room};
 
 use written::Writer;
 
-// How many digits a number has. The library has no `ilog10`.
+// How many digits a number has.
+#[tactic(auto, using(crate::proofs::CountLaws::digits_counted, crate::proofs::CountLaws::digits_most))]
 pub fn decimal_len(n: u64) -> usize
     ensures value { result ≡ length (decimal n) }
     ensures upper_bound { result ≤ number_room }
 {
-    if 10 <= n { decimal_len(n / 10) + 1 } else { 1 }
+    n.checked_ilog10().unwrap_or(0) as usize + 1
 }
 
 // Writes a number. Crate `itoa` takes twice as long on one digit, as most numbers here have (measured; on nineteen it takes a quarter).

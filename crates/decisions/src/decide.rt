@@ -8,12 +8,14 @@ use orders::Order;
 use script::records::Matcher;
 use verdicts::Verdict;
 
+#[tactic(auto, unfolding(verdicts::specs::Decisions::decides))]
 pub fn exact(text: &[u8], value: &[u8]) -> Verdict
     ensures { result ≡ decides (expected.exact text.now) value.now }
 {
     orders::passed_if(text::parts::same(value, text))
 }
 
+#[tactic(auto, unfolding(verdicts::specs::Decisions::decides, verdicts::specs::Decisions::pattern_decides))]
 pub fn regex(pattern: &[u8], value: &[u8]) -> Verdict
     ensures { result ≡ decides (expected.regex pattern.now) value.now }
 {
@@ -25,6 +27,7 @@ pub fn regex(pattern: &[u8], value: &[u8]) -> Verdict
 }
 
 // A matcher's text stands at its place.
+#[tactic(auto, unfolding(orders::specs::Orders::matching, verdicts::specs::Held::matching_of))]
 pub fn decide(m: Matcher, text: &[u8], value: &[u8]) -> Verdict
     ensures { result ≡ decides (matching_of text.now m) value.now }
 {

@@ -1,4 +1,5 @@
 pub mod EntriesLaws
 pub mod EntryLaws
 pub mod InsideLaws
+pub mod LaidLaws
 pub mod ScriptLaws

@@ -1,11 +1,11 @@
 -- An entry as the code comes to it, at its opening line. Assumes nothing.
-use Rattle.std.specs.Prelude.{ℕ, ◌+◌, Bool, true, false, List, Option}
+use Rattle.std.specs.Prelude.{ℕ, ◌+◌, Bool, true, false, List}
 use Rattle.script.specs.Operations.{Shape, single_path, single_string, path_set, path_set_flag, path_set_mode, no_args, set_options, collect_garbage, verify_store, add_perm_root, add_signatures, add_text_to_store, add_to_store, add_multiple_to_store, add_build_log, register_drv_output, query_realisation, query_substitutable_path_info, query_substitutable_path_infos, raw_bytes}
 use Rattle.script.specs.Values.{plain_rules}
-use Rattle.script.specs.Contents.{EntryContents, entry_of, entries, lead}
-use Rattle.script.specs.Layout.{laid, listed, Tables, tables_from}
+use Rattle.script.specs.Contents.{EntryContents, entry_of, lead}
+use Rattle.script.specs.Layout.{laid, listed}
 use Rattle.script.specs.declared.records.Entry.{Entry}
-use Rattle.below.specs.Below.{roles_at, ahead_of}
+use Rattle.below.specs.Below.{roles_at}
 use Rattle.below.specs.declared.lines_below.Ahead.{Ahead}
 
 -- only SetOptions takes an override list
@@ -38,7 +38,3 @@ entry_at text a = entry_of plain_rules text a.line a.opening (lead (roles_at tex
 -- its record, behind i items, x expectations and b bytes of the store
 unfoldable pub laid_entry : (i x b : ℕ) → EntryContents → Entry
 laid_entry i x b e = record { line = e.line; timestamp_ms = e.timestamp; op_call = (laid i b e.call).call; expects = listed x e.expects }
-
--- the tables of the entries that are ahead, behind i items and x expectations
-unfoldable pub entries_ahead : (text : List ℕ) → Option Ahead → (i x : ℕ) → Tables
-entries_ahead text next i x = tables_from i x 0 (entries plain_rules text (ahead_of text next))

@@ -1,75 +1,68 @@
-// A whole script: the preamble, then the entries. It holds a slice of records.
+// A whole script: the preamble, then the entries.
 ghost use Rattle.std.specs.Prelude.{◌≡◌, map, ◌≤◌, length};
-ghost use Rattle.kept.specs.Kept.{Memo};
 ghost use Rattle.written.specs.Written.{written_at};
 ghost use Rattle.tables.specs.Items.{item_of};
 ghost use Rattle.entries.specs.Whole.{reading_of};
 
 use crate::entries::read_entries;
 use below::lines_below::read_lines;
-use kept::Kept;
+use closing::front::put_front;
 use preamble_records::preamble_of;
 use said::said::{Heard, Said};
 use script::records::{Counts, Entry, Expectation, Script};
 use script::roles::Where;
+use turns::Measured;
+use written::Writer;
 
 // Reads a text that is not refused into tables that are long enough.
 pub fn read_script(
-    text: &[u8],
-    kept: &[Option<Kept>],
+    m: Measured<'_>,
     counts: Counts,
     entries: &mut [Entry],
     items: &mut [[usize; 2]],
     expectations: &mut [Expectation],
     store: &mut [u8],
 ) -> Script
-    requires text_len_bound { length text.now ≤ 0x8000 }
-    requires memo { Memo text.now kept.now }
-    requires counts_value { counts ≡ (reading_of text.now).script.counts }
-    requires text_in_bounds { length (reading_of text.now).tables.entries ≤ length entries.old }
-    requires text_len_bound_2 { length (reading_of text.now).tables.entries ≤ 0x8000 }
-    requires text_in_bounds_2 { length (reading_of text.now).tables.items ≤ length items.old }
-    requires text_len_bound_3 { length (reading_of text.now).tables.items ≤ 0x8000 }
-    requires text_in_bounds_3 { length (reading_of text.now).tables.expectations ≤ length expectations.old }
-    requires text_len_bound_4 { length (reading_of text.now).tables.expectations ≤ 0x8000 }
-    requires text_in_bounds_4 { length (reading_of text.now).tables.store ≤ length store.old }
-    ensures value { result ≡ (reading_of text.now).script }
-    ensures entries_after { entries.new ≡ written_at 0 (reading_of text.now).tables.entries entries.old }
-    ensures after { items.new ≡ written_at 0 (map item_of (reading_of text.now).tables.items) items.old }
-    ensures expectations_after { expectations.new ≡ written_at 0 (reading_of text.now).tables.expectations expectations.old }
-    ensures store_after { store.new ≡ written_at 0 (reading_of text.now).tables.store store.old }
+    requires counts_value { counts ≡ (reading_of m.text.now).script.counts }
+    requires entries_room { length (reading_of m.text.now).tables.entries ≤ length entries.old }
+    requires items_room { length (reading_of m.text.now).tables.items ≤ length items.old }
+    requires expectations_room { length (reading_of m.text.now).tables.expectations ≤ length expectations.old }
+    requires store_room { length (reading_of m.text.now).tables.store ≤ length store.old }
+    ensures value { result ≡ (reading_of m.entry.text.now).script }
+    ensures entries_after { entries.new ≡ written_at 0 (reading_of m.entry.text.now).tables.entries entries.old }
+    ensures after { items.new ≡ written_at 0 (map item_of (reading_of m.entry.text.now).tables.items) items.old }
+    ensures expectations_after { expectations.new ≡ written_at 0 (reading_of m.entry.text.now).tables.expectations expectations.old }
+    ensures store_after { store.new ≡ written_at 0 (reading_of m.entry.text.now).tables.store store.old }
 {
+    let mut entries = Writer::new(entries);
+    let mut items = Writer::new(items);
+    let mut expectations = Writer::new(expectations);
+    let mut store = Writer::new(store);
     let mut heard = Heard::new();
-    let led = read_lines(
-        text,
-        kept,
+    let next = read_lines(
+        m,
         0,
         1,
         Where::InPreamble,
         &mut heard,
         false,
-        items,
-        0,
-        expectations,
-        0,
+        &mut items,
+        &mut expectations,
     );
     let said = Said {
-        text,
+        text: m.text,
         heard: &heard,
     };
-    let f = closing::front::put_front(said, items);
-    let preamble = preamble_of(said, f.features, f.server, led.expects);
-    let front = f.features + f.server;
+    let f = put_front(said, &mut items);
+    let expects = expectations.position();
+    let preamble = preamble_of(said, f.features, f.server, expects);
     read_entries(
-        text,
-        kept,
-        led.next,
-        entries,
-        items,
-        front,
-        expectations,
-        led.expects,
-        store,
+        m,
+        next,
+        &mut entries,
+        &mut items,
+        &mut expectations,
+        &mut store,
     );
     Script { preamble, counts }
 }

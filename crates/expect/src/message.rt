@@ -37,20 +37,19 @@ fn tell(
     v: Verdict,
     value: Value,
     text: &[u8],
-    bytes: &[u8],
-    lists: &[[usize; 2]],
+    held: Held<'_>,
     scratch: &mut [u8],
     buffer: &mut [u8],
 ) -> Result<Told, Refusal>
-    ensures value { result ≡ framed_as v (length (value_text bytes.now lists.now value)) (length (frame_bytes text.now bytes.now (value_text bytes.now lists.now value) f)) (length scratch.old) (length buffer.old) }
-    ensures scratch_after { scratch.new ≡ unless_refused result (value_text bytes.now lists.now value) scratch.old }
-    ensures buffer_after { buffer.new ≡ unless_refused result (frame_bytes text.now bytes.now (value_text bytes.now lists.now value) f) buffer.old }
+    ensures value { result ≡ framed_as v (length (value_text held.entry.bytes.now held.entry.lists.now value)) (length (frame_bytes text.now held.entry.bytes.now (value_text held.entry.bytes.now held.entry.lists.now value) f)) (length scratch.old) (length buffer.old) }
+    ensures scratch_after { scratch.new ≡ unless_refused result (value_text held.entry.bytes.now held.entry.lists.now value) scratch.old }
+    ensures buffer_after { buffer.new ≡ unless_refused result (frame_bytes text.now held.entry.bytes.now (value_text held.entry.bytes.now held.entry.lists.now value) f) buffer.old }
 {
-    let left = value_room(value, bytes, lists, scratch.len()).ok_or(Reason::ValueTooLong)?;
+    let left = value_room(value, held, scratch.len()).ok_or(Reason::ValueTooLong)?;
     let long = scratch.len() - left;
-    frame_room(f, text, bytes, long, buffer.len()).ok_or(Reason::MessageTooLong)?;
-    let n = write_value(value, bytes, lists, scratch);
-    let len = put_frame(f, text, bytes, &scratch[..n], buffer);
+    frame_room(f, text, held.bytes, long, buffer.len()).ok_or(Reason::MessageTooLong)?;
+    let n = write_value(value, held, scratch);
+    let len = put_frame(f, text, held.bytes, &scratch[..n], buffer);
     Ok(Told { verdict: v, len })
 }
 
@@ -58,32 +57,28 @@ fn tell(
 pub fn message(
     text: &[u8],
     e: Expect,
-    h: Handed,
-    bytes: &[u8],
-    lists: &[[usize; 2]],
+    h: &Handed,
+    held: Held<'_>,
     scratch: &mut [u8],
     buffer: &mut [u8],
 ) -> Result<Told, Refusal>
-    ensures value { result ≡ told_of (expect_in (length text.now) e) (parts_in bytes.now (counted lists.now) h) (held_by bytes.now (counted lists.now) h) (expected_of text.now e) (length scratch.old) (length buffer.old) }
-    ensures scratch_after { scratch.new ≡ unless_refused result (present_bytes (looked (held_by bytes.now (counted lists.now) h) (expected_of text.now e))) scratch.old }
-    ensures buffer_after { buffer.new ≡ unless_refused result (message (held_by bytes.now (counted lists.now) h) (expected_of text.now e)) buffer.old }
+    ensures value { result ≡ told_of (expect_in (length text.now) e) (parts_in held.entry.bytes.now (counted held.entry.lists.now) h.now) (held_by held.entry.bytes.now (counted held.entry.lists.now) h.now) (expected_of text.now e) (length scratch.old) (length buffer.old) }
+    ensures scratch_after { scratch.new ≡ unless_refused result (present_bytes (looked (held_by held.entry.bytes.now (counted held.entry.lists.now) h.now) (expected_of text.now e))) scratch.old }
+    ensures buffer_after { buffer.new ≡ unless_refused result (message (held_by held.entry.bytes.now (counted held.entry.lists.now) h.now) (expected_of text.now e)) buffer.old }
 {
     if !places::expect_in(text.len(), e) {
         return Err(Refusal::from(Reason::ExpectationOutside));
     }
-    let table = counted_of(lists);
-    let subject = Subject {
-        handed: h,
-        held: Held {
-            bytes,
-            lists: table,
-        },
+    let held = Held {
+        bytes: held.bytes,
+        lists: counted_of(held.lists),
     };
+    let subject = Subject { handed: h, held };
     if !subject.parts_in() {
         return Err(Refusal::from(Reason::PartOutside));
     }
     let value = looked_value(e, text, h);
     let v = subject.verdict(e, value, text);
     let f = message_frame(e, is_missing(value), v, h);
-    tell(f, v, value, text, bytes, table, scratch, buffer)
+    tell(f, v, value, text, held, scratch, buffer)
 }

@@ -157,6 +157,6 @@ pub ruleset expect_words = (no_form, a_terminal, a_daemon, an_error, a_trust, a_
 
 pub ruleset result_words = (no_result, a_result)
 
-pub ruleset result-signs = (a_field, no_sign, a_colon)
+pub ruleset result_signs = (a_field, no_sign, a_colon)
 
-pub ruleset field-words = (a_name, no_name)
+pub ruleset field_words = (a_name, no_name)

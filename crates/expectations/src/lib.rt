@@ -26,6 +26,7 @@ pub enum Subject {
     ServerFeatures,
 }
 
+#[tactic(auto, unfolding(crate::specs::ExpectAnswers::expect_about))]
 fn expect_about(s: Subject, m: Matcher) -> Expect
     ensures { result ≡ expect_about s m }
 {
@@ -41,6 +42,7 @@ fn expect_about(s: Subject, m: Matcher) -> Expect
 }
 
 // The matcher that stands there, without the White_Space around it.
+#[tactic(auto, unfolding(script::specs::Expectations::about, crate::specs::ExpectAnswers::about_in))]
 fn about(p: Piece<'_>, s: Subject) -> Result<Expect, Reason>
     ensures { result ≡ about_in p.entry.text.now p.entry.at s }
 {
@@ -49,6 +51,7 @@ fn about(p: Piece<'_>, s: Subject) -> Result<Expect, Reason>
 }
 
 // The same behind a word.
+#[tactic(auto, using(crate::proofs::ExpectationLaws::word_none, crate::proofs::ExpectationLaws::word_some))]
 fn about_word(r: Piece<'_>, word: &[u8], s: Subject) -> Result<Expect, Reason>
     ensures { result ≡ about_word r.entry.text.now r.entry.at word.now s }
 {
@@ -68,6 +71,7 @@ fn terminal(r: Piece<'_>) -> Result<Expect, Reason>
 }
 
 // `daemon: matcher`
+#[tactic(auto, using(crate::proofs::ExpectationLaws::a_daemon))]
 fn on_daemon(r: Piece<'_>) -> Result<Expect, Reason>
     requires { get_or (bytes r.text.now r.at) 0 0 ≡ 100 }
     ensures { result ≡ expectation r.entry.text.now r.entry.at }
@@ -76,6 +80,7 @@ fn on_daemon(r: Piece<'_>) -> Result<Expect, Reason>
 }
 
 // `error: matcher`
+#[tactic(auto, using(crate::proofs::ExpectationLaws::an_error))]
 fn on_error(r: Piece<'_>) -> Result<Expect, Reason>
     requires { get_or (bytes r.text.now r.at) 0 0 ≡ 101 }
     ensures { result ≡ expectation r.entry.text.now r.entry.at }
@@ -84,6 +89,7 @@ fn on_error(r: Piece<'_>) -> Result<Expect, Reason>
 }
 
 // `trust: matcher`
+#[tactic(auto, using(crate::proofs::ExpectationLaws::a_trust))]
 fn on_trust(r: Piece<'_>) -> Result<Expect, Reason>
     requires { get_or (bytes r.text.now r.at) 0 0 ≡ 116 }
     ensures { result ≡ expectation r.entry.text.now r.entry.at }
@@ -103,6 +109,7 @@ fn on_count_or_features(r: Piece<'_>) -> Result<Expect, Reason>
 }
 
 // `.field: matcher`
+#[tactic(auto, using(pieces::proofs::BehindLaws::front_bounds, crate::proofs::ExpectationLaws::field_words))]
 fn field(q: Piece<'_>) -> Result<Expect, Reason>
     requires { get_or (bytes q.text.now q.at) 0 0 ≡ 46 }
     ensures { result ≡ first_of (field q.entry.text.now (behind q.entry.text.now "." q.entry.at) ∷ []) (Err UnknownExpectation) }
@@ -117,6 +124,7 @@ fn field(q: Piece<'_>) -> Result<Expect, Reason>
 }
 
 // By the sign behind the word `result`.
+#[tactic(auto, using(pieces::proofs::BehindLaws::front_bounds, crate::proofs::ExpectationLaws::result_signs))]
 fn by_sign(q: Piece<'_>) -> Result<Expect, Reason>
     ensures { result ≡ by_sign q.entry.text.now q.entry.at }
 {
@@ -128,6 +136,7 @@ fn by_sign(q: Piece<'_>) -> Result<Expect, Reason>
 }
 
 // `result: matcher`, or `result.field: matcher`
+#[tactic(auto, using(pieces::proofs::BehindLaws::front_bounds, crate::proofs::ExpectationLaws::result_words))]
 fn on_result(r: Piece<'_>) -> Result<Expect, Reason>
     requires { get_or (bytes r.text.now r.at) 0 0 ≡ 114 }
     ensures { result ≡ expectation r.entry.text.now r.entry.at }
@@ -139,6 +148,7 @@ fn on_result(r: Piece<'_>) -> Result<Expect, Reason>
 }
 
 // What is expected; `r` is what follows `expect`, trimmed.
+#[tactic(auto, using(crate::proofs::ExpectationLaws::no_form))]
 pub fn expectation(r: Piece<'_>) -> Result<Expect, Reason>
     ensures { result ≡ expectation r.entry.text.now r.entry.at }
 {
@@ -163,6 +173,7 @@ fn role_of(a: Result<Expect, Reason>) -> Role
 }
 
 // What a line is that begins with `expect`.
+#[tactic(auto, using(crate::proofs::ExpectationLaws::no_expect, crate::proofs::ExpectationLaws::expects))]
 pub fn expect_role(t: Piece<'_>) -> Role
     ensures { result ≡ expect_role t.entry.text.now t.entry.at }
 {

@@ -21,6 +21,8 @@ ghost use Rattle.dump.specs.Times.{last_number};
 
 pub mod message_exports;
 
+use script::records::Counts;
+
 // Whether the bytes are well-formed UTF-8.
 #[unsafe(no_mangle)]
 pub extern "C" fn nwscript_utf8(s: &[u8]) -> bool
@@ -174,7 +176,13 @@ pub extern "C" fn nwscript_read(
     ensures value { result ≡ length (read_dump text.now entries items expectations store) }
     ensures out_after { out.new ≡ overlaid (read_dump text.now entries items expectations store) out.old }
 {
-    dump::dumps::dump_read(text, entries, items, expectations, store, out)
+    let lent = Counts {
+        entries,
+        items,
+        expectations,
+        store,
+    };
+    dump::dumps::dump_read(text, lent, out)
 }
 
 // Read so many times into tables of 4,096 entries, 16,384 items, 4,096 expectations and 32,768 bytes of the store: the number of the last

@@ -1,4 +1,5 @@
-// Message, as a host calls it: an expectation, a response and the handshake's information come in rows of numbers.
+// Message, as a host calls it: an expectation, a response and the handshake's information come in rows of numbers. The bytes
+// and the table of lists come apart: no struct of slices goes through C.
 ghost use Rattle.std.specs.Prelude.{◌≡◌, length};
 ghost use Rattle.verdicts.specs.Lookup.{looked_in, told_in, present_bytes};
 ghost use Rattle.verdicts.specs.Messages.{entry_message, handshake_message};
@@ -9,6 +10,7 @@ ghost use Rattle.given.specs.Told.{refusal_of, verdict_of, length_of};
 ghost use Rattle.row_messages.specs.Messages.{entry_told, handshake_told};
 
 use row_messages::message;
+use texts::Held;
 use verdicts::handed::Handed;
 
 // The message of an expectation that is judged against a response, at the front of the buffer; a present value at the front of the scratch. On a
@@ -33,7 +35,8 @@ pub extern "C" fn nwscript_entry_message(
     ensures buffer_after { buffer.new ≡ unless_refused (entry_told text.now (expect_row expectation.now n) bytes.now lists.now (response_row response.now) (length scratch.old) (length buffer.old)) (entry_message (response_of bytes.now (counted lists.now) (response_row response.now)) (expected_of text.now (expect_row expectation.now n))) buffer.old }
 {
     let h = Handed::Response(row_responses::response_of(response));
-    let told = message(text, expectation, n, h, bytes, lists, scratch, buffer);
+    let held = Held { bytes, lists };
+    let told = message(text, expectation, n, &h, held, scratch, buffer);
     given::give_told(told, verdict, len)
 }
 
@@ -58,6 +61,7 @@ pub extern "C" fn nwscript_handshake_message(
     ensures buffer_after { buffer.new ≡ unless_refused (handshake_told text.now (expect_row expectation.now n) bytes.now lists.now (info_row information.now) (length scratch.old) (length buffer.old)) (handshake_message (info_of bytes.now (counted lists.now) (info_row information.now)) (expected_of text.now (expect_row expectation.now n))) buffer.old }
 {
     let h = Handed::Info(row_infos::info_of(information));
-    let told = message(text, expectation, n, h, bytes, lists, scratch, buffer);
+    let held = Held { bytes, lists };
+    let told = message(text, expectation, n, &h, held, scratch, buffer);
     given::give_told(told, verdict, len)
 }

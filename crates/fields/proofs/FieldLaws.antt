@@ -36,9 +36,9 @@ module _ (line : List ℕ) (at : ℕ) (word : List ℕ) (end : ℕ) (k : word �
     no_number r = rw (← k, ← q, r)
 
   module _ (n : Option ℤ) (q : n ≡ signed word) where
-    pub integer-is : (v : ℤ) → n ≡ Some v → Some (field v end) ≡ integer_at line at
+    pub integer_is : (v : ℤ) → n ≡ Some v → Some (field v end) ≡ integer_at line at
     unfolding integer_at
-    integer-is v r = rw (e, ← k, ← q, r)
+    integer_is v r = rw (e, ← k, ← q, r)
 
     pub no_integer : n ≡ None → None ≡ integer_at line at
     unfolding integer_at
@@ -63,7 +63,7 @@ module _ (line : List ℕ) (at : ℕ) (word : List ℕ) (end : ℕ) (k : word �
         unfolding bytes_at marked_hex
         bytes_are n r = rw (e, ← k, z, eq-eqb x 0x78 m, ← q, r)
 
-pub ruleset word_laws = (number_is, no_number, integer-is, no_integer, no_word, unmarked, no_bytes, bytes_are)
+pub ruleset word_laws = (number_is, no_number, integer_is, no_integer, no_word, unmarked, no_bytes, bytes_are)
 
 -- ---- several numbers
 
@@ -94,9 +94,9 @@ module _ (line : List ℕ) (from at i : ℕ) (lent out : List ℕ) where
       unfolding numbers_at
       next_one = let z : length lent - i ≡ suc (length lent - (i + 1)) = omega arith in rw (z, ← q)
 
-      pub none-next : r ≡ None → None ≡ numbers_at (length lent) line from
+      pub none_next : r ≡ None → None ≡ numbers_at (length lent) line from
       unfolding after behind
-      none-next b = let n = rw b at next_one in sym (f ∙ rw n)
+      none_next b = let n = rw b at next_one in sym (f ∙ rw n)
 
       pub one_filled : (d : Field ℕ) → r ≡ Some d
           → numbers_at (length lent) line from ≡ behind (take (i + 1) (set out i d.value)) (numbers_at (length lent - (i + 1)) line d.end)
@@ -109,7 +109,7 @@ module _ (line : List ℕ) (from at i : ℕ) (lent out : List ℕ) where
 pub begun : (line : List ℕ) (from : ℕ) (lent : List ℕ) → Filling line from from 0 lent lent
 begun line from lent = rw (sub-zero (length lent)) (sym (behind-none _))
 
-pub ruleset numbers_laws = (all_filled, none-next, one_filled, begun)
+pub ruleset numbers_laws = (all_filled, none_next, one_filled, begun)
 
 -- what is left of a line from a place on
 pub rest_of : (s : List ℕ) (p : ℕ) → take (length s - p) (drop p s) ≡ drop p s
@@ -130,9 +130,9 @@ module _ (hex lent room : List ℕ) (n : ℕ) (c : n ≡ length (hex_decoded hex
   other_length h d =
       rw (le-leb (length (hex_decoded hex)) (length lent) (omega arith), ne_eqb (length hex) (2 * length (hex_decoded hex)) (λ f. d (omega arith)))
 
-  pub is-hex : n ≤ length room → length hex - n ≡ n → Some (take n room) ≡ hex_for (length lent) hex
+  pub is_hex : n ≤ length room → length hex - n ≡ n → Some (take n room) ≡ hex_for (length lent) hex
   unfolding hex_for overlaid
-  is-hex h d =
+  is_hex h d =
       let g = le-leb (length (hex_decoded hex)) (length lent) (omega arith) in
       let k : room ≡ hex_decoded hex ++ drop (length (hex_decoded hex)) lent = rw g at o in
       rw (g, eq-eqb (length hex) (2 * length (hex_decoded hex)) (omega (arith, hex_half hex)))

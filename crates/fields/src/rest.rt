@@ -28,6 +28,7 @@ impl<'a> Rest<'a> {
     }
 
     // The number that the first word spells.
+    #[tactic(auto, using(crate::proofs::FieldLaws::number_is, crate::proofs::FieldLaws::no_number))]
     pub fn number(self) -> Option<(u64, Rest<'a>)>
         ensures value { option_map (λ f. field f.0 f.1.at) result ≡ number_at self.entry.line.now self.entry.at }
         ensures line { IfSome result (λ f. f.1.line ≡ self.entry.line) }
@@ -38,6 +39,7 @@ impl<'a> Rest<'a> {
     }
 
     // And one with a sign.
+    #[tactic(auto, using(crate::proofs::FieldLaws::integer_is, crate::proofs::FieldLaws::no_integer))]
     pub fn integer(self) -> Option<(i64, Rest<'a>)>
         ensures value { option_map (λ f. field f.0 f.1.at) result ≡ integer_at self.entry.line.now self.entry.at }
         ensures line { IfSome result (λ f. f.1.line ≡ self.entry.line) }
@@ -48,6 +50,7 @@ impl<'a> Rest<'a> {
     }
 
     // As many numbers as are lent, one after another.
+    #[tactic(auto, using(crate::proofs::FieldLaws::begun, crate::proofs::FieldLaws::none_next, crate::proofs::FieldLaws::one_filled, crate::proofs::FieldLaws::all_filled))]
     pub fn numbers(self, out: &mut [u64]) -> Option<Rest<'a>>
         ensures value { option_map (λ r. field out.new r.at) result ≡ numbers_at (length out.old) self.entry.line.now self.entry.at }
         ensures line { IfSome result (λ r. r.line ≡ self.entry.line) }
@@ -62,6 +65,7 @@ impl<'a> Rest<'a> {
     }
 
     // The bytes that the first word spells, behind an `x`, so that no bytes are a word too; at the front of the room lent: how many they are.
+    #[tactic(auto, using(crate::proofs::FieldLaws::no_word, crate::proofs::FieldLaws::unmarked, crate::proofs::FieldLaws::no_bytes, crate::proofs::FieldLaws::bytes_are))]
     pub fn bytes(self, room: &mut [u8]) -> Option<(usize, Rest<'a>)>
         ensures value { option_map (λ f. field (take f.0 room.new) f.1.at) result ≡ bytes_at (length room.old) self.entry.line.now self.entry.at }
         ensures line { IfSome result (λ f. f.1.line ≡ self.entry.line) }

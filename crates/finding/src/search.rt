@@ -16,6 +16,7 @@ fn one_if_both(first: u8, last: u8, x: u8, y: u8) -> u8
 
 // Whether first, with last `reach` bytes behind it, stands at none of the n places from `at` on. The places are not left early, so that they are
 // looked at together.
+#[tactic(auto, using(crate::proofs::PlaceLaws::apart_none, crate::proofs::PlaceLaws::apart_more))]
 fn apart(s: &[u8], first: u8, last: u8, reach: usize, at: usize, n: usize) -> bool
     requires { at + reach + n ≤ length s.now }
     ensures { result ≡ true → Apart first last reach s.now at (at + n) }
@@ -65,6 +66,7 @@ fn skip_apart(s: &[u8], first: u8, last: u8, reach: usize, at: usize) -> usize
 
 // Whether the bytes of the pattern stand somewhere in the value. Only places where its first and its last byte stand are tried, and the end of the
 // value, where it has no room. There is one call of skip_apart, so that it is compiled in line.
+#[tactic(auto, using(crate::proofs::ContainsLaws::walk))]
 pub fn contains(value: &[u8], pattern: &[u8]) -> bool
     ensures { result ≡ decisions.contains pattern.now value.now }
 {

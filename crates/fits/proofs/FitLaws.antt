@@ -2,7 +2,7 @@
 use Rattle.std.specs.Prelude.{Err, Ok}
 use Prim.Native.Nat.{ℕ, ◌≤◌, ◌<◌}
 use mathlib.Core.Path.{◌≡◌}
-use native.Mathlib.Nat.{min-le_left, min-le_right, le_trans}
+use native.Mathlib.Nat.{min-le_right, le_trans}
 use borrow.Author.Tests.{lt-ltb, le-ltb}
 use Rattle.script.specs.Reading.{room}
 use Rattle.script.specs.Refusals.{refusal, ok_unless}
@@ -15,10 +15,6 @@ use Rattle.script.specs.declared.refusals.Reason.TheVariants.{FewEntries, FewExp
 pub room_within : (n m : ℕ) → m ≤ room n → m ≤ n
 unfolding room
 room_within n m h = le_trans h (min-le_right 0x8000 n)
-
-pub room_limit : (n m : ℕ) → m ≤ room n → m ≤ 0x8000
-unfolding room
-room_limit n m h = le_trans h (min-le_left 0x8000 n)
 
 -- ---- the first table that is too short
 

@@ -10,6 +10,7 @@ use script::records::{Counts, Refusal};
 use script::refusals::Reason;
 
 // Only the first 32,768 records of a table count.
+#[tactic(auto, unfolding(script::specs::Reading::room))]
 pub fn room(n: usize) -> usize
     ensures { result ≡ Reading.room n }
 {
@@ -20,6 +21,7 @@ pub fn room(n: usize) -> usize
 }
 
 // 21: too few entries; 22: too few items; 23: too few expectations; 24: too few bytes of the store.
+#[tactic(auto, using(crate::proofs::FitLaws::short_laws))]
 pub fn room_for(needed: Counts, lent: Counts) -> Result<(), Refusal>
     ensures { result ≡ ok_unless (shortage lent needed) }
 {

@@ -40,7 +40,7 @@ pub enum Middle {
     Slash, // /
 }
 
-// Each arm has its letters.
+// Each arm has its letters, so that no table of them is laid out anew for each message.
 #[tactic(auto, unfolding(crate::specs::Words::head_bytes, text::specs::Literal::utf8, text::specs::Unicode::encoded))]
 pub fn head_word(w: Head) -> &'static [u8]
     ensures { result.now ≡ head_bytes w }
@@ -72,6 +72,7 @@ pub fn head_len(w: Head) -> usize
     head_word(w).len()
 }
 
+// As for `head_word`.
 #[tactic(auto, unfolding(crate::specs::Words::middle_bytes, text::specs::Literal::utf8, text::specs::Unicode::encoded))]
 pub fn middle_word(w: Middle) -> &'static [u8]
     ensures { result.now ≡ middle_bytes w }

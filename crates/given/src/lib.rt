@@ -9,7 +9,7 @@ use script::records::Refusal;
 use text::trim::Place;
 use told::Told;
 
-// Where a part of a text stands.
+// Where a part of a text stands: two numbers, for C lends them apart.
 pub fn give_place(p: Place, start: &mut usize, len: &mut usize)
     ensures start_after { start.new ≡ p.start }
     ensures len_after { len.new ≡ p.len }

@@ -42,18 +42,11 @@ enum HexStep {
     Byte(u8),
 }
 
-// The table, whose rule is tested here, once for all who use it.
-fn hex_table() -> [u8; 256]
-    ensures { HexTable result }
-{
-    HEX
-}
-
-pub fn hex_value(x: u8) -> u8
-    ensures { result ≡ hex_value x }
-{
-    let table = hex_table();
-    table[x as usize]
+// The table, whose rule is tested once, for all who use it. It is lent, for a constant is laid out anew by each function that names it.
+#[derive(Clone, Copy)]
+struct HexDigits {
+    table: [u8; 256],
+    ghost rule: { HexTable table },
 }
 
 // A byte that is no hex digit.
@@ -76,68 +69,76 @@ fn on_other(held: usize, x: u8) -> HexStep
     HexStep::Held(17)
 }
 
-// One byte of the walk. The table comes lent, for a constant is laid out anew by each function that names it.
-fn hex_step(table: &[u8], held: usize, x: u8) -> HexStep
-    requires { HexTable table.now }
-    ensures { result ≡ hex_step held x }
-{
-    let v = table[x as usize];
-    if v < 16 {
-        if held < 16 {
-            return HexStep::Byte((held as u8) * 16 + v);
-        }
-        if held == 17 {
-            return HexStep::Held(v as usize);
-        }
-        return HexStep::Held(17);
+impl HexDigits {
+    fn new() -> HexDigits {
+        HexDigits { table: HEX }
     }
-    on_other(held, x)
-}
 
-// How many bytes s spells.
-fn hex_count(table: &[u8], s: &[u8]) -> usize
-    requires { HexTable table.now }
-    ensures { result ≡ length (hex_decoded s.now) }
-{
-    let mut held: usize = 17;
-    let mut n: usize = 0;
-    for x in s {
-        match hex_step(table, held, *x) {
-            HexStep::Held(h) => held = h,
-            HexStep::Byte(_) => {
-                held = 17;
-                n += 1;
+    // One byte of the walk.
+    fn step(&self, held: usize, x: u8) -> HexStep
+        ensures { result ≡ hex_step held x }
+    {
+        let v = self.table[x as usize];
+        if v < 16 {
+            if held < 16 {
+                return HexStep::Byte((held as u8) * 16 + v);
+            }
+            if held == 17 {
+                return HexStep::Held(v as usize);
+            }
+            return HexStep::Held(17);
+        }
+        on_other(held, x)
+    }
+
+    // How many bytes s spells.
+    fn count(&self, s: &[u8]) -> usize
+        ensures { result ≡ length (hex_decoded s.now) }
+    {
+        let mut held: usize = 17;
+        let mut n: usize = 0;
+        for x in s {
+            match self.step(held, *x) {
+                HexStep::Held(h) => held = h,
+                HexStep::Byte(_) => {
+                    held = 17;
+                    n += 1;
+                }
+            }
+        }
+        n
+    }
+
+    // Writes the bytes over all of out, which has exactly the room.
+    fn fill(&self, s: &[u8], out: &mut [u8])
+        requires { length out.old ≡ length (hex_decoded s.now) }
+        ensures { out.new ≡ hex_decoded s.now }
+    {
+        let mut held: usize = 17;
+        let mut o: usize = 0;
+        for x in s {
+            match self.step(held, *x) {
+                HexStep::Held(h) => held = h,
+                HexStep::Byte(b) => {
+                    out[o] = b;
+                    held = 17;
+                    o += 1;
+                }
             }
         }
     }
-    n
 }
 
-// Writes the bytes over all of out, which has exactly the room.
-fn hex_fill(table: &[u8], s: &[u8], out: &mut [u8])
-    requires hex_table { HexTable table.now }
-    requires out_len { length out.old ≡ length (hex_decoded s.now) }
-    ensures { out.new ≡ hex_decoded s.now }
+pub fn hex_value(x: u8) -> u8
+    ensures { result ≡ hex_value x }
 {
-    let mut held: usize = 17;
-    let mut o: usize = 0;
-    for x in s {
-        match hex_step(table, held, *x) {
-            HexStep::Held(h) => held = h,
-            HexStep::Byte(b) => {
-                out[o] = b;
-                held = 17;
-                o += 1;
-            }
-        }
-    }
+    HexDigits::new().table[x as usize]
 }
 
 pub fn hex_len(s: &[u8]) -> usize
     ensures { result ≡ length (hex_decoded s.now) }
 {
-    let table = hex_table();
-    hex_count(&table, s)
+    HexDigits::new().count(s)
 }
 
 // Writes the bytes that s spells at the front of out, if there is room for all, and says how many they are.
@@ -146,11 +147,11 @@ pub fn hex_decode(s: &[u8], out: &mut [u8]) -> usize
     ensures value { result ≡ length (hex_decoded s.now) }
     ensures out_after { out.new ≡ overlaid (hex_decoded s.now) out.old }
 {
-    let table = hex_table();
-    let n = hex_count(&table, s);
+    let digits = HexDigits::new();
+    let n = digits.count(s);
     if out.len() < n {
         return n;
     }
-    hex_fill(&table, s, &mut out[..n]);
+    digits.fill(s, &mut out[..n]);
     n
 }

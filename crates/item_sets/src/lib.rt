@@ -1,11 +1,11 @@
 // The items of a path set and of a feature set, written into a table.
 #![tactic(auto)]
 
-ghost use Rattle.std.specs.Prelude.{◌≡◌, true, false, ◌+◌, ◌≤◌, length, MatchOption};
+ghost use Rattle.std.specs.Prelude.{◌≡◌, true, false, length, MatchOption};
 ghost use Rattle.text.specs.Base.{◌&◌};
 ghost use Rattle.script.specs.Pieces.{begins, ends, inner};
 ghost use Rattle.script.specs.Sets.{CLOSING-BRACE, path_items};
-ghost use Rattle.written.specs.Written.{written_at};
+ghost use Rattle.written.specs.Writing.{Room, wrote};
 ghost use Rattle.tables.specs.Items.{items_for, items_of, features_of};
 ghost use Rattle.tables.specs.SetRead.{braced_items};
 
@@ -13,49 +13,46 @@ use pieces::pieces::Piece;
 use tables::sets::{put_place, put_places};
 use tables::walks::{FilledItems, TrimmedItems, Words};
 use text::parts::Span;
+use written::Writer;
 
 // Writes the items between the braces of a path set; where nothing stands there it has none. The piece is trimmed.
-fn put_path(p: Piece<'_>, items: &mut [[usize; 2]], at: usize) -> usize
-    requires { at + length (items_for (path_items p.text.now p.at)) ≤ length items.old }
-    ensures value { result ≡ length (items_for (path_items p.entry.text.now p.entry.at)) }
-    ensures after { items.new ≡ written_at at (items_for (path_items p.entry.text.now p.entry.at)) items.old }
+#[tactic(auto, using(written::proofs::WriterLaws::none_wrote, tables::proofs::ItemLaws::path_none))]
+fn put_path(p: Piece<'_>, items: &mut Writer<[usize; 2]>)
+    requires { Room (length (items_for (path_items p.text.now p.at))) items.old }
+    ensures { items.new ≡ wrote (items_for (path_items p.entry.text.now p.entry.at)) items.old }
 {
-    if p.is_empty() {
-        return 0;
+    if !p.is_empty() {
+        put_places(TrimmedItems::of(p), items);
     }
-    put_places(TrimmedItems::of(p), items, at)
 }
 
 // Writes the items of a path set behind its opening brace; none where it is not closed.
-fn put_braced(p: Piece<'_>, items: &mut [[usize; 2]], at: usize) -> usize
-    requires { at + length (items_for (braced_items p.text.now p.at)) ≤ length items.old }
-    ensures value { result ≡ length (items_for (braced_items p.entry.text.now p.entry.at)) }
-    ensures after { items.new ≡ written_at at (items_for (braced_items p.entry.text.now p.entry.at)) items.old }
+#[tactic(auto, using(written::proofs::WriterLaws::room_as, written::proofs::WriterLaws::wrote_as, written::proofs::WriterLaws::none_wrote, tables::proofs::ItemLaws::set_laws))]
+fn put_braced(p: Piece<'_>, items: &mut Writer<[usize; 2]>)
+    requires { Room (length (items_for (braced_items p.text.now p.at))) items.old }
+    ensures { items.new ≡ wrote (items_for (braced_items p.entry.text.now p.entry.at)) items.old }
 {
-    match p.find(b'}') {
-        None => 0,
-        Some(n) => put_path(p.front(n).trimmed(), items, at),
+    if let Some(n) = p.find(b'}') {
+        put_path(p.front(n).trimmed(), items);
     }
 }
 
-// Writes the items of a path set, and says how many they are.
-pub fn put_set(v: Piece<'_>, items: &mut [[usize; 2]], at: usize) -> usize
-    requires { at + length (items_of v.text.now v.at) ≤ length items.old }
-    ensures value { result ≡ length (items_of v.entry.text.now v.entry.at) }
-    ensures after { items.new ≡ written_at at (items_of v.entry.text.now v.entry.at) items.old }
+// Writes the items of a path set.
+#[tactic(auto, using(written::proofs::WriterLaws::room_as, written::proofs::WriterLaws::wrote_as, written::proofs::WriterLaws::none_wrote, tables::proofs::ItemLaws::set_laws))]
+pub fn put_set(v: Piece<'_>, items: &mut Writer<[usize; 2]>)
+    requires { Room (length (items_of v.text.now v.at)) items.old }
+    ensures { items.new ≡ wrote (items_of v.entry.text.now v.entry.at) items.old }
 {
     let q = v.trimmed();
     if q.starts_with(b"{") {
-        return put_braced(q.behind(1), items, at);
+        put_braced(q.behind(1), items);
+    } else if !q.is_empty() {
+        put_place(items, q.at);
     }
-    if q.is_empty() {
-        return 0;
-    }
-    put_place(items, at, q.at);
-    1
 }
 
 // What stands between braces, where the piece does.
+#[tactic(auto, using(tables::proofs::ItemLaws::unbraced, tables::proofs::ItemLaws::by_end, tables::proofs::ItemLaws::inner_in), unfolding(script::specs::Pieces::inner))]
 pub fn in_braces(q: Piece<'_>) -> Option<Piece<'_>>
     ensures { MatchOption result
         (begins q.entry.text.now "{" q.entry.at & ends q.entry.text.now q.entry.at CLOSING-BRACE ≡ false)
@@ -74,15 +71,14 @@ pub fn in_braces(q: Piece<'_>) -> Option<Piece<'_>>
     })
 }
 
-// Writes the items of a feature set, and says how many they are.
-pub fn put_features(v: Piece<'_>, items: &mut [[usize; 2]], at: usize) -> usize
-    requires { at + length (features_of v.text.now v.at) ≤ length items.old }
-    ensures value { result ≡ length (features_of v.entry.text.now v.entry.at) }
-    ensures after { items.new ≡ written_at at (features_of v.entry.text.now v.entry.at) items.old }
+// Writes the items of a feature set.
+pub fn put_features(v: Piece<'_>, items: &mut Writer<[usize; 2]>)
+    requires { Room (length (features_of v.text.now v.at)) items.old }
+    ensures { items.new ≡ wrote (features_of v.entry.text.now v.entry.at) items.old }
 {
     let q = v.trimmed();
     match in_braces(q) {
-        Some(p) => put_places(FilledItems::of(p), items, at),
-        None => put_places(Words::of(q), items, at),
+        Some(p) => put_places(FilledItems::of(p), items),
+        None => put_places(Words::of(q), items),
     }
 }

@@ -41,7 +41,8 @@ impl Tally {
         }
     }
 
-    // Judges the expectations of the preamble against what the handshake told. No entry is looked at. The bytes and the table come apart, as a host lends them.
+    // Judges the expectations of the preamble against what the handshake told. No entry is looked at.
+    // What is lent comes apart: the theorem `Claims.demand_one` is about this signature.
     #[tactic(auto, unfolding(judging::specs::Judge::judge_step, judging::specs::Judge::judged, judging::specs::Judge::judged_on, judging::specs::Judge::refusal_on, judging::specs::Judge::range_for, judging::specs::Calls::wrong_number, judging::specs::Scratch::scratch_after, judging::specs::Scratch::scratch_on))]
     pub fn handshake(
         self,
@@ -59,8 +60,9 @@ impl Tally {
         ensures scratch_after { scratch.new ≡ scratch_after (lent_of text.now script [] expectations.now) (state_of self verdicts.old) (asked_of number (Info i) bytes.now (counted lists.now) (length scratch.old)) scratch.old }
     {
         let lists = counted_of(lists);
+        let h = Handed::Info(i);
         let subject = Subject {
-            handed: Handed::Info(i),
+            handed: &h,
             held: Held { bytes, lists },
         };
         let step = judge_on(
@@ -79,7 +81,7 @@ impl Tally {
         turn_of(step)
     }
 
-    // Judges the expectations of an entry against a response.
+    // Judges the expectations of an entry against a response. What is lent comes apart: the theorem `Claims.demand_one` is about this signature.
     #[tactic(auto, using(crate::proofs::TallyLaws::past_min), unfolding(judging::specs::Judge::judge_step, judging::specs::Judge::judged, judging::specs::Judge::judged_on, judging::specs::Judge::refusal_on, judging::specs::Judge::range_for, judging::specs::Scratch::scratch_after, judging::specs::Scratch::scratch_on, judging::specs::Judge::past_entries, judging::specs::Judge::range_refusals, judging::specs::Judge::out_of_reach, judging::specs::Judge::range_outside, judging::specs::Judge::few_slots, judging::specs::Judge::records_in, judging::specs::Judge::said_by, judging::specs::Judge::judged_by))]
     pub fn entry(
         self,
@@ -99,8 +101,9 @@ impl Tally {
     {
         let n = counting(script.counts.entries, entries.len());
         let lists = counted_of(lists);
+        let h = Handed::Response(response);
         let subject = Subject {
-            handed: Handed::Response(response),
+            handed: &h,
             held: Held { bytes, lists },
         };
         let step = judge_on(

@@ -4,6 +4,7 @@ use mathlib.Core.Path.{◌≡◌, refl, sym, ap}
 use mathlib.Core.List.{List, [], ◌∷◌}
 use native.Mathlib.Omega.{arith}
 use lib.ListN.{length, get_or, set, replicate}
+use denote.Struct.Props.{props}
 use Rattle.std.specs.Prelude.{None, Option, Some}
 use Rattle.text.specs.Lines.{line_at}
 use Rattle.text.specs.declared.lines.Line.{Line}
@@ -15,6 +16,11 @@ use Rattle.script.specs.declared.roles.Where.{Where}
 use Rattle.script.specs.declared.roles.Step.{Step}
 use Rattle.kept.specs.declared.Kept.{Kept}
 use Rattle.kept.specs.Kept.{kept_of, Right, Memo}
+
+-- what is kept is right in one way at most, so that a struct may hold it as a fact
+pub memo_prop : (text : List ℕ) (kept : List (Option Kept)) → IsProp (Memo text kept)
+unfolding Memo Right
+memo_prop text kept = hlevel props
 
 -- where nothing is kept, nothing is wrong
 abbrev nothing : Option Kept

@@ -1,4 +1,4 @@
-// Lines of a text.
+// Lines of a text. By places in it: a line is its places, and where the next one begins is the answer.
 ghost use Rattle.std.specs.Prelude.{◌≡◌, ◌+◌, ◌<◌, length};
 ghost use Rattle.std.specs.Iterator.{YieldsFirst, item_count};
 ghost use Rattle.text.specs.Lines.{line, line_at, lines, indented, trimmed_length};
@@ -26,7 +26,9 @@ fn ended(text: &[u8], at: usize, number: usize, lf: usize) -> Line
     }
 }
 
-// The line that begins at `at`, called by the number given. At the end of the text, or past it, it has no bytes.
+// The line that begins at `at`, called by the number given. At the end of the text, or past it, it has no bytes. Always in its callers, whose loops go
+// over the lines: a call for each took as long as the line.
+#[inline(always)]
 #[tactic(auto, using(text::proofs::LineLaws::first_lf, text::proofs::LineLaws::no_lf, text::proofs::LineLaws::at_end))]
 pub fn line_at(text: &[u8], at: usize, number: usize) -> Line
     ensures { result ≡ line_at text.now at number }
@@ -46,7 +48,8 @@ pub fn line_at(text: &[u8], at: usize, number: usize) -> Line
     }
 }
 
-// The lines of a text that are left: the place where the next one begins, and its number.
+// A walk over the lines of a text: it borrows the text, and carries the place where the next line begins and that line's number. Its functions are thin:
+// `line_at`, which does the work, takes the text as a plain slice.
 #[derive(Clone, Copy, Drop)]
 pub struct Lines<'a> {
     text: &'a [u8],
@@ -55,7 +58,7 @@ pub struct Lines<'a> {
 }
 
 impl<'a> Lines<'a> {
-    // All of them.
+    // Before the first line.
     #[tactic(auto, unfolding(text::specs::Lines::lines, crate::specs::Walk::left))]
     pub fn new(text: &'a [u8]) -> Lines<'a>
         ensures value { result ≡ begun text.entry }
@@ -72,6 +75,7 @@ impl<'a> Lines<'a> {
 impl<'a> Iterator for Lines<'a> {
     type Item = Line;
 
+    // No more lines are numbered than bytes are past, so that the number does not wrap.
     ghost can_next = { λ w. few w };
 
     ghost next_gives = { YieldsFirst left };
@@ -91,6 +95,7 @@ impl<'a> Iterator for Lines<'a> {
 }
 
 // How many lines the text has.
+#[tactic(auto, using(text::proofs::LineLaws::lines_few))]
 pub fn count_lines(text: &[u8]) -> usize
     ensures { result ≡ length (lines text.now) }
 {
@@ -98,6 +103,7 @@ pub fn count_lines(text: &[u8]) -> usize
 }
 
 // How many bytes the lines have once each is trimmed.
+#[tactic(auto, using(text::proofs::LineLaws::lines_in, text::proofs::LineLaws::trimmed_few))]
 pub fn trimmed_bytes(text: &[u8]) -> usize
     ensures { result ≡ trimmed_length text.now (lines text.now) }
 {

@@ -24,6 +24,7 @@ fn tail_of(len: usize, n: usize) -> usize
 
 // Whether the pattern stands at some byte of a piece; it may go on in the pieces behind. It is looked for in the piece as in any value; of the places
 // where it would go on, only those where its first byte stands are tried. `skip_others` finds the next of them, eight bytes at once, so no `for` does.
+#[tactic(auto, using(crate::proofs::FindLaws::piece_begun, crate::proofs::FindLaws::piece_later, crate::proofs::FindLaws::piece_other, crate::proofs::FindLaws::piece_turns))]
 pub fn found_in<'a>(piece: &'a [u8], behind: Pieces<'a>, pattern: &[u8]) -> bool
     requires { 0 < length pattern.now }
     ensures { decisions.contains pattern.now (piece.now ++ shown behind.entry) ≡ result or decisions.contains pattern.now (shown behind.entry) }
@@ -44,6 +45,7 @@ pub fn found_in<'a>(piece: &'a [u8], behind: Pieces<'a>, pattern: &[u8]) -> bool
 }
 
 // Whether the pattern stands somewhere in the list. At each piece, what is behind it is asked for too, so no `for` hands out the pieces.
+#[tactic(auto, using(finding::proofs::SearchLaws::empty_in, crate::proofs::FindLaws::list_here, crate::proofs::FindLaws::list_later, crate::proofs::FindLaws::list_ended), unfolding(list_pieces::specs::Pieces::row))]
 pub fn contains(pattern: &[u8], list: Pieces<'_>) -> bool
     ensures { result ≡ decisions.contains pattern.now (shown list.entry) }
 {

@@ -13,12 +13,12 @@ use texts::text_at;
 
 // In a response; the field's name is a part of the text.
 #[tactic(auto, unfolding(sought::specs::Values::value_bytes, verdicts::specs::Held::expected_of, verdicts::specs::Held::response_of, verdicts::specs::Lookup::looked_in))]
-pub fn looked_entry(e: Expect, text: &[u8], r: DaemonResponse) -> Value
-    ensures { Means result (λ bytes lists. looked_in (response_of bytes lists r) (expected_of text.now e)) }
+pub fn looked_entry(e: Expect, text: &[u8], r: &DaemonResponse) -> Value
+    ensures { Means result (λ bytes lists. looked_in (response_of bytes lists r.now) (expected_of text.now e)) }
 {
     match e {
-        Expect::Result(_) => whole_value(r.result),
-        Expect::ResultField(p, _) => field_value(r.result, text_at(text, p)),
+        Expect::Result(_) => whole_value(&r.result),
+        Expect::ResultField(p, _) => field_value(&r.result, text_at(text, p)),
         Expect::Error(_) => text_value(r.error),
         Expect::StderrCount(_) => Value::Number(r.stderr_count),
         Expect::Terminal(_) => Value::Missing,
@@ -48,8 +48,8 @@ fn trust_value(m: Option<u64>) -> Value
 
 // In what the handshake told; no part of the text is looked at.
 #[tactic(auto, unfolding(sought::specs::Values::value_bytes, verdicts::specs::Held::expected_of, verdicts::specs::Held::info_of, verdicts::specs::Lookup::told_in, verdicts::specs::Lookup::daemon_text, verdicts::specs::Lookup::trust_text, verdicts::specs::Lookup::features_text))]
-pub fn looked_handshake(e: Expect, i: HandshakeInfo) -> Value
-    ensures { (text : List ℕ) → Means result (λ bytes lists. told_in (info_of bytes lists i) (expected_of text e)) }
+pub fn looked_handshake(e: Expect, i: &HandshakeInfo) -> Value
+    ensures { (text : List ℕ) → Means result (λ bytes lists. told_in (info_of bytes lists i.now) (expected_of text e)) }
 {
     match e {
         Expect::Daemon(_) => daemon_value(i.daemon_nix_version),

@@ -24,6 +24,7 @@ use Rattle.script.specs.declared.records.Place.{Place}
 use Rattle.pieces.proofs.BehindLaws.{front_begins, front_behind, front_is, one_front, begins-is, behind-some, behind-none}
 use Rattle.script.specs.declared.refusals.Reason.{Reason}
 use Rattle.script.specs.declared.refusals.Reason.TheVariants.{MatcherNumberUnreadable}
+use Rattle.pieces.proofs.BehindLaws.{byte_fits}
 
 -- A number that was read, or the refusal, is what the definition makes of it.
 numbered-ok : (case : ℤ → Matcher) (o : Option ℤ) (z : ℤ) → ok_or o MatcherNumberUnreadable ≡ Ok z → Ok (case z) ≡ numbered case o
@@ -104,3 +105,5 @@ module _ (text : List ℕ) (s : Span) where
       )
 
 pub ruleset signs = (greater_or_equal, greater_than, less_or_equal, less_than)
+
+pub ruleset matcher_laws = (byte_fits, number_read, number-bad, exact, greater_or_equal, greater_than, less_or_equal, less_than)

@@ -12,6 +12,7 @@ use script::refusals::Reason;
 use text::parts::Span;
 
 // The place of a piece: 0 and 0 where it is empty.
+#[tactic(auto, unfolding(script::specs::Pieces::place, script::specs::Pieces::place_of))]
 pub fn place_of(p: Span) -> Place
     requires { p.start ≤ p.end }
     ensures { result ≡ place p }
@@ -33,6 +34,7 @@ fn number_behind(s: Piece<'_>, n: usize) -> Result<i64, Reason>
 }
 
 // A matcher that begins with `/`: a pattern where it ends so too and is more than that one sign.
+#[tactic(auto, using(crate::proofs::MatcherLaws::not_closed, crate::proofs::MatcherLaws::one_slash, crate::proofs::MatcherLaws::closed))]
 fn slashed(s: Piece<'_>) -> Result<Matcher, Reason>
     requires { get_or (bytes s.text.now s.at) 0 0 ≡ 47 }
     ensures { result ≡ matcher s.entry.text.now s.entry.at }
@@ -50,6 +52,7 @@ fn slashed(s: Piece<'_>) -> Result<Matcher, Reason>
     Ok(Matcher::Regex(place_of(inner)))
 }
 
+#[tactic(auto, using(crate::proofs::MatcherLaws::matcher_laws))]
 pub fn matcher(s: Piece<'_>) -> Result<Matcher, Reason>
     ensures { result ≡ matcher s.entry.text.now s.entry.at }
 {

@@ -62,8 +62,8 @@ fn handshake_frame(e: Expect, v: Verdict) -> Frame
 
 // The message of an expectation, by what it is judged against.
 #[tactic(auto, unfolding(crate::specs::MessageFrames::message_frame))]
-pub fn message_frame(e: Expect, missing: bool, v: Verdict, h: Handed) -> Frame
-    ensures { result ≡ message_frame e missing v h }
+pub fn message_frame(e: Expect, missing: bool, v: Verdict, h: &Handed) -> Frame
+    ensures { result ≡ message_frame e missing v h.now }
 {
     match h {
         Handed::Info(_) => handshake_frame(e, v),

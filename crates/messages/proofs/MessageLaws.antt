@@ -22,6 +22,7 @@ use Rattle.frames.specs.declared.frames.Ending.{Ending}
 use Rattle.frames.specs.declared.frames.Ending.TheVariants as endings
 use Rattle.frames.specs.declared.frames.Frame.{Frame}
 use Rattle.messages.specs.Lengths.{piece_length, ending_word, ending_value, frame_length}
+use Rattle.written.proofs.WriterLaws.{room_as, wrote_as, handed_at, handed_back}
 
 -- ---- rooms
 
@@ -177,3 +178,5 @@ module _ (text bytes value : List ℕ) (f : Frame) where
             pub frame_wrote : (z : Writer ℕ) → z ≡ wrote (ending_bytes value f.ending) y → z ≡ wrote (frame_bytes text bytes value f) w
             unfolding frame_bytes
             frame_wrote = wrote_behind four w y so₄ (ending_bytes value f.ending) (frame_bytes text bytes value f) refl room
+
+pub ruleset put_frame_laws = (room_as, wrote_as, handed_at, handed_back, head_room, text_room, middle_room, piece_room, ending_room, frame_wrote)

@@ -10,6 +10,7 @@ use texts::text_at;
 use writing::room::less;
 
 // The value has len bytes.
+#[tactic(auto, using(crate::proofs::MessageLaws::less_same), unfolding(crate::specs::Lengths::piece_length))]
 pub fn less_piece(
     room: Option<usize>,
     p: Piece,
@@ -29,6 +30,7 @@ pub fn less_piece(
 }
 
 // The word of an ending, then the value.
+#[tactic(auto, using(crate::proofs::MessageLaws::ending_off), unfolding(crate::specs::Lengths::ending_word, crate::specs::Lengths::ending_value))]
 pub fn less_ending(room: Option<usize>, e: Ending, len: usize) -> Option<usize>
     ensures { result ≡ less_by (less_by room (ending_word e)) (ending_value len e) }
 {
@@ -39,6 +41,7 @@ pub fn less_ending(room: Option<usize>, e: Ending, len: usize) -> Option<usize>
     }
 }
 
+#[tactic(auto, using(crate::proofs::MessageLaws::less_same, crate::proofs::MessageLaws::six_off), unfolding(crate::specs::Lengths::frame_length))]
 pub fn frame_room(f: Frame, text: &[u8], bytes: &[u8], len: usize, room: usize) -> Option<usize>
     ensures { result ≡ left room (frame_length text.now bytes.now len f) }
 {

@@ -44,6 +44,7 @@ fn put_ending(e: Ending, value: &[u8], w: &mut Writer<u8>)
 }
 
 // A whole message at the start of a buffer that is long enough.
+#[tactic(auto, using(crate::proofs::MessageLaws::put_frame_laws))]
 pub fn put_frame(f: Frame, text: &[u8], bytes: &[u8], value: &[u8], out: &mut [u8]) -> usize
     requires { length (frame_bytes text.now bytes.now value.now f) ≤ length out.old }
     ensures value { result ≡ length (frame_bytes text.now bytes.now value.now f) }

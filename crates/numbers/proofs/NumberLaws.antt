@@ -129,9 +129,9 @@ stamp_four (Some t) = refl
 pub stamp_by : (s x : Option Time) → s ≡ x → (r : List ℕ) → r ≡ stamp_numbers x → r ≡ stamp_numbers s
 stamp_by s x e r h = h ∙ ap stamp_numbers (sym e)
 
-pub stamp-at : (s : Option Time) (t : Time) (k l : ℕ) → s ≡ Some t → k ≡ flag t.negative → l ≡ unsigned t.decimals → 1 ∷ k ∷ t.digits ∷ l ∷ [] ≡ stamp_numbers s
+pub stamp_at : (s : Option Time) (t : Time) (k l : ℕ) → s ≡ Some t → k ≡ flag t.negative → l ≡ unsigned t.decimals → 1 ∷ k ∷ t.digits ∷ l ∷ [] ≡ stamp_numbers s
 unfolding stamp_numbers
-stamp-at s t k l e p q = rw (e, p, q)
+stamp_at s t k l e p q = rw (e, p, q)
 
 call_sixteen : (c : OpCall) → length (call_numbers c) ≡ 16
 unfolding call_numbers
@@ -196,9 +196,9 @@ expect_six (ServerFeatures m) = ap (λ (n : ℕ). suc (suc (suc n))) (matcher_th
 pub expect_by : (e x : Expect) → e ≡ x → (r : List ℕ) → r ≡ expect_numbers x → r ≡ expect_numbers e
 expect_by e x q r h = h ∙ ap expect_numbers (sym q)
 
-pub expectation-is : (x : Expectation) (n : List ℕ) → n ≡ expect_numbers x.expect → x.line ∷ spread 0 6 n ≡ expectation_numbers x
+pub expectation_is : (x : Expectation) (n : List ℕ) → n ≡ expect_numbers x.expect → x.line ∷ spread 0 6 n ≡ expectation_numbers x
 unfolding expectation_numbers
-expectation-is x n e = ap (λ (l : List ℕ). x.line ∷ l) (spread-is 6 n (expect_numbers x.expect) e (expect_six x.expect))
+expectation_is x n e = ap (λ (l : List ℕ). x.line ∷ l) (spread-is 6 n (expect_numbers x.expect) e (expect_six x.expect))
 
 pub expectation_count : (x : Expectation) → length (expectation_numbers x) ≡ 7
 unfolding expectation_numbers

@@ -9,6 +9,7 @@ use call_fields::{
 };
 use script::records::{Entry, OpCall, Time};
 
+#[tactic(auto, using(crate::proofs::NumberLaws::stamp_by, crate::proofs::NumberLaws::stamp_at), unfolding(crate::specs::Numbers::stamp_numbers))]
 fn stamp_numbers(s: Option<Time>) -> [u64; 4]
     ensures { result ≡ stamp_numbers s }
 {
@@ -110,6 +111,7 @@ pub fn call_numbers(c: OpCall) -> [u64; 16]
 }
 
 // What stands in front of the call: the line, the timestamp, the range of expectations.
+#[tactic(auto, using(crate::proofs::NumberLaws::head_is), unfolding(call_fields::specs::CallFields::items_numbers))]
 pub fn entry_head(e: Entry) -> [u64; 7]
     ensures { result ≡ entry_head e }
 {

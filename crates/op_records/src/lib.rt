@@ -1,21 +1,19 @@
 // The record of an entry's operation, from its line, from what was said below it, and from how many items and bytes that takes.
 #![tactic(auto)]
 
-ghost use Rattle.std.specs.Prelude.{◌≡◌, ◌+◌, ◌<◌};
+ghost use Rattle.std.specs.Prelude.{◌≡◌};
 ghost use Rattle.script.specs.Operations.{form_of};
 ghost use Rattle.script.specs.Contents.{rest_of};
-ghost use Rattle.script.specs.Inside.{In};
 ghost use Rattle.said.specs.Said.{said_of};
 ghost use Rattle.records.specs.Records.{root_record, record_of};
 
 use matchers::matchers::place_of;
 use option_records::{garbage_call, options_of, verify_call};
 use pieces::pieces::Piece;
-use records::calls::{Sizes, framed_of, placed, range_of};
-use said::said::Said;
+use records::calls::{Share, framed_of, placed, range_of};
+use said::said::Operation;
 use script::records::OpCall;
 use store_records::{multiple_call, store_call, texts_call};
-use text::parts::Span;
 use wire::ops::Op;
 
 // What stands behind a path set, trimmed; the piece itself where its brace is not closed.
@@ -46,22 +44,21 @@ fn root_call(args: Piece<'_>) -> OpCall
     }
 }
 
-// The record of an entry's operation, behind i items and b bytes of the store.
+// The record of an entry's operation.
 #[tactic(auto, using(text::proofs::LiteralLaws::spells_as), unfolding(script::specs::Operations::form_of, script::specs::Pieces::is, records::specs::Records::record_of))]
-pub fn call_of(op: Op, args: Span, said: Said<'_>, i: usize, b: usize, z: Sizes) -> OpCall
-    requires fact { In said.text.now args }
-    requires second_bound { b + z.first + z.second < 0x1_0000_0000_0000_0000 }
-    ensures { result ≡ record_of said.entry.text.now (form_of op).shape op args (said_of said.entry.heard.now) i b z }
+pub fn call_of(operation: Operation<'_>, share: Share) -> OpCall
+    ensures { result ≡ record_of operation.entry.said.text.now (form_of operation.entry.opening.op).shape operation.entry.opening.op operation.entry.opening.args (said_of operation.entry.said.heard.now) share.items_before share.bytes_before share.sizes }
 {
-    let args = Piece {
-        text: said.text,
-        at: args,
-    };
+    let op = operation.opening.op;
+    let args = operation.args();
+    let said = operation.said;
+    let b = share.bytes_before;
+    let z = share.sizes;
     let path = place_of(args.at);
-    let items = range_of(i, z.items);
+    let items = range_of(share.items_before, z.items);
     match op {
-        Op::AddToStore => store_call(said, i, b, z),
-        Op::AddTextToStore => texts_call(i, b, z),
+        Op::AddToStore => store_call(said, share),
+        Op::AddTextToStore => texts_call(share),
         Op::SetOptions => OpCall::SetOptions(options_of(said, items)),
         Op::CollectGarbage => garbage_call(said, items),
         Op::VerifyStore => verify_call(said),

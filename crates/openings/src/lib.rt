@@ -15,6 +15,7 @@ use script::roles::{Opening, Role, Stamped, Step, Takes, Where};
 use wire::ops::Op;
 
 // The timestamp that stands in the piece before its n-th byte, where `ms` stands; what follows is trimmed.
+#[tactic(auto, unfolding(script::specs::Timestamps::with_time, script::specs::Timestamps::stamped_at))]
 fn stamp_before(p: Piece<'_>, n: usize) -> Result<Stamped, Reason>
     requires { p.at.start + n + 2 ≤ p.at.end }
     ensures result_value { result ≡ stamped_at p.entry.text.now p.entry.at (Some n) }
@@ -28,6 +29,7 @@ fn stamp_before(p: Piece<'_>, n: usize) -> Result<Stamped, Reason>
 }
 
 // A timestamp stands between `@` and the first `ms`.
+#[tactic(auto, using(crate::proofs::StampedLaws::walk))]
 pub fn stamped(p: Piece<'_>) -> Result<Stamped, Reason>
     ensures result_value { result ≡ definition.stamped p.entry.text.now p.entry.at }
     ensures rest_in { RestIn p.entry.text.now result }
@@ -55,6 +57,7 @@ pub fn not_closed(p: Piece<'_>) -> bool
 }
 
 // The path set on the line of an operation that has one there: all that stands behind its name, or behind the first blank of that.
+#[tactic(auto, unfolding(script::specs::Operations::form_of, script::specs::Roles::set_on))]
 pub fn set_on<'a>(op: Op, args: Piece<'a>) -> Option<Piece<'a>>
     ensures value { option_map (λ p. p.at) result ≡ set_on args.entry.text.now (form_of op).syntax args.entry.at }
     ensures text { IfSome result (λ p. p.text ≡ args.entry.text) }
@@ -72,6 +75,7 @@ pub fn set_on<'a>(op: Op, args: Piece<'a>) -> Option<Piece<'a>>
 }
 
 // Whether the operation has a path set behind its name whose brace is not closed.
+#[tactic(auto, unfolding(script::specs::Roles::open_on))]
 fn set_open(op: Op, args: Piece<'_>) -> bool
     ensures { result ≡ open_on args.entry.text.now (set_on args.entry.text.now (form_of op).syntax args.entry.at) }
 {
@@ -82,6 +86,7 @@ fn set_open(op: Op, args: Piece<'_>) -> bool
 }
 
 // The operation's name ends at the first blank; what follows is trimmed.
+#[tactic(auto, unfolding(script::specs::Roles::with_name, script::specs::Roles::with_stamp))]
 fn named_role(stamp: Option<Time>, rest: Piece<'_>) -> Role
     ensures { result ≡ with_stamp rest.entry.text.now (Ok (stamped_as stamp rest.entry.at)) }
 {
@@ -101,6 +106,7 @@ fn named_role(stamp: Option<Time>, rest: Piece<'_>) -> Role
 }
 
 // What a line is that opens an entry.
+#[tactic(auto, unfolding(script::specs::Roles::with_stamp, script::specs::Roles::opening_role))]
 pub fn opening_role(t: Piece<'_>) -> Role
     ensures { result ≡ opening_role t.entry.text.now t.entry.at }
 {
@@ -117,6 +123,7 @@ pub fn opening_role(t: Piece<'_>) -> Role
 }
 
 // Which lines below an operation are its arguments.
+#[tactic(auto, unfolding(script::specs::Operations::form_of))]
 pub fn takes_of(op: Op) -> Takes
     ensures { result ≡ (form_of op).takes }
 {
@@ -145,6 +152,7 @@ pub fn stands_below(takes: Takes) -> Where
 }
 
 // Whether the line does not open an entry: it is blank, or begins with `#` but not `# nwscript`.
+#[tactic(auto, using(crate::proofs::IsSkippedLaws::walk))]
 pub fn is_skipped(t: Piece<'_>) -> bool
     ensures { result ≡ skipped t.entry.text.now t.entry.at }
 {
@@ -171,6 +179,7 @@ fn after_opening(role: Role) -> Where
 }
 
 // A line that opens an entry, and where the next one stands.
+#[tactic(auto, unfolding(crate::specs::OpeningRead::opening_step))]
 pub fn opening_step(t: Piece<'_>) -> Step
     ensures { result ≡ opening_step t.entry.text.now t.entry.at }
 {

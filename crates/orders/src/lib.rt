@@ -16,6 +16,7 @@ pub enum Order {
     LessOrEqual,
 }
 
+#[tactic(auto, unfolding(verdicts::specs::Decisions::passed_if))]
 pub fn passed_if(b: bool) -> Verdict
     ensures { result ≡ passed_if b }
 {
@@ -38,6 +39,7 @@ impl From<u8> for Order {
 }
 
 // Whether the number v passes.
+#[tactic(auto, unfolding(crate::specs::Orders::holding))]
 fn holds(order: Order, n: i64, v: i64) -> bool
     ensures { result ≡ holding order n v }
 {
@@ -50,6 +52,7 @@ fn holds(order: Order, n: i64, v: i64) -> bool
 }
 
 // A value that is no i64 fails.
+#[tactic(auto, unfolding(crate::specs::Orders::matching, verdicts::specs::Decisions::decides, crate::specs::Orders::holding, verdicts::specs::Decisions::ordered))]
 pub fn compare(order: Order, n: i64, value: &[u8]) -> Verdict
     ensures { result ≡ decides (matching order n) value.now }
 {

@@ -7,12 +7,14 @@ ghost use Rattle.script.specs.declared.roles.Where.TheVariants as Stands;
 ghost use Rattle.measuring.specs.Measure.{preamble_open, zeros, walk_from};
 
 use kept::Kept;
+use lines::lines::Lines;
 use measuring::What;
 use script::records::{Counts, Refusal};
 use script::refusals::Reason;
 use script::roles::{Role, Where};
 
 // One line after another; the first refused line is the answer. What each line is is kept.
+#[tactic(auto, using(crate::proofs::WalkLaws::line_in))]
 pub fn walk(text: &[u8], kept: &mut [Option<Kept>]) -> Result<Counts, Refusal>
     requires text_len_bound { length text.now ≤ 0x8000 }
     requires memo { Memo text.now kept.old }
@@ -27,15 +29,11 @@ pub fn walk(text: &[u8], kept: &mut [Option<Kept>]) -> Result<Counts, Refusal>
     };
     let mut o = totals::begin(What::ThePreamble, 0);
     let mut w = Where::InPreamble;
-    let mut at: usize = 0;
-    let mut number: usize = 1;
-    // No `for`: where the next line begins is found with the line.
-    while at < text.len() {
-        let l = lines::lines::line_at(text, at, number);
+    for l in Lines::new(text) {
         let step = roles::steps::step(text, w, l);
         let role = step.role;
         let next = step.next;
-        kept::keep(kept, number, at, w, l.next, step);
+        kept::keep(kept, l.number, l.start, w, l.next, step);
         match role {
             Role::Nothing => {}
             Role::Says(s) => o = totals::say_on(text, o, s),
@@ -47,13 +45,11 @@ pub fn walk(text: &[u8], kept: &mut [Option<Kept>]) -> Result<Counts, Refusal>
             Role::Bad(reason) => {
                 return Err(Refusal {
                     reason,
-                    line: number,
+                    line: l.number,
                 });
             }
         }
         w = roles::steps::same_place(next);
-        at = l.next;
-        number += 1;
     }
     Ok(totals::close_on(t, o))
 }

@@ -1,4 +1,5 @@
-// Pieces of the text: spans of places that lie inside it.
+// Pieces of the text: spans of places that lie inside it. A piece is four words and goes through memory to a call, so that the methods asked of every line
+// always stand in their callers.
 ghost use Rattle.std.specs.Prelude.{◌≡◌, true, ◌+◌, ◌≤◌, ◌<◌, length, get_or, option_map, IfSome};
 ghost use Rattle.text.specs.Parts.{span, starts_with, same_bytes, ends_with, position};
 ghost use Rattle.script.specs.Pieces.{bytes, trim, is_empty, cut, cut_into, cut_or};
@@ -16,6 +17,7 @@ pub struct Piece<'a> {
 
 impl<'a> Piece<'a> {
     // The bytes that the text has there.
+    #[inline(always)]
     #[tactic(auto, unfolding(script::specs::Pieces::bytes))]
     pub fn bytes(self) -> &'a [u8]
         ensures { result.now ≡ bytes self.entry.text.now self.entry.at }
@@ -24,6 +26,7 @@ impl<'a> Piece<'a> {
     }
 
     // Whether nothing stands there.
+    #[inline(always)]
     #[tactic(auto, unfolding(script::specs::Pieces::is_empty))]
     pub fn is_empty(self) -> bool
         ensures { result ≡ is_empty self.entry.at }
@@ -32,6 +35,7 @@ impl<'a> Piece<'a> {
     }
 
     // The first byte, or 0 where the piece is empty.
+    #[inline(always)]
     pub fn first_byte(self) -> u8
         ensures { result ≡ get_or (bytes self.entry.text.now self.entry.at) 0 0 }
     {
@@ -39,6 +43,7 @@ impl<'a> Piece<'a> {
     }
 
     // Whether the piece begins with the word.
+    #[inline(always)]
     #[tactic(auto, using(crate::proofs::PieceLaws::word_fits))]
     pub fn starts_with(self, word: &[u8]) -> bool
         ensures value { result ≡ starts_with word.now (bytes self.entry.text.now self.entry.at) }
@@ -48,6 +53,7 @@ impl<'a> Piece<'a> {
     }
 
     // Whether the piece is the word.
+    #[inline(always)]
     pub fn is_word(self, word: &[u8]) -> bool
         ensures { result ≡ same_bytes (bytes self.entry.text.now self.entry.at) word.now }
     {
@@ -55,6 +61,7 @@ impl<'a> Piece<'a> {
     }
 
     // Whether its last byte is b.
+    #[inline(always)]
     pub fn ends_with(self, b: u8) -> bool
         ensures { result ≡ ends_with (bytes self.entry.text.now self.entry.at) b }
     {
@@ -70,6 +77,7 @@ impl<'a> Piece<'a> {
     }
 
     // Its first n bytes.
+    #[inline(always)]
     pub fn front(self, n: usize) -> Piece<'a>
         requires { self.at.start + n ≤ self.at.end }
         ensures text { result.text ≡ self.entry.text }
@@ -85,6 +93,7 @@ impl<'a> Piece<'a> {
     }
 
     // What stands behind its first n bytes.
+    #[inline(always)]
     pub fn behind(self, n: usize) -> Piece<'a>
         requires { self.at.start + n ≤ self.at.end }
         ensures text { result.text ≡ self.entry.text }
@@ -100,6 +109,7 @@ impl<'a> Piece<'a> {
     }
 
     // The piece without the White_Space at both ends.
+    #[inline(always)]
     #[tactic(auto, using(crate::proofs::PieceLaws::trim_is, crate::proofs::PieceLaws::trim_in, crate::proofs::PieceLaws::trim_end))]
     pub fn trimmed(self) -> Piece<'a>
         ensures text { result.text ≡ self.entry.text }
@@ -128,6 +138,7 @@ impl<'a> Piece<'a> {
     }
 
     // The piece cut at the first b. Where there is none, all stands before it.
+    #[tactic(auto, using(crate::proofs::CutLaws::all_before, crate::proofs::CutLaws::parted))]
     pub fn cut_or(self, b: u8) -> (Piece<'a>, Piece<'a>)
         ensures value { cut_into result.0.at result.1.at ≡ cut_or self.entry.text.now b self.entry.at }
         ensures before { result.0.text ≡ self.entry.text }

@@ -6,7 +6,7 @@ ghost use Rattle.verdicts.specs.Held as Held;
 
 use script::records::{Expect, Matcher, Place};
 
-// A part of n bytes, or of n records.
+// A part of n bytes, or of n records. By two numbers, which a place, a range and an item of a table, three types, come to.
 #[tactic(auto, unfolding(verdicts::specs::Held::inside))]
 pub fn inside(n: usize, start: usize, len: usize) -> bool
     ensures { result ≡ Held.inside n start len }

@@ -5,11 +5,12 @@ ghost use Rattle.script.specs.Pieces.{bytes};
 ghost use Rattle.script.specs.Roles.{version_role, word_role, preamble_expect, preamble_role, preamble_step};
 
 use pieces::pieces::Piece;
-use remarks::{comment_role, is_remark};
+use remarks::comment_role;
 use script::refusals::Reason;
 use script::roles::{Key, Role, Saying, Step, Where};
 
 // A version that cannot be read leaves the version so far.
+#[tactic(auto, using(remarks::proofs::PreambleLaws::version_read, remarks::proofs::PreambleLaws::version_bad))]
 fn version_role(v: Piece<'_>) -> Role
     ensures { result ≡ version_role (version (bytes v.entry.text.now v.entry.at)) v.entry.at }
 {
@@ -20,6 +21,7 @@ fn version_role(v: Piece<'_>) -> Role
 }
 
 // `protocol: version`
+#[tactic(auto, using(remarks::proofs::PreambleLaws::protocol_words))]
 fn on_protocol(t: Piece<'_>) -> Role
     requires { get_or (bytes t.text.now t.at) 0 0 ≡ 112 }
     ensures { result ≡ word_role t.entry.text.now t.entry.at }
@@ -31,6 +33,7 @@ fn on_protocol(t: Piece<'_>) -> Role
 }
 
 // `protocol: version`, or `features: names`
+#[tactic(auto, using(remarks::proofs::PreambleLaws::preamble_words))]
 fn word_role(t: Piece<'_>) -> Role
     ensures { result ≡ word_role t.entry.text.now t.entry.at }
 {
@@ -48,6 +51,7 @@ fn word_role(t: Piece<'_>) -> Role
 }
 
 // In the preamble a blank or a colon follows `expect`.
+#[tactic(auto, using(remarks::proofs::PreambleLaws::expect_blank, remarks::proofs::PreambleLaws::expect_colon, remarks::proofs::PreambleLaws::expect_other))]
 fn preamble_expect(t: Piece<'_>) -> Role
     ensures { result ≡ preamble_expect t.entry.text.now t.entry.at }
 {
@@ -61,6 +65,7 @@ fn preamble_expect(t: Piece<'_>) -> Role
 }
 
 // What a line of the preamble is. One that begins with `e` is an expectation or of no known form.
+#[tactic(auto, using(remarks::proofs::PreambleLaws::preamble_lines))]
 fn preamble_role(t: Piece<'_>) -> Role
     ensures { result ≡ preamble_role t.entry.text.now t.entry.at }
 {
@@ -75,6 +80,7 @@ fn preamble_role(t: Piece<'_>) -> Role
 }
 
 // What a line is that stands in the preamble, and where the next one stands; `t` is the line, trimmed.
+#[tactic(auto, using(remarks::proofs::PreambleLaws::step_over, remarks::proofs::PreambleLaws::step_inside))]
 pub fn preamble_step(t: Piece<'_>) -> Step
     ensures { result ≡ preamble_step t.entry.text.now t.entry.at }
 {
@@ -82,12 +88,6 @@ pub fn preamble_step(t: Piece<'_>) -> Step
         return Step {
             role: Role::Nothing,
             next: Where::Outside,
-        };
-    }
-    if is_remark(t) {
-        return Step {
-            role: Role::Nothing,
-            next: Where::InPreamble,
         };
     }
     Step {

@@ -36,6 +36,7 @@ pub fn put_header(s: Script, w: &mut Writer<u8>)
 }
 
 // Writes the line of an entry.
+#[tactic(auto, using(crate::proofs::PutLaws::code_room, crate::proofs::PutLaws::count_room, crate::proofs::PutLaws::entry_end, crate::proofs::PutLaws::entry_put))]
 pub fn put_entry_line(e: Entry, w: &mut Writer<u8>)
     requires { Room line_room w.old }
     ensures written { w.new ≡ wrote (entry_line e) w.old }
@@ -48,6 +49,7 @@ pub fn put_entry_line(e: Entry, w: &mut Writer<u8>)
 }
 
 // Writes the line of a refusal.
+#[tactic(auto, using(crate::proofs::PutLaws::place_room, crate::proofs::PutLaws::refusal_end, crate::proofs::PutLaws::refusal_put))]
 pub fn put_refusal(q: Refusal, w: &mut Writer<u8>)
     requires { Room refusal_room w.old }
     ensures written { w.new ≡ wrote (refusal_line q) w.old }

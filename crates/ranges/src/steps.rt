@@ -23,7 +23,7 @@ pub struct Step {
     pub answer: Result<Answer, Refusal>,
 }
 
-// The first refusal that applies, if one does. So many entries can be judged.
+// The first refusal that applies, if one does; `entries`: so many can be judged.
 #[tactic(auto, unfolding(judging::specs::Judge::refusal_on, judging::specs::Judge::range_refusals, judging::specs::Judge::out_of_reach, judging::specs::Judge::range_outside, judging::specs::Judge::few_slots, judging::specs::Judge::records_in, judging::specs::Judge::said_by, judging::specs::Calls::part_outside, tallies::specs::Answers::first_refusal, tallies::specs::Answers::refused_if, script::specs::Refusals::ok_unless))]
 pub fn refusal_of(
     next: usize,
@@ -38,7 +38,7 @@ pub fn refusal_of(
     places: usize,
     room: usize,
 ) -> Result<(), Refusal>
-    ensures { result ≡ ok_unless (refusal_on (lent_of text.now script [] expectations.now) (ltb entries number) r next counts places (asked_of number s.entry.handed s.entry.held.bytes.now s.entry.held.lists.now room)) }
+    ensures { result ≡ ok_unless (refusal_on (lent_of text.now script [] expectations.now) (ltb entries number) r next counts places (asked_of number s.entry.handed.now s.entry.held.bytes.now s.entry.held.lists.now room)) }
 {
     if counts.over_limit() {
         return Err(Refusal::from(Reason::CountTooHigh));
@@ -46,6 +46,7 @@ pub fn refusal_of(
     if wrong_number(next, number, entries, s.handed) {
         return Err(Refusal::from(Reason::WrongNumber));
     }
+    // What there is of the range, which may be forged: no sum of its numbers is made.
     let judged = part_of(expectations, r.first, r.count);
     if range_outside(script.counts.expectations, expectations.len(), r) || !all_in(text, judged) {
         return Err(Refusal::from(Reason::ExpectationOutside));
@@ -62,7 +63,7 @@ pub fn refusal_of(
     Ok(())
 }
 
-// The judging of a range.
+// The judging of a range. Verdicts and scratch are two slices and no struct: of the first only the range's slots are handed on, of the second all.
 #[tactic(auto, unfolding(judging::specs::Judge::judged_on, judging::specs::Judge::judged_by, judging::specs::Judge::said_by, judging::specs::Judge::records_in, judging::specs::Calls::judged_or, judging::specs::Scratch::scratch_on, judging::specs::Scratch::overwritten_or, script::specs::Refusals::ok_unless))]
 pub fn judge_on(
     next: usize,
@@ -78,8 +79,8 @@ pub fn judge_on(
     scratch: &mut [u8],
 ) -> Step
     requires { entries ≤ 0x8000 }
-    ensures verdicts_after { stepped result verdicts.new ≡ judged_on (lent_of text.now script [] expectations.now) (ltb entries number) r (record { next = next; counts = counts; verdicts = verdicts.old }) (asked_of number s.entry.handed s.entry.held.bytes.now s.entry.held.lists.now (length scratch.old)) }
-    ensures scratch_after { scratch.new ≡ scratch_on (lent_of text.now script [] expectations.now) (ltb entries number) r (record { next = next; counts = counts; verdicts = verdicts.old }) (asked_of number s.entry.handed s.entry.held.bytes.now s.entry.held.lists.now (length scratch.old)) scratch.old }
+    ensures verdicts_after { stepped result verdicts.new ≡ judged_on (lent_of text.now script [] expectations.now) (ltb entries number) r (record { next = next; counts = counts; verdicts = verdicts.old }) (asked_of number s.entry.handed.now s.entry.held.bytes.now s.entry.held.lists.now (length scratch.old)) }
+    ensures scratch_after { scratch.new ≡ scratch_on (lent_of text.now script [] expectations.now) (ltb entries number) r (record { next = next; counts = counts; verdicts = verdicts.old }) (asked_of number s.entry.handed.now s.entry.held.bytes.now s.entry.held.lists.now (length scratch.old)) scratch.old }
 {
     let tried = refusal_of(
         next,
@@ -102,7 +103,7 @@ pub fn judge_on(
         };
     }
     let judged = part_of(expectations, r.first, r.count);
-    // An empty range may begin anywhere.
+    // An empty range may begin anywhere, also past the slots.
     let first = r.first.min(verdicts.len());
     let after = judge_range(text, judged, s, &mut verdicts[first..], scratch, counts);
     Step {

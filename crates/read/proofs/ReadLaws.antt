@@ -2,7 +2,8 @@
 use Prim.Native.Nat.{ℕ, ◌≤◌}
 use mathlib.Core.Path.{◌≡◌, refl, sym, ap, ◌∙◌}
 use mathlib.Core.Bool.{Bool, true, false, not}
-use mathlib.Core.List.{List, map}
+use mathlib.Core.List.{List, []}
+use denote.MutBor.{MutBor}
 use lib.Dec.{ltb}
 use lib.ListN.{length}
 use borrow.Author.Tests.{ltb-false}
@@ -14,7 +15,7 @@ use Rattle.script.specs.Answers.{first_of}
 use Rattle.script.specs.Values.{plain_rules}
 use Rattle.script.specs.Roles.{roles}
 use Rattle.script.specs.Contents.{ScriptContents, contents}
-use Rattle.script.specs.Layout.{Reading, laid_script}
+use Rattle.script.specs.Layout.{Reading, Tables, laid_script}
 use Rattle.script.specs.Reading.{first_refused, read_marked, read_by, parsed_by, parsed, measured, room, too_few, fitted, read_into, Parsed}
 use Rattle.script.specs.Refusals.{refusal, ok_unless}
 use Rattle.script.specs.declared.records.Counts.{Counts}
@@ -23,9 +24,9 @@ use Rattle.script.specs.declared.records.Expectation.{Expectation}
 use Rattle.script.specs.declared.records.Refusal.{Refusal}
 use Rattle.script.specs.declared.records.Script.{Script}
 use Rattle.written.specs.Written.{written_at}
-use Rattle.tables.specs.Items.{item_of}
-use Rattle.fits.proofs.FitLaws.{room_within, room_limit}
-use Rattle.read.specs.Read.{script_or, tables_or}
+use Rattle.written.proofs.WrittenLaws.{written_none}
+use Rattle.fits.proofs.FitLaws.{room_within}
+use Rattle.read.specs.Read.{script_or, tables_or, lent_of}
 use Rattle.entries.specs.Whole.{reading_of}
 use Rattle.fits.specs.Fits.{shortage}
 use Rattle.script.specs.declared.refusals.Reason.TheVariants.{FewEntries, FewExpectations, FewItems, FewStoreBytes, NotUtf8, TextTooLong}
@@ -35,13 +36,38 @@ pub fitting : Reading → Option Refusal → Parsed Reading
 fitting r None = Ok r
 fitting r (Some q) = Err q
 
+is_none : Option Refusal → Bool
+is_none None = true
+is_none (Some q) = false
+
 module _ (lent : Counts) (r : Reading) where
   abbrev needed : Counts
   needed = r.script.counts
 
-  fitted-is : fitted lent r ≡ fitting r (shortage lent needed)
+  -- it is refused by the first table that is too short; where none is, there is room
+  pub record Fitted : Type 0 where
+    pub answers : fitted lent r ≡ fitting r (shortage lent needed)
+    pub entries : None ≡ shortage lent needed → needed.entries ≤ room lent.entries
+    pub items : None ≡ shortage lent needed → needed.items ≤ room lent.items
+    pub expectations : None ≡ shortage lent needed → needed.expectations ≤ room lent.expectations
+    pub store : None ≡ shortage lent needed → needed.store ≤ lent.store
+
+  -- one is too short
+  short : (q : Refusal) → Some q ≡ shortage lent needed → fitted lent r ≡ fitting r (Some q) → Fitted
+  unfolding is_none
+  short q e f =
+      let no : None ≡ shortage lent needed → ⊥ = λ k. never (ap is_none (k ∙ sym e)) in
+      record {
+        answers = f ∙ ap (fitting r) e;
+        entries = λ k. absurd (no k);
+        items = λ k. absurd (no k);
+        expectations = λ k. absurd (no k);
+        store = λ k. absurd (no k);
+      }
+
+  pub fits : Fitted
   unfolding fitted shortage too_few first_of fitting
-  fitted-is =
+  fits =
       go
       (ltb (room lent.entries) needed.entries)
       (ltb (room lent.items) needed.items)
@@ -53,46 +79,13 @@ module _ (lent : Counts) (r : Reading) where
       refl
     where
       go : (a b c d : Bool) → ltb (room lent.entries) needed.entries ≡ a → ltb (room lent.items) needed.items ≡ b → ltb (room lent.expectations) needed.expectations ≡ c
-          → ltb lent.store needed.store ≡ d → fitted lent r ≡ fitting r (shortage lent needed)
-      go true b c d p q s t = rw p
-      go false true c d p q s t = rw (p, q)
-      go false false true d p q s t = rw (p, q, s)
-      go false false false true p q s t = rw (p, q, s, t)
-      go false false false false p q s t = rw (p, q, s, t)
-
-is_none : Option Refusal → Bool
-is_none None = true
-is_none (Some q) = false
-
--- where none is too short there is room
-pub record Enough-for (lent needed : Counts) : Type 0 where
-  pub entries : needed.entries ≤ room lent.entries
-  pub items : needed.items ≤ room lent.items
-  pub expectations : needed.expectations ≤ room lent.expectations
-  pub store : needed.store ≤ lent.store
-
-pub enough_for : (lent needed : Counts) → None ≡ shortage lent needed → Enough-for lent needed
-unfolding shortage is_none
-enough_for lent needed h =
-    go
-    (ltb (room lent.entries) needed.entries)
-    (ltb (room lent.items) needed.items)
-    (ltb (room lent.expectations) needed.expectations)
-    (ltb lent.store needed.store)
-    refl
-    refl
-    refl
-    refl
-    h
-  where
-    go : (a b c d : Bool) → ltb (room lent.entries) needed.entries ≡ a → ltb (room lent.items) needed.items ≡ b → ltb (room lent.expectations) needed.expectations ≡ c
-        → ltb lent.store needed.store ≡ d
-        → None ≡ (if a then Some (refusal FewEntries 0) else if b then Some (refusal FewItems 0) else if c then Some (refusal FewExpectations 0) else if d then Some (refusal FewStoreBytes 0) else None) → Enough-for lent needed
-    go true b c d p q s t k = never (ap is_none k)
-    go false true c d p q s t k = never (ap is_none k)
-    go false false true d p q s t k = never (ap is_none k)
-    go false false false true p q s t k = never (ap is_none k)
-    go false false false false p q s t k = record { entries = ltb-false _ _ p; items = ltb-false _ _ q; expectations = ltb-false _ _ s; store = ltb-false _ _ t }
+          → ltb lent.store needed.store ≡ d → Fitted
+      go true b c d p q s t = short (refusal FewEntries 0) (rw p) (rw p)
+      go false true c d p q s t = short (refusal FewItems 0) (rw (p, q)) (rw (p, q))
+      go false false true d p q s t = short (refusal FewExpectations 0) (rw (p, q, s)) (rw (p, q, s))
+      go false false false true p q s t = short (refusal FewStoreBytes 0) (rw (p, q, s, t)) (rw (p, q, s, t))
+      go false false false false p q s t =
+          record { answers = rw (p, q, s, t); entries = λ k. ltb-false _ _ p; items = λ k. ltb-false _ _ q; expectations = λ k. ltb-false _ _ s; store = λ k. ltb-false _ _ t }
 
 is_short : (s : Option Refusal) (r : Refusal) → ok_unless s ≡ Err r → s ≡ Some r
 unfolding ok_unless
@@ -197,7 +190,7 @@ module _ (text : List ℕ) where
             record {
               short = ltb-false 0x8000 (length text) l;
               counted = counted;
-              reads = into_is lent ∙ ap (into_of lent) p ∙ fitted-is lent (reading_of text) ∙ ap (λ (n : Counts). fitting (reading_of text) (shortage lent n)) (sym counted);
+              reads = into_is lent ∙ ap (into_of lent) p ∙ (fits lent (reading_of text)).answers ∙ ap (λ (n : Counts). fitting (reading_of text) (shortage lent n)) (sym counted);
             }
 
 -- ---- what Read answers and writes
@@ -208,21 +201,10 @@ module _ (p : Parsed Reading) (r : Refusal) (e : p ≡ Err r) where
   unfolding script_or
   refused-answer = rw e
 
-  pub entries_as_was : (t : List Entry) → t ≡ written_at 0 (tables_or p).entries t
-  unfolding tables_or written_at
-  entries_as_was t = rw e
-
-  pub items_as_was : (t : List (List ℕ)) → t ≡ written_at 0 (map item_of (tables_or p).items) t
-  unfolding tables_or written_at
-  items_as_was t = rw e
-
-  pub expectations_as_was : (t : List Expectation) → t ≡ written_at 0 (tables_or p).expectations t
-  unfolding tables_or written_at
-  expectations_as_was t = rw e
-
-  pub store_as_was : (t : List ℕ) → t ≡ written_at 0 (tables_or p).store t
-  unfolding tables_or written_at
-  store_as_was t = rw e
+  -- nothing is written
+  pub as_was : {A : Type 0} (f : Tables → List A) (t : List A) → f (record { entries = []; items = []; expectations = []; store = [] }) ≡ [] → t ≡ written_at 0 (f (tables_or p)) t
+  unfolding tables_or
+  as_was f t n = rw (e, n) (sym (written_none 0 t))
 
 -- where it is read
 module _ (p : Parsed Reading) (R : Reading) (e : p ≡ Ok R) where
@@ -230,87 +212,55 @@ module _ (p : Parsed Reading) (R : Reading) (e : p ≡ Ok R) where
   unfolding script_or
   read_answer s f = rw (e, f)
 
-  tables-read : tables_or p ≡ R.tables
+  pub tables-read : R.tables ≡ tables_or p
   unfolding tables_or
   tables-read = rw e
 
-  pub entries-read : (t u : List Entry) → u ≡ written_at 0 R.tables.entries t → u ≡ written_at 0 (tables_or p).entries t
-  entries-read t u h = rw tables-read h
-
-  pub items-read : (t u : List (List ℕ)) → u ≡ written_at 0 (map item_of R.tables.items) t → u ≡ written_at 0 (map item_of (tables_or p).items) t
-  items-read t u h = rw tables-read h
-
-  pub expectations-read : (t u : List Expectation) → u ≡ written_at 0 R.tables.expectations t → u ≡ written_at 0 (tables_or p).expectations t
-  expectations-read t u h = rw tables-read h
-
-  pub store-read : (t u : List ℕ) → u ≡ written_at 0 R.tables.store t → u ≡ written_at 0 (tables_or p).store t
-  store-read t u h = rw tables-read h
+-- what is known once no table is too short
+pub record Enough (text : List ℕ) (entries : MutBor (List Entry)) (items : MutBor (List (List ℕ))) (expectations : MutBor (List Expectation)) (store : MutBor (List ℕ)) (c : Counts) : Type 0 where
+  pub short : length text ≤ 0x8000
+  pub counted : c ≡ (reading_of text).script.counts
+  pub reads : read_into (lent_of entries.now items.now expectations.now store.now) text ≡ Ok (reading_of text)
+  pub entries_room : length (reading_of text).tables.entries ≤ length entries.now
+  pub items_room : length (reading_of text).tables.items ≤ length items.now
+  pub expectations_room : length (reading_of text).tables.expectations ≤ length expectations.now
+  pub store_room : length (reading_of text).tables.store ≤ length store.now
 
 -- m is Measure's answer
 module _ (text : List ℕ) (lent : Counts) (m : Parsed Counts) (e : m ≡ measured text) where
   pub measure_refuses : (r : Refusal) → m ≡ Err r → read_into lent text ≡ Err r
   measure_refuses r q = refused-read text lent r (sym q ∙ e)
 
-  module _ (c : Counts) (q : m ≡ Ok c) where
+  -- f says whether the tables are long enough
+  module _ (c : Counts) (q : m ≡ Ok c) (f : Result ⊤ Refusal) (o : f ≡ ok_unless (shortage lent c)) where
     known : Readable text lent c
     known = readable text lent c (sym q ∙ e)
 
-    -- f says whether the tables are long enough
-    module _ (lent' : Counts) (l : lent' ≡ lent) (f : Result ⊤ Refusal) (o : f ≡ ok_unless (shortage lent' c)) where
-      pub short_refuses : (r : Refusal) → f ≡ Err r → read_into lent text ≡ Err r
-      unfolding fitting
-      short_refuses r b = known.reads ∙ ap (fitting (reading_of text)) (sym (ap (λ (n : Counts). shortage n c) l) ∙ is_short (shortage lent' c) r (sym o ∙ b))
+    pub short_refuses : (r : Refusal) → f ≡ Err r → read_into lent text ≡ Err r
+    unfolding fitting
+    short_refuses r b = known.reads ∙ ap (fitting (reading_of text)) (is_short (shortage lent c) r (sym o ∙ b))
 
-      module _ (u : ⊤) (b : f ≡ Ok u) where
-        none_short : None ≡ shortage lent c
-        none_short = sym (not_short (shortage lent' c) u (sym o ∙ b)) ∙ ap (λ (n : Counts). shortage n c) l
+    pub enough_reads : (u : ⊤) → f ≡ Ok u → None ≡ shortage lent c → read_into lent text ≡ Ok (reading_of text)
+    unfolding fitting
+    enough_reads u b n = known.reads ∙ ap (fitting (reading_of text)) (sym n)
 
-        pub enough_reads : read_into lent text ≡ Ok (reading_of text)
-        unfolding fitting
-        enough_reads = known.reads ∙ ap (fitting (reading_of text)) (sym none_short)
+module _ (text : List ℕ) (entries : MutBor (List Entry)) (items : MutBor (List (List ℕ))) (expectations : MutBor (List Expectation)) (store : MutBor (List ℕ)) where
+  abbrev room_lent : Counts
+  room_lent = lent_of entries.now items.now expectations.now store.now
 
-        pub text_short : length text ≤ 0x8000
-        text_short = known.short
-
-        pub counts_are : c ≡ (reading_of text).script.counts
-        counts_are = known.counted
-
-        there : Enough-for lent c
-        there = enough_for lent c none_short
-
-        entries_needed : c.entries ≡ length (reading_of text).tables.entries
-        unfolding reading_of laid_script
-        entries_needed = ap (λ (n : Counts). n.entries) counts_are
-
-        items_needed : c.items ≡ length (reading_of text).tables.items
-        unfolding reading_of laid_script
-        items_needed = ap (λ (n : Counts). n.items) counts_are
-
-        expectations_needed : c.expectations ≡ length (reading_of text).tables.expectations
-        unfolding reading_of laid_script
-        expectations_needed = ap (λ (n : Counts). n.expectations) counts_are
-
-        store_needed : c.store ≡ length (reading_of text).tables.store
-        unfolding reading_of laid_script
-        store_needed = ap (λ (n : Counts). n.store) counts_are
-
-        pub entries_there : length (reading_of text).tables.entries ≤ lent.entries
-        entries_there = rw (← entries_needed) (room_within lent.entries c.entries there.entries)
-
-        pub entries_few : length (reading_of text).tables.entries ≤ 0x8000
-        entries_few = rw (← entries_needed) (room_limit lent.entries c.entries there.entries)
-
-        pub items_there : length (reading_of text).tables.items ≤ lent.items
-        items_there = rw (← items_needed) (room_within lent.items c.items there.items)
-
-        pub items_few : length (reading_of text).tables.items ≤ 0x8000
-        items_few = rw (← items_needed) (room_limit lent.items c.items there.items)
-
-        pub expectations_there : length (reading_of text).tables.expectations ≤ lent.expectations
-        expectations_there = rw (← expectations_needed) (room_within lent.expectations c.expectations there.expectations)
-
-        pub expectations_few : length (reading_of text).tables.expectations ≤ 0x8000
-        expectations_few = rw (← expectations_needed) (room_limit lent.expectations c.expectations there.expectations)
-
-        pub store_there : length (reading_of text).tables.store ≤ lent.store
-        store_there = rw (← store_needed) there.store
+  pub enough : (m : Parsed Counts) → m ≡ measured text → (c : Counts) → m ≡ Ok c → (f : Result ⊤ Refusal) → f ≡ ok_unless (shortage room_lent c) → (u : ⊤) → f ≡ Ok u → Enough text entries items expectations store c
+  unfolding reading_of laid_script
+  enough m e c q f o u b =
+      let k = readable text room_lent c (sym q ∙ e) in
+      let n = sym (not_short (shortage room_lent c) u (sym o ∙ b)) in
+      let there = fits room_lent (reading_of text) in
+      let l = rw k.counted at n in
+      record {
+        short = k.short;
+        counted = k.counted;
+        reads = enough_reads text room_lent m e c q f o u b n;
+        entries_room = room_within room_lent.entries _ (there.entries l);
+        items_room = room_within room_lent.items _ (there.items l);
+        expectations_room = room_within room_lent.expectations _ (there.expectations l);
+        store_room = there.store l;
+      }

@@ -7,6 +7,7 @@ ghost use Rattle.read.specs.Read.{script_or, tables_or, lent_of};
 
 use entries::scripts::read_script;
 use script::records::{Entry, Expectation, Refusal, Script};
+use turns::Measured;
 
 // Reads a script into the lent tables: the used front of each holds the script's records, the rest is as it was. Where Measure refuses, or a table is too
 // short, all is as it was.
@@ -27,5 +28,6 @@ pub fn read(
     let needed = parse::measure::measure_keeping(text, &mut kept)?;
     let lent = fits::lent_of(entries.len(), items.len(), expectations.len(), store.len());
     fits::room_for(needed, lent)?;
-    Ok(read_script(text, &kept, needed, entries, items, expectations, store))
+    let m = Measured { text, kept: &kept };
+    Ok(read_script(m, needed, entries, items, expectations, store))
 }

@@ -1,5 +1,5 @@
 // Places, ranges and data of a record, from what was said and from how many items and bytes that takes.
-ghost use Rattle.std.specs.Prelude.{◌≡◌, Some};
+ghost use Rattle.std.specs.Prelude.{◌≡◌, ◌+◌, ◌<◌, Some};
 ghost use Rattle.script.specs.Pieces.{place_of};
 ghost use Rattle.script.specs.Layout.{range};
 ghost use Rattle.script.specs.declared.roles.Key.TheVariants as Key;
@@ -20,7 +20,16 @@ pub struct Sizes {
     pub third: usize,
 }
 
-// The place of so many bytes that start there: 0 and 0 where there are none.
+// What an entry has of the tables: behind how many items and bytes of the store its own stand, and how many they are.
+#[derive(Clone, Copy)]
+pub struct Share {
+    pub items_before: usize,
+    pub bytes_before: usize,
+    pub sizes: Sizes,
+    pub ghost within: { bytes_before + sizes.first + sizes.second < 0x1_0000_0000_0000_0000 },
+}
+
+// The place of so many bytes that start there: 0 and 0 where there are none. The two are counted, and become a place here.
 #[tactic(auto, using(crate::proofs::CallLaws::place_none, crate::proofs::CallLaws::place_some))]
 pub fn placed(start: usize, len: usize) -> Place
     ensures { result ≡ place_of start len }

@@ -57,13 +57,13 @@ module _ (text : List ℕ) (i end whole : ℕ) (e : behind_signs i (bytes text (
 -- ---- what a comment says
 
 module _ (text : List ℕ) (c : Span) (word : List ℕ) (k : Key) (r : Bool) (e : r ≡ starts_with word (bytes text c)) where
-  pub said-none : r ≡ false → Nothing ≡ said text c word k
+  pub said_none : r ≡ false → Nothing ≡ said text c word k
   unfolding said
-  said-none f = rw (sym e ∙ f)
+  said_none f = rw (sym e ∙ f)
 
-  pub said-some : r ≡ true → (v : Span) → v ≡ trim text (span (c.start + length word) c.end) → Says (Known k v) ≡ said text c word k
+  pub said_some : r ≡ true → (v : Span) → v ≡ trim text (span (c.start + length word) c.end) → Says (Known k v) ≡ said text c word k
   unfolding said
-  said-some t v q = rw (sym e ∙ t, q)
+  said_some t v q = rw (sym e ∙ t, q)
 
 -- the only attempt, where those behind it fail
 only : {A : Type 0} (o : Option A) (os : List (Option A)) (last : A) → first_of os last ≡ last → first_of (o ∷ os) last ≡ first_of (o ∷ []) last
@@ -127,13 +127,13 @@ module _ (text : List ℕ) (t : Span) (start : ℕ) (e : start ≡ behind_signs 
 -- ---- versions and words
 
 module _ (text : List ℕ) (v : Span) (a : Option ProtocolVersion) (q : a ≡ version (bytes text v)) where
-  pub version-read : (w : ProtocolVersion) → a ≡ Some w → Says (Known Key.Protocol v) ≡ version_role (version (bytes text v)) v
+  pub version_read : (w : ProtocolVersion) → a ≡ Some w → Says (Known Key.Protocol v) ≡ version_role (version (bytes text v)) v
   unfolding version_role
-  version-read w e = rw (← q, e)
+  version_read w e = rw (← q, e)
 
-  pub version-bad : a ≡ None → Nothing ≡ version_role (version (bytes text v)) v
+  pub version_bad : a ≡ None → Nothing ≡ version_role (version (bytes text v)) v
   unfolding version_role
-  version-bad e = rw (← q, e)
+  version_bad e = rw (← q, e)
 
 module _ (text : List ℕ) (t : Span) where
   module _ (x : get_or (bytes text t) 0 0 ≡ 112) (b : Bool) (e : b ≡ starts_with (codes "protocol:") (bytes text t)) where
@@ -222,6 +222,21 @@ module _ (text : List ℕ) (t : Span) (a : Bool) (z : a ≡ is_empty t) where
     unfolding preamble_role
     line_word s d h = rw (sym z ∙ n, front_begins text t x g "#" (ne_eqb x 35 s), front_begins text t x g "expect" (ne_eqb x 101 d), h)
 
+module _ (text : List ℕ) (t : Span) (b : Bool) (e : b ≡ same_bytes (bytes text t) (codes "---")) where
+  pub step_over : b ≡ true → step Nothing Outside ≡ preamble_step text t
+  unfolding preamble_step is
+  step_over y = rw (spells_as "---" (bytes text t) ∙ sym e ∙ y)
+
+  pub step_inside : b ≡ false → (r : Role) → r ≡ preamble_role text t → step r InPreamble ≡ preamble_step text t
+  unfolding preamble_step is
+  step_inside f r h = rw (spells_as "---" (bytes text t) ∙ sym e ∙ f, h)
+
+-- what begins with `#` is not that line
+no_dashes : (s : List ℕ) → get_or s 0 0 ≡ 35 → same_bytes s (codes "---") ≡ false
+unfolding same_bytes
+no_dashes [] e = refl
+no_dashes (x ∷ s) e = rw e
+
 -- a comment that begins with no letter of the three words
 module _ (text : List ℕ) (t : Span) (y : ℕ) (f : y ≡ get_or (bytes text t) 0 0) (d : y ≡ 35) where
   -- a piece with a first byte is not empty
@@ -233,20 +248,9 @@ module _ (text : List ℕ) (t : Span) (y : ℕ) (f : y ≡ get_or (bytes text t)
       )
 
   pub remark : (start : ℕ) → start ≡ behind_signs t.start (bytes text t) → (c : Span) → c ≡ trim text (span start t.end) → (x : ℕ) → x ≡ get_or (bytes text c) 0 0
-      → (x ≡ 100 → ⊥) → (x ≡ 116 → ⊥) → (x ≡ 115 → ⊥) → Nothing ≡ preamble_role text t
-  remark start e c k x g p u s = line_comment text t (is_empty t) refl has_first y f Nothing d (comment_none text t start e c k x g p u s)
-
-module _ (text : List ℕ) (t : Span) (b : Bool) (e : b ≡ same_bytes (bytes text t) (codes "---")) where
-  pub step_over : b ≡ true → step Nothing Outside ≡ preamble_step text t
-  unfolding preamble_step is
-  step_over y = rw (spells_as "---" (bytes text t) ∙ sym e ∙ y)
-
-  pub step-inside : b ≡ false → (r : Role) → r ≡ preamble_role text t → step r InPreamble ≡ preamble_step text t
-  unfolding preamble_step is
-  step-inside f r h = rw (spells_as "---" (bytes text t) ∙ sym e ∙ f, h)
-
-  pub step_remark : b ≡ false → (r : Bool) → (r ≡ true → Nothing ≡ preamble_role text t) → r ≡ true → step Nothing InPreamble ≡ preamble_step text t
-  step_remark f r q y = step-inside f Nothing (q y)
+      → (x ≡ 100 → ⊥) → (x ≡ 116 → ⊥) → (x ≡ 115 → ⊥) → step Nothing InPreamble ≡ preamble_step text t
+  remark start e c k x g p u s =
+      step_inside text t false (sym (no_dashes (bytes text t) (sym f ∙ d))) refl Nothing (line_comment text t (is_empty t) refl has_first y f Nothing d (comment_none text t start e c k x g p u s))
 
 pub ruleset sign_steps = (signs_over, signs_end, signs-on)
 
@@ -254,6 +258,6 @@ pub ruleset comment_words = (comment_none, comment_daemon, comment_trust, commen
 
 pub ruleset protocol_words = (no_protocol, a_protocol)
 
-pub ruleset preamble-words = (no_word, no_features, some-features)
+pub ruleset preamble_words = (no_word, no_features, some-features)
 
-pub ruleset preamble-lines = (line_empty, line_comment, line_expect, line_word)
+pub ruleset preamble_lines = (line_empty, line_comment, line_expect, line_word)

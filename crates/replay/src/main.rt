@@ -5,6 +5,7 @@
 
 ghost use Rattle.std.specs.Prelude.{◌+◌, ◌≤◌, length};
 
+use lines::lines::Lines;
 use std::io;
 
 // What a line of the input came to.
@@ -56,6 +57,7 @@ fn case_in(word: &[u8], hex: &[u8], room: &mut [u8]) -> Case {
 }
 
 // A line: a word, and bytes in hex.
+#[tactic(auto, using(text::proofs::WordLaws::word_places))]
 fn case_on(line: &[u8]) -> Case {
     let w = words::word_at(line, 0);
     let start = w.start;
@@ -84,7 +86,7 @@ impl Tally {
     }
 }
 
-// Keeps the code point of a `white` case, if there is room.
+// Keeps the code point of a `white` case, if there is room. By a place, and no `Writer`: the tally counts the places, and `put_one` would ask for room.
 fn keep(codes: &mut [u32], at: usize, c: Case) {
     if let Case::White(code) = c
         && let Some(slot) = codes.get_mut(at)
@@ -103,16 +105,10 @@ fn read_cases(input: &[u8], codes: &mut [u32]) -> Tally
         bad: 0,
         wrong: 0,
     };
-    let mut at: usize = 0;
-    // No `for`: where the next line begins is found with the line.
-    while at < input.len() {
-        let l = lines::lines::line_at(input, at, 0);
-        let start = l.start;
-        let end = l.end;
-        let c = case_on(&input[start..end]);
+    for line in Lines::new(input) {
+        let c = case_on(&input[line.start..line.end]);
         keep(codes, tally.white, c);
         tally = tally.with(c);
-        at = l.next;
     }
     tally
 }

@@ -11,14 +11,7 @@ fn is_left(rest: Rest<'_>, lent: Counts, text: &[u8], store: &[u8]) -> bool
     ensures { result ≡ leaves rest.entry.line.now rest.entry.at lent text.now store.now }
 {
     let mut found = [0u8; 8192];
-    let n = dump::dumps::dump_read(
-        text,
-        lent.entries,
-        lent.items,
-        lent.expectations,
-        lent.store,
-        &mut found,
-    );
+    let n = dump::dumps::dump_read(text, lent, &mut found);
     if 8192 < n {
         return false;
     }

@@ -5,6 +5,7 @@ ghost use Rattle.replay_script.specs.Judged.{handed_by, says, agreed};
 
 use fields::rest::Rest;
 use replayed::judged::{is_told, of_handshake, table_of};
+use texts::Held;
 use verdicts::handed::Handed;
 
 // What the expectation of a line is judged against.
@@ -25,7 +26,11 @@ fn is_said(n: [u64; 39], m: i64, text: &[u8], bytes: &[u8], message: &[u8]) -> b
     let table = table_of(n);
     let mut scratch = [0u8; 256];
     let mut left = [0u8; 256];
-    let t = row_messages::message(text, &n[2..8], m, h, bytes, &table, &mut scratch, &mut left);
+    let held = Held {
+        bytes,
+        lists: &table,
+    };
+    let t = row_messages::message(text, &n[2..8], m, &h, held, &mut scratch, &mut left);
     is_told(t, n[1], &left, message)
 }
 

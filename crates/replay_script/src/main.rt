@@ -16,6 +16,7 @@ mod measured;
 
 use cases::{Case, Tally};
 use fields::rest::Rest;
+use lines::lines::Lines;
 use std::io;
 use std::io::Read;
 
@@ -70,16 +71,8 @@ fn replay_all(input: &[u8]) -> Tally
         judged: 0,
         wrong: 0,
     };
-    let mut number: usize = 1;
-    let mut at: usize = 0;
-    // No `for`: where a line begins is known once the one before it is read, and an iterator of them would be a type with laws for this loop alone.
-    while at < input.len() {
-        let l = lines::lines::line_at(input, at, number);
-        let start = l.start;
-        let end = l.end;
-        tally = tally.with(replay_line(&input[start..end]));
-        at = l.next;
-        number += 1;
+    for line in Lines::new(input) {
+        tally = tally.with(replay_line(&input[line.start..line.end]));
     }
     tally
 }

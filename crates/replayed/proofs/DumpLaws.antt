@@ -1,13 +1,13 @@
 -- The laws of a dump on a line: a number in front, and the numbers one after another. Assumes nothing.
 use Rattle.std.specs.Prelude.{None, Option, Some}
-use Prim.Native.Nat.{ℕ, ◌+◌, ◌-◌, ◌^◌, ◌≤◌, ◌<◌}
+use Prim.Native.Nat.{ℕ, ◌-◌, ◌^◌, ◌≤◌, ◌<◌}
 use mathlib.Core.Path.{◌≡◌, refl, sym, ap, ◌∙◌}
 use mathlib.Core.Bool.{Bool, true, false}
 use mathlib.Core.List.{List, [], ◌∷◌}
 use native.Mathlib.Omega.{arith}
 use lib.Dec.{eqb}
 use lib.ListN.{length, take, drop, length-drop}
-use lib.Seq.{drop-drop, length-take-le}
+use lib.Seq.{length-take-le}
 use Rattle.text.specs.Base.{◌&◌}
 use Rattle.text.specs.Parts.{starts_with, same_bytes}
 use Rattle.text.specs.Words.{word_at}
@@ -27,10 +27,10 @@ front_long [] s e = omega arith
 front_long (p ∷ prefix) [] e = never (sym e)
 front_long (p ∷ prefix) (x ∷ s) e = omega (arith, front_long prefix s (both (eqb x p) (starts_with prefix s) e).1)
 
-eight : (o : Option ℕ) (found : List ℕ) → in_front o found ≡ true → 8 ≤ length found
+pub eight : (o : Option ℕ) (found : List ℕ) (t : Bool) → t ≡ in_front o found → t ≡ true → 8 ≤ length found
 unfolding in_front bytes_of low_bytes
-eight None found e = never (sym e)
-eight (Some n) found e = front_long (bytes_of n) found e
+eight None found t g e = never (sym e ∙ g)
+eight (Some n) found t g e = front_long (bytes_of n) found (sym g ∙ e)
 
 -- ---- numbers, one after another
 
@@ -49,23 +49,18 @@ module _ (line : List ℕ) (at : ℕ) (word : List ℕ) (end : ℕ) (k : word �
   pub word_less : (length word ≡ 0 → ⊥) → length line - end < length line - at
   word_less d = let w = known line at (word_at line at) i refl in omega (arith, w.begins, w.forward, w.inside, begins d)
 
-  module _ (store found : List ℕ) (p : ℕ) (whole : Bool) (here : is_dump line (words_at line at) store (drop p found) ≡ whole) where
-    pub no_word : length word ≡ 0 → (b : Bool) → b ≡ same_bytes (take (length found - p) (drop p found)) store → b ≡ whole
+  module _ (store found : List ℕ) (whole : Bool) (here : is_dump line (words_at line at) store found ≡ whole) where
+    pub no_word : length word ≡ 0 → (b : Bool) → b ≡ same_bytes found store → b ≡ whole
     unfolding is_dump
-    no_word z b s = s ∙ rw (rest_of found p) (rw ((known line at (word_at line at) i refl).none (ends z)) at here)
+    no_word z b s = s ∙ rw ((known line at (word_at line at) i refl).none (ends z)) at here
 
-    module _ (d : length word ≡ 0 → ⊥) (t : Bool) (g : t ≡ in_front (number (2 ^ 64) word) (take (length found - p) (drop p found))) where
-      next : t & is_dump line (words_at line end) store (drop 8 (drop p found)) ≡ whole
+    module _ (d : length word ≡ 0 → ⊥) (t : Bool) (g : t ≡ in_front (number (2 ^ 64) word) found) where
+      next : t & is_dump line (words_at line end) store (drop 8 found) ≡ whole
       unfolding is_dump
-      next = rw (g, rest_of found p, k, e) (rw ((known line at (word_at line at) i refl).more (begins d)) at here)
+      next = rw (g, k, e) (rw ((known line at (word_at line at) i refl).more (begins d)) at here)
 
       pub other : t ≡ false → false ≡ whole
       other r = rw r at next
 
-      pub goes_on : t ≡ true → is_dump line (words_at line end) store (drop (p + 8) found) ≡ whole
-      goes_on r = rw (← drop-drop 8 p found) (rw r at next)
-
-      pub has_room : t ≡ true → p + 8 ≤ length found
-      has_room r =
-          let f = rw (rest_of found p) at (sym g ∙ r) in
-          omega (arith, eight (number (2 ^ 64) word) (drop p found) f, length-drop p found)
+      pub goes_on : t ≡ true → is_dump line (words_at line end) store (take (length found - 8) (drop 8 found)) ≡ whole
+      goes_on r = rw (rest_of found 8) (rw r at next)

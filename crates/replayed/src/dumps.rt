@@ -19,21 +19,22 @@ fn is_in_front(word: &[u8], found: &[u8]) -> bool
 }
 
 // Whether the numbers on the rest of a line are found, one after another, and behind them the bytes of the store.
+#[tactic(auto, using(crate::proofs::DumpLaws::eight))]
 pub fn is_dump(rest: Rest<'_>, store: &[u8], found: &[u8]) -> bool
     ensures { result ≡ is_dump rest.entry.line.now (words_at rest.entry.line.now rest.entry.at) store.now found.now }
 {
     let mut left = rest;
-    let mut p: usize = 0;
+    let mut bytes = found;
     // No `for`: where the next word begins is found with the word.
     loop {
         let (word, next) = left.word();
         if word.is_empty() {
-            return text::parts::same(&found[p..], store);
+            return text::parts::same(bytes, store);
         }
-        if !is_in_front(word, &found[p..]) {
+        if !is_in_front(word, bytes) {
             return false;
         }
-        p += 8;
+        bytes = &bytes[8..];
         left = next;
     }
 }

@@ -39,21 +39,21 @@ pub fn maybe_list_in(n: usize, lists: &[[usize; 2]], m: Option<Items>) -> bool
 
 // The parts of a path's information.
 #[tactic(auto, unfolding(verdicts::specs::Held::result_in))]
-fn path_info_in(n: usize, lists: &[[usize; 2]], p: PathInfoResult) -> bool
-    ensures { result ≡ Held.result_in n lists.now (PathInfo p) }
+fn path_info_in(n: usize, lists: &[[usize; 2]], p: &PathInfoResult) -> bool
+    ensures { result ≡ Held.result_in n lists.now (PathInfo p.now) }
 {
     maybe_in(n, p.deriver) && maybe_in(n, p.nar_hash) && maybe_list_in(n, lists, p.references)
 }
 
 // The parts of a result.
 #[tactic(auto, unfolding(verdicts::specs::Held::result_in))]
-pub fn result_in(n: usize, lists: &[[usize; 2]], r: ResultData) -> bool
-    ensures { result ≡ Held.result_in n lists.now r }
+pub fn result_in(n: usize, lists: &[[usize; 2]], r: &ResultData) -> bool
+    ensures { result ≡ Held.result_in n lists.now r.now }
 {
     match r {
-        ResultData::Str(p) => place_in(n, p),
+        ResultData::Str(p) => place_in(n, *p),
         ResultData::PathInfo(p) => path_info_in(n, lists, p),
-        ResultData::StringSet(l) => list_in(n, lists, l),
+        ResultData::StringSet(l) => list_in(n, lists, *l),
         ResultData::Absent
         | ResultData::U64(_)
         | ResultData::StringMap
@@ -68,16 +68,16 @@ pub fn result_in(n: usize, lists: &[[usize; 2]], r: ResultData) -> bool
 
 // Every part of a response lies inside its n bytes and its table of places.
 #[tactic(auto, unfolding(verdicts::specs::Held::response_in))]
-pub fn response_in(n: usize, lists: &[[usize; 2]], r: DaemonResponse) -> bool
-    ensures { result ≡ Held.response_in n lists.now r }
+pub fn response_in(n: usize, lists: &[[usize; 2]], r: &DaemonResponse) -> bool
+    ensures { result ≡ Held.response_in n lists.now r.now }
 {
-    place_in(n, r.terminal) && result_in(n, lists, r.result) && maybe_in(n, r.error)
+    place_in(n, r.terminal) && result_in(n, lists, &r.result) && maybe_in(n, r.error)
 }
 
 // Every part of the handshake's information.
 #[tactic(auto, unfolding(verdicts::specs::Held::info_in))]
-pub fn info_in(n: usize, lists: &[[usize; 2]], i: HandshakeInfo) -> bool
-    ensures { result ≡ Held.info_in n lists.now i }
+pub fn info_in(n: usize, lists: &[[usize; 2]], i: &HandshakeInfo) -> bool
+    ensures { result ≡ Held.info_in n lists.now i.now }
 {
     list_in(n, lists, i.client_features)
         && list_in(n, lists, i.server_features)

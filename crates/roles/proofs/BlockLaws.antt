@@ -88,7 +88,7 @@ module _ (text : List ℕ) (v : Span) (w : ValueKind) where
     unfolding refuses
     other_fine h = ap refuses (sym h ∙ e) ∙ by_kind k
 
-pub ruleset value-words = (set_open, set_closed, data_told, list_fine, other_fine)
+pub ruleset value_words = (set_open, set_closed, data_told, list_fine, other_fine)
 
 -- ---- the key of an override list opens it
 
@@ -128,7 +128,7 @@ module _ (w : ValueKind) (k : Kind) (e : w ≡ kind_of k) where
   unfolding opens
   other_opens_none h = ap opens (sym h ∙ e) ∙ opens_by_kind k
 
-pub ruleset list-words = (list-opens, set_opens_none, data_opens_none, other_opens_none)
+pub ruleset list_words = (list-opens, set_opens_none, data_opens_none, other_opens_none)
 
 -- ---- what was said is known
 

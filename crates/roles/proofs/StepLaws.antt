@@ -14,6 +14,7 @@ use Rattle.text.specs.declared.lines.Line.{Line}
 use Rattle.text.specs.declared.parts.Span.{Span}
 use Rattle.text.specs.Literal.{spells, utf8}
 use Rattle.text.proofs.LiteralLaws.{codes}
+use Rattle.text.proofs.Scan.{never}
 use Rattle.text.proofs.TrimLaws.{trim-inside}
 use Rattle.script.specs.Pieces.{bytes, is_empty, is, begins, trim}
 use Rattle.script.specs.Values.{plain_rules}
@@ -24,7 +25,7 @@ use Rattle.script.specs.declared.roles.Step.{Step}
 use Rattle.script.specs.declared.roles.Takes.{Takes}
 use Rattle.script.specs.declared.roles.Where.{Where}
 use Rattle.script.specs.declared.roles.Where.TheVariants.{InPreamble, Outside, InBlock, InEntry}
-use Rattle.roles.specs.StepRead.{front_of, sorted_step, below_empty}
+use Rattle.roles.specs.StepRead.{front_of, sorted_step, below_nothing}
 use Rattle.openings.specs.OpeningRead.{opening_step}
 use Rattle.roles.specs.declared.steps.Sort.{Sort}
 use Rattle.roles.specs.declared.steps.Sort.TheVariants as sort
@@ -159,7 +160,17 @@ pub step_is : (text : List ℕ) (w : Where) (l : Line) (inward : Bool) (t : Span
 unfolding step_of bytes
 step_is text w l inward t s i k q = q ∙ rw (i, k)
 
--- ---- an empty line
+-- ---- lines that are nothing
+
+blank_or_sign : (e c n : Bool) → e or (c & not n) ≡ true → e or c ≡ true
+blank_or_sign true c n h = refl
+blank_or_sign false true n h = refl
+blank_or_sign false false n h = h
+
+one_of_three : (e c x : Bool) → e or c ≡ true → e or c or x ≡ true
+one_of_three true c x h = refl
+one_of_three false true x h = refl
+one_of_three false false x h = never (sym h)
 
 module _ (text : List ℕ) where
   -- a piece that begins where it ends has no bytes
@@ -167,8 +178,44 @@ module _ (text : List ℕ) where
   unfolding bytes
   no_bytes p h = let z : p.end - p.start ≡ 0 = omega arith in rw z
 
-  nothing_at : (w : Where) (t : Span) → t.start ≡ t.end → step_at plain_rules text w false t ≡ step Nothing (below_empty w)
-  unfolding step_at preamble_step preamble_role outside_step skipped entry_step block_step argument_line is_empty is spells below_empty
+  -- a blank line of the preamble
+  pub blank_led : (t : Span) (a : Bool) → a ≡ is_empty t → a ≡ true → step Nothing InPreamble ≡ preamble_step text t
+  unfolding preamble_step preamble_role is_empty is spells
+  blank_led t a z y = let h = eqb-true t.start t.end (sym z ∙ y) in rw (no_bytes t h, eq-eqb _ _ h)
+
+  pub nothing_led : (w : Where) (t : Span) → w ≡ InPreamble → step Nothing InPreamble ≡ preamble_step text t → (inward : Bool) → step Nothing (below_nothing w inward) ≡ step_at plain_rules text w inward t
+  unfolding step_at below_nothing
+  nothing_led w t h q inward = rw h q
+
+  -- below the preamble
+  module _ (t : Span) (h : skipped text t ≡ true) where
+    ends_entry : step Nothing Outside ≡ outside_step text t
+    unfolding outside_step
+    ends_entry = rw h
+
+    is_blank_or_sign : is_empty t or begins text "#" t ≡ true
+    unfolding skipped
+    is_blank_or_sign = blank_or_sign (is_empty t) (begins text "#" t) (begins text "# nwscript" t) h
+
+    in_entry : (inward : Bool) → step Nothing (if inward then InEntry else Outside) ≡ entry_step text inward t
+    unfolding entry_step
+    in_entry true = rw is_blank_or_sign
+    in_entry false = ends_entry
+
+    in_block : (takes : Takes) (list_open inward : Bool) → entry_step text inward t ≡ block_step plain_rules text takes list_open inward t
+    unfolding block_step argument_line
+    in_block takes list_open true = rw (one_of_three (is_empty t) (begins text "#" t) (begins text "expect" t) is_blank_or_sign)
+    in_block takes list_open false = refl
+
+    pub nothing_below : (w : Where) → (w ≡ InPreamble → ⊥) → (inward : Bool) → step Nothing (below_nothing w inward) ≡ step_at plain_rules text w inward t
+    unfolding step_at below_nothing
+    nothing_below InPreamble n inward = absurd (n refl)
+    nothing_below Outside n inward = ends_entry
+    nothing_below (InBlock takes list_open) n inward = in_entry inward ∙ in_block takes list_open inward
+    nothing_below InEntry n inward = in_entry inward
+
+  nothing_at : (w : Where) (t : Span) → t.start ≡ t.end → step Nothing (below_nothing w false) ≡ step_at plain_rules text w false t
+  unfolding step_at preamble_step preamble_role outside_step skipped entry_step block_step argument_line is_empty is spells below_nothing
   nothing_at InPreamble t h = rw (no_bytes t h, eq-eqb _ _ h)
   nothing_at Outside t h = rw (eq-eqb _ _ h)
   nothing_at (InBlock takes list_open) t h = rw (eq-eqb _ _ h)
@@ -178,9 +225,13 @@ module _ (text : List ℕ) where
   unfolding trim
   trim_nothing p h = let z = ap length (no_bytes p h) in omega (arith, trim-inside (bytes text p))
 
-  pub empty_is : (w next : Where) (l : Line) (a : Bool) → a ≡ is_empty (span l.start l.end) → a ≡ true → next ≡ below_empty w → step Nothing next ≡ step_of plain_rules text w l
+  pub empty_is : (w next : Where) (l : Line) (a : Bool) → a ≡ is_empty (span l.start l.end) → a ≡ true → next ≡ below_nothing w false → step Nothing next ≡ step_of plain_rules text w l
   unfolding step_of indented starts_with utf8 is_empty
-  empty_is w next l a z t e = let h = eqb-true l.start l.end (sym z ∙ t) in rw (no_bytes (line_span l) h, e) (sym (nothing_at w (trim text (line_span l)) (trim_nothing (line_span l) h)))
+  empty_is w next l a z t e = let h = eqb-true l.start l.end (sym z ∙ t) in rw (no_bytes (line_span l) h, e) (nothing_at w (trim text (line_span l)) (trim_nothing (line_span l) h))
+
+  pub nothing_is : (w next : Where) (l : Line) (inward : Bool) (t : Span) → inward ≡ indented (bytes text (span l.start l.end)) → t ≡ trim text (span l.start l.end)
+      → ((i : Bool) → step Nothing (below_nothing w i) ≡ step_at plain_rules text w i t) → next ≡ below_nothing w inward → step Nothing next ≡ step_of plain_rules text w l
+  nothing_is w next l inward t i k q e = step_is text w l inward t (step Nothing next) i k (rw e (q inward))
 
 pub ruleset front_words = (front_blank, front_comment, front_expect, front_other)
 
@@ -188,4 +239,4 @@ pub ruleset outside_words = (outside_skipped, outside_opened)
 
 pub ruleset entry_words = (entry_outside, entry_skipped, entry_expect, entry_other)
 
-pub ruleset Block-words = (block_outside, block_skipped, block_expect, block_other)
+pub ruleset Block_words = (block_outside, block_skipped, block_expect, block_other)

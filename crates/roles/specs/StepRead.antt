@@ -1,5 +1,5 @@
--- How an indented line begins, the sorts of lines, and where the line below an empty one stands. Assumes nothing.
-use Rattle.std.specs.Prelude.{ℕ, List, if◌then◌else◌}
+-- How an indented line begins, the sorts of lines, and where the line below one that is nothing stands. Assumes nothing.
+use Rattle.std.specs.Prelude.{ℕ, Bool, List, if◌then◌else◌}
 use Rattle.text.specs.Base.{◌or◌}
 use Rattle.text.specs.declared.parts.Span.{Span}
 use Rattle.script.specs.Pieces.{is_empty, begins}
@@ -27,9 +27,9 @@ sorted_step text sort.Expect t = step (expect_role text t) InEntry
 sorted_step text (sort.Argument takes list_open) t = argument_step plain_rules text takes list_open t
 sorted_step text sort.Opening t = opening_step text t
 
--- an empty line ends an entry, and its argument lines
-unfoldable pub below_empty : Where → Where
-below_empty InPreamble = InPreamble
-below_empty Outside = Outside
-below_empty (InBlock takes list_open) = Outside
-below_empty InEntry = Outside
+-- below a line that is nothing: it ends argument lines, and the entry too where it is not indented
+unfoldable pub below_nothing : Where → (inward : Bool) → Where
+below_nothing InPreamble inward = InPreamble
+below_nothing Outside inward = Outside
+below_nothing (InBlock takes list_open) inward = if inward then InEntry else Outside
+below_nothing InEntry inward = if inward then InEntry else Outside

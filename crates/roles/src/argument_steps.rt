@@ -19,6 +19,7 @@ pub enum ValueKind {
     Other,
 }
 
+#[tactic(auto, unfolding(script::specs::Operations::key_row, crate::specs::BlockRead::kind_of))]
 fn value_kind(k: Key) -> ValueKind
     ensures { result ≡ kind_of (key_row k).kind }
 {
@@ -32,6 +33,7 @@ fn value_kind(k: Key) -> ValueKind
 }
 
 // The refusal of data that is neither hex nor a file's name.
+#[tactic(auto, using(crate::proofs::BlockLaws::data_words))]
 fn refused_data(v: Piece<'_>) -> Option<Reason>
     ensures { result ≡ refusal_in (framed plain_rules v.entry.text.now v.entry.at) }
 {
@@ -45,6 +47,7 @@ fn refused_data(v: Piece<'_>) -> Option<Reason>
 }
 
 // The refusal of a key's value.
+#[tactic(auto, using(crate::proofs::BlockLaws::value_words))]
 fn refused_value(k: Key, v: Piece<'_>) -> Option<Reason>
     ensures { result ≡ refusal_of_kind plain_rules v.entry.text.now (key_row k).kind v.entry.at }
 {
@@ -61,6 +64,7 @@ fn refused_value(k: Key, v: Piece<'_>) -> Option<Reason>
     }
 }
 
+#[tactic(auto, using(crate::proofs::BlockLaws::known_refused), unfolding(script::specs::Roles::refusal_of))]
 fn refusal_of(text: &[u8], s: Saying) -> Option<Reason>
     requires { SayingIn text.now s }
     ensures { result ≡ refusal_of plain_rules text.now s }
@@ -75,6 +79,7 @@ fn refusal_of(text: &[u8], s: Saying) -> Option<Reason>
     }
 }
 
+#[tactic(auto, using(crate::proofs::BlockLaws::list_words))]
 fn opens_list(k: Key) -> bool
     ensures { result ≡ opens_list (key_row k).kind }
 {

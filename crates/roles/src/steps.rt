@@ -1,9 +1,10 @@
 // Every line: what it is, and where the next one stands.
-ghost use Rattle.std.specs.Prelude.{◌≡◌};
+ghost use Rattle.std.specs.Prelude.{◌≡◌, true};
 ghost use Rattle.script.specs.Values.{plain_rules};
-ghost use Rattle.script.specs.Roles.{line_span, outside_step, entry_step, block_step, step_at, step_of};
+ghost use Rattle.script.specs.Roles.{step, line_span, outside_step, entry_step, block_step, step_at, step_of};
+ghost use Rattle.script.specs.declared.roles.Role.TheVariants.{Nothing};
 ghost use Rattle.script.specs.Inside.{In};
-ghost use Rattle.roles.specs.StepRead.{front_of, sorted_step, below_empty};
+ghost use Rattle.roles.specs.StepRead.{front_of, sorted_step, below_nothing};
 
 use pieces::pieces::Piece;
 use script::roles::{Role, Step, Takes, Where};
@@ -30,6 +31,7 @@ pub enum Sort {
     Opening,
 }
 
+#[tactic(auto, using(crate::proofs::StepLaws::front_words))]
 fn begins_as(t: Piece<'_>) -> Front
     ensures { result ≡ front_of t.entry.text.now t.entry.at }
 {
@@ -46,6 +48,7 @@ fn begins_as(t: Piece<'_>) -> Front
 }
 
 // A line with no entry open.
+#[tactic(auto, using(crate::proofs::StepLaws::outside_words), unfolding(crate::specs::StepRead::sorted_step))]
 fn outside_sort(t: Piece<'_>) -> Sort
     ensures { sorted_step t.entry.text.now result t.entry.at ≡ outside_step t.entry.text.now t.entry.at }
 {
@@ -56,6 +59,7 @@ fn outside_sort(t: Piece<'_>) -> Sort
 }
 
 // A line of an entry below its argument lines.
+#[tactic(auto, using(crate::proofs::StepLaws::entry_words), unfolding(crate::specs::StepRead::sorted_step))]
 fn entry_sort(inward: bool, t: Piece<'_>) -> Sort
     ensures { sorted_step t.entry.text.now result t.entry.at ≡ entry_step t.entry.text.now inward t.entry.at }
 {
@@ -70,6 +74,7 @@ fn entry_sort(inward: bool, t: Piece<'_>) -> Sort
 }
 
 // A line where argument lines may stand.
+#[tactic(auto, using(crate::proofs::StepLaws::Block_words), unfolding(crate::specs::StepRead::sorted_step))]
 fn block_sort(takes: Takes, list_open: bool, inward: bool, t: Piece<'_>) -> Sort
     ensures { sorted_step t.entry.text.now result t.entry.at ≡ block_step plain_rules t.entry.text.now takes list_open inward t.entry.at }
 {
@@ -83,6 +88,7 @@ fn block_sort(takes: Takes, list_open: bool, inward: bool, t: Piece<'_>) -> Sort
     }
 }
 
+#[tactic(auto, using(crate::proofs::StepLaws::stands), unfolding(script::specs::Roles::step_at, crate::specs::StepRead::sorted_step))]
 fn sort_of(w: Where, inward: bool, t: Piece<'_>) -> Sort
     ensures { sorted_step t.entry.text.now result t.entry.at ≡ step_at plain_rules t.entry.text.now w inward t.entry.at }
 {
@@ -95,6 +101,7 @@ fn sort_of(w: Where, inward: bool, t: Piece<'_>) -> Sort
 }
 
 // What a line of that sort is.
+#[tactic(auto, using(crate::proofs::StepLaws::sorted_as, crate::proofs::StepLaws::sorted_expect), unfolding(crate::specs::StepRead::sorted_step))]
 fn sorted_step(sort: Sort, t: Piece<'_>) -> Step
     ensures { result ≡ sorted_step t.entry.text.now sort t.entry.at }
 {
@@ -120,6 +127,7 @@ fn sorted_step(sort: Sort, t: Piece<'_>) -> Step
 }
 
 // First the sort, then the step: so each way to make a step stands in one place, and what it makes is not copied from one to another.
+#[inline(always)]
 fn step_at(w: Where, inward: bool, t: Piece<'_>) -> Step
     ensures { result ≡ step_at plain_rules t.entry.text.now w inward t.entry.at }
 {
@@ -127,17 +135,39 @@ fn step_at(w: Where, inward: bool, t: Piece<'_>) -> Step
     sorted_step(sort, t)
 }
 
-// Where the line below an empty one stands.
-fn below_empty(w: Where) -> Where
-    ensures { result ≡ below_empty w }
+// Whether the line is blank or a comment that says nothing, wherever it stands: a text may have very many, so that this is told before a step is made.
+#[tactic(auto, using(crate::proofs::StepLaws::blank_led, crate::proofs::StepLaws::nothing_led, crate::proofs::StepLaws::nothing_below))]
+fn is_nothing(w: Where, t: Piece<'_>) -> bool
+    ensures { result ≡ true → (inward : _) → step Nothing (below_nothing w inward) ≡ step_at plain_rules t.entry.text.now w inward t.entry.at }
 {
     match w {
-        Where::InPreamble => Where::InPreamble,
-        _ => Where::Outside,
+        Where::InPreamble => t.is_empty() || remarks::is_remark(t),
+        _ => openings::is_skipped(t),
     }
 }
 
-// What a line of the text is. "Begins with" is about the trimmed line, "indented" about the line as it stands in the text.
+// Where the line below such a line stands.
+#[tactic(auto, unfolding(crate::specs::StepRead::below_nothing))]
+fn below_nothing(w: Where, inward: bool) -> Where
+    ensures { result ≡ below_nothing w inward }
+{
+    match w {
+        Where::InPreamble => Where::InPreamble,
+        Where::Outside => Where::Outside,
+        Where::InBlock(..) | Where::InEntry => {
+            if inward {
+                Where::InEntry
+            } else {
+                Where::Outside
+            }
+        }
+    }
+}
+
+// What a line of the text is. "Begins with" is about the trimmed line, "indented" about the line as it stands in the text. Never in its callers: it is
+// large, and what comes out of it goes where they want it.
+#[inline(never)]
+#[tactic(auto, using(crate::proofs::StepLaws::step_is, crate::proofs::StepLaws::empty_is, crate::proofs::StepLaws::nothing_is))]
 pub fn step(text: &[u8], w: Where, l: Line) -> Step
     requires { In text.now (line_span l) }
     ensures { result ≡ step_of plain_rules text.now w l }
@@ -149,15 +179,21 @@ pub fn step(text: &[u8], w: Where, l: Line) -> Step
             end: l.end,
         },
     };
-    // An empty line is nothing wherever it stands: a text may have very many.
     if line.is_empty() {
         return Step {
             role: Role::Nothing,
-            next: below_empty(w),
+            next: below_nothing(w, false),
         };
     }
     let inward = lines::lines::indented(line.bytes());
-    step_at(w, inward, line.trimmed())
+    let t = line.trimmed();
+    if is_nothing(w, t) {
+        return Step {
+            role: Role::Nothing,
+            next: below_nothing(w, inward),
+        };
+    }
+    step_at(w, inward, t)
 }
 
 // The same place, made case by case. A walk carries the place from line to line by this: a plain copy reads bytes together that `step` wrote one by one,

@@ -8,6 +8,7 @@ use rows::parts::{at, items, maybe, maybe_number};
 use script::response::HandshakeInfo;
 use version::ProtocolVersion;
 
+#[tactic(auto, unfolding(rows::specs::Rows::version_of))]
 fn version(major: u64, minor: u64) -> ProtocolVersion
     ensures { result ≡ version_of major minor }
 {
@@ -17,6 +18,7 @@ fn version(major: u64, minor: u64) -> ProtocolVersion
     }
 }
 
+#[tactic(auto, unfolding(rows::specs::Rows::info_row))]
 pub fn info_of(row: &[u64]) -> HandshakeInfo
     ensures { result ≡ info_row row.now }
 {

@@ -1,7 +1,7 @@
 -- What Message answers of an expectation that was read from a row. Assumes nothing.
 use Rattle.std.specs.Prelude.{Result}
 use Prim.Native.Nat.{ℕ}
-use mathlib.Core.Path.{◌≡◌, refl, ap, subst, ◌∙◌}
+use mathlib.Core.Path.{◌≡◌, ap, subst, ◌∙◌}
 use mathlib.Core.List.{List}
 use lib.IntN.{ℤ}
 use lib.ListN.{length}
@@ -20,6 +20,10 @@ use Rattle.told.specs.Told.{counted, unless_refused}
 use Rattle.told.specs.declared.Told.{Told}
 use Rattle.row_messages.specs.Messages.{subject_told}
 
+-- the matcher's number comes as bits, and is read back
+pub row_read : (row : List ℕ) (n : ℤ) → SFits w64 n → (e : Expect) → e ≡ expect_row row (to_z w64 (of_z w64 n)) → e ≡ expect_row row n
+row_read row n f e p = p ∙ ap (expect_row row) (to_z-of_z w64 n f)
+
 module _ (text bytes : List ℕ) (lists : List (List ℕ)) (scratch buffer : List ℕ) (t : Result Told Refusal) (s b : List ℕ) where
   -- the answer, and what is left of what is lent
   abbrev Answered : Handed → Expect → Type 0
@@ -32,16 +36,3 @@ module _ (text bytes : List ℕ) (lists : List (List ℕ)) (scratch buffer : Lis
     -- the machine hands the matcher's number on as bits, and reads it back
     pub row_handed : (h k : Handed) → h ≡ k → Answered h (expect_row row (to_z w64 (of_z w64 n))) → Answered k (expect_row row n)
     row_handed h k e a = subst (λ (x : Handed). Answered x (expect_row row n)) e (subst (λ (m : ℤ). Answered h (expect_row row m)) (to_z-of_z w64 n f) a)
-
-    pub of_row : (h : Handed) (e : Expect) → e ≡ expect_row row (to_z w64 (of_z w64 n)) → t ≡ subject_told text e bytes lists h (length scratch) (length buffer)
-        → s ≡ unless_refused t (present_bytes (looked (held_by bytes (counted lists) h) (expected_of text e))) scratch
-        → b ≡ unless_refused t (message (held_by bytes (counted lists) h) (expected_of text e)) buffer
-        → Answered h (expect_row row n)
-    of_row h e ee p q r =
-        row_handed h h refl (subst (Answered h) ee (
-          p,
-          (
-            q ∙ ap (λ (u : Result Told Refusal). unless_refused u (present_bytes (looked (held_by bytes (counted lists) h) (expected_of text e))) scratch) p,
-            r ∙ ap (λ (u : Result Told Refusal). unless_refused u (message (held_by bytes (counted lists) h) (expected_of text e)) buffer) p,
-          ),
-        ))

@@ -1,4 +1,4 @@
-// The parts of a row.
+// The parts of a row. Here the numbers that a host hands over become places and ranges.
 ghost use Rattle.std.specs.Prelude.{◌≡◌};
 ghost use Rattle.rows.specs.Rows as Rows;
 

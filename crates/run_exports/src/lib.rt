@@ -1,4 +1,4 @@
-// A list of calls on a script, as a host makes them.
+// A list of calls on a script, as a host makes them. What is lent comes apart: no struct of slices goes through C.
 #![tactic(auto)]
 
 ghost use Rattle.std.specs.Prelude.{map, ◌≡◌, length};
@@ -11,6 +11,7 @@ ghost use Rattle.ran.specs.Told.{status_of, ran_line, ran_tally};
 ghost use Rattle.run_alone.specs.Alone.{ran_alone};
 
 use ran::{ran_line, ran_tally, status_of};
+use texts::Held;
 
 // Reads a script and makes every call in turn: 0, or why it is not done and on which line; the tally. Where it is not done the tally's numbers are 0 and
 // the slices are as they were.
@@ -36,7 +37,8 @@ pub extern "C" fn nwscript_run(
     ensures scratch_after { scratch.new ≡ if_done (ran_alone text.now calls.now bytes.now lists.now verdicts.old (length scratch.old) (length answers.old)) (plain_scratch text.now (length verdicts.old) (calls_of bytes.now lists.now calls.now) scratch.old) scratch.old }
     ensures answers_after { answers.new ≡ if_done (ran_alone text.now calls.now bytes.now lists.now verdicts.old (length scratch.old) (length answers.old)) (written_at 0 (map answer_code (plain_run text.now (length verdicts.old) (calls_of bytes.now lists.now calls.now)).0) answers.old) answers.old }
 {
-    let r = run_alone::run_alone(text, calls, bytes, lists, verdicts, scratch, answers);
+    let held = Held { bytes, lists };
+    let r = run_alone::run_alone(text, calls, held, verdicts, scratch, answers);
     let t = ran_tally(r);
     *line = ran_line(r);
     *next = t.next;

@@ -2,11 +2,12 @@
 ghost use Rattle.std.specs.Prelude.{◌≡◌, ◌<◌, IfSome, None, option_map};
 ghost use Rattle.script.specs.Operations.{key_row};
 ghost use Rattle.script.specs.Contents.{number_of, flag_of, value_or};
+ghost use Rattle.script.specs.Inside.{In};
 ghost use Rattle.script.specs.declared.roles.Saying.TheVariants as Saying;
 ghost use Rattle.said.specs.Said.{said_of, SaidIn};
 
 use pieces::pieces::Piece;
-use script::roles::Key;
+use script::roles::{Key, Opening};
 use text::parts::Span;
 
 // The place of a key among 33: the keys are numbered from 1.
@@ -39,6 +40,15 @@ impl Heard {
     {
         self.values[key_number(k)] = Some(v);
     }
+
+    // The last value of the key.
+    #[tactic(auto, unfolding(crate::specs::Said::said_of))]
+    pub fn value(&self, k: Key) -> Option<Span>
+        ensures { result ≡ said_of self.now k }
+    {
+        let n = key_number(k);
+        self.values[n]
+    }
 }
 
 // What was said, in the text: each value lies inside it.
@@ -50,13 +60,12 @@ pub struct Said<'a> {
 }
 
 impl<'a> Said<'a> {
-    // The last value of the key.
-    #[tactic(auto, unfolding(crate::specs::Said::said_of))]
+    // The last value of the key, as a piece of the text.
     pub fn value(self, k: Key) -> Option<Piece<'a>>
         ensures place { option_map (λ v. v.at) result ≡ said_of self.entry.heard.now k }
         ensures text { IfSome result (λ v. v.text.now ≡ self.entry.text.now) }
     {
-        let at = self.heard.values[key_number(k)]?;
+        let at = self.heard.value(k)?;
         Some(Piece {
             text: self.text,
             at,
@@ -79,5 +88,26 @@ impl<'a> Said<'a> {
         ensures { result ≡ flag_of self.entry.text.now (said_of self.entry.heard.now k) }
     {
         self.value(k).is_some_and(|v| !v.is_word(b"0"))
+    }
+}
+
+// An operation whose lines have been read: what opens it, and what was said below it.
+#[derive(Clone, Copy)]
+pub struct Operation<'a> {
+    pub opening: Opening,
+    pub said: Said<'a>,
+    pub ghost inside: { In said.text.now opening.args },
+}
+
+impl<'a> Operation<'a> {
+    // What stands behind its name.
+    pub fn args(self) -> Piece<'a>
+        ensures text { result.text ≡ self.entry.said.text }
+        ensures at { result.at ≡ self.entry.opening.args }
+    {
+        Piece {
+            text: self.said.text,
+            at: self.opening.args,
+        }
     }
 }

@@ -78,12 +78,13 @@ pub enum Saying {
     NoRaw,
 }
 
-// The line that opens an entry: its timestamp, its operation, and what stands behind the operation's name.
+// The line that opens an entry: its timestamp, its operation, and what stands behind the operation's name. The last comes first: a `Role` that begins with a
+// whole word is copied by words, and a step is copied for every line.
 #[derive(Clone, Copy)]
 pub struct Opening {
+    pub args: Span,
     pub stamp: Option<Time>,
     pub op: Op,
-    pub args: Span,
 }
 
 // A line that opens an entry, as far as its timestamp: that, if it has one, and what follows it.

@@ -14,9 +14,11 @@ use judge::tally::Tally;
 use ran::RunError;
 use runs::calling::run_calls;
 use script::records::{Entry, Expectation};
+use texts::Held;
 
 // Reads a script into the lent tables and makes every call in turn, from a fresh tally. The answers and what is left are those of the plain judge, which
 // sees the text alone. Tried first: that there is a place for each answer, then that no call asks for more of the scratch than is lent.
+// What is lent comes apart: the theorem `Claims.demand_one` is about this signature.
 pub fn run_script(
     text: &[u8],
     entries: &mut [Entry],
@@ -52,8 +54,7 @@ pub fn run_script(
         entries,
         expectations,
         calls,
-        bytes,
-        lists,
+        Held { bytes, lists },
         verdicts,
         scratch,
         answers,

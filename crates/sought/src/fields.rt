@@ -8,8 +8,9 @@ use crate::value::{Value, flag_value, list_value, number_value, text_value};
 use script::response::{PathInfoResult, ResultData};
 use text::parts::same;
 
-fn path_info_value(p: PathInfoResult, field: &[u8]) -> Value
-    ensures { Means result (λ bytes lists. value_in (fields (told.path_info (path_info_of bytes lists p))) field.now) }
+#[tactic(auto, using(crate::proofs::ValueLaws::told_same), unfolding(verdicts::specs::Held::path_info_of, verdicts::specs::Lookup::fields, crate::specs::Values::value_bytes, verdicts::specs::Lookup::value_in))]
+fn path_info_value(p: &PathInfoResult, field: &[u8]) -> Value
+    ensures { Means result (λ bytes lists. value_in (fields (told.path_info (path_info_of bytes lists p.now))) field.now) }
 {
     if same(field, b"valid") {
         return flag_value(p.valid);
@@ -72,21 +73,21 @@ fn missing_value(download_size: u64, nar_size: u64, field: &[u8]) -> Value
 
 // The value of a field, missing where the result has none of that name.
 #[tactic(auto, unfolding(crate::specs::Values::value_bytes, verdicts::specs::Lookup::value_in, verdicts::specs::Lookup::fields, verdicts::specs::Held::result_of))]
-pub fn field_value(res: ResultData, field: &[u8]) -> Value
-    ensures { Means result (λ bytes lists. value_in (fields (result_of bytes lists res)) field.now) }
+pub fn field_value(res: &ResultData, field: &[u8]) -> Value
+    ensures { Means result (λ bytes lists. value_in (fields (result_of bytes lists res.now)) field.now) }
 {
     match res {
         ResultData::PathInfo(p) => path_info_value(p, field),
-        ResultData::CollectGarbage { bytes_freed } => collect_garbage_value(bytes_freed, field),
+        ResultData::CollectGarbage { bytes_freed } => collect_garbage_value(*bytes_freed, field),
         ResultData::SubstitutablePathInfo {
             valid,
             download_size,
             nar_size,
-        } => substitutable_value(valid, download_size, nar_size, field),
+        } => substitutable_value(*valid, *download_size, *nar_size, field),
         ResultData::Missing {
             download_size,
             nar_size,
-        } => missing_value(download_size, nar_size, field),
+        } => missing_value(*download_size, *nar_size, field),
         ResultData::Absent
         | ResultData::U64(_)
         | ResultData::Str(_)

@@ -22,7 +22,7 @@ pub enum Value {
 }
 
 // A flag is the number 1 or 0.
-#[tactic(auto, unfolding(crate::specs::Values::value_bytes, verdicts::specs::Lookup::flag, values::specs::Decimal::decimal, text::specs::Literal::utf8, text::specs::Unicode::encoded))]
+#[tactic(auto, using(crate::proofs::ValueLaws::flag_digit), unfolding(crate::specs::Values::value_bytes, verdicts::specs::Lookup::flag, values::specs::Decimal::decimal, text::specs::Literal::utf8, text::specs::Unicode::encoded))]
 pub fn flag_value(b: bool) -> Value
     ensures { Means result (λ bytes lists. Some (flag b)) }
 {
@@ -52,13 +52,13 @@ pub fn list_value(m: Option<Items>) -> Value
 
 // The value of a result where no field is named.
 #[tactic(auto, unfolding(crate::specs::Values::value_bytes, verdicts::specs::Lookup::whole_value, verdicts::specs::Held::result_of))]
-pub fn whole_value(res: ResultData) -> Value
-    ensures { Means result (λ bytes lists. whole_value (result_of bytes lists res)) }
+pub fn whole_value(res: &ResultData) -> Value
+    ensures { Means result (λ bytes lists. whole_value (result_of bytes lists res.now)) }
 {
     match res {
-        ResultData::U64(n) => Value::Number(n),
-        ResultData::Str(p) => Value::Text(p),
-        ResultData::StringSet(r) => Value::List(r),
+        ResultData::U64(n) => Value::Number(*n),
+        ResultData::Str(p) => Value::Text(*p),
+        ResultData::StringSet(r) => Value::List(*r),
         ResultData::Absent
         | ResultData::PathInfo(_)
         | ResultData::StringMap

@@ -31,6 +31,7 @@ fn fraction(s: &[u8]) -> (&[u8], &[u8])
 }
 
 // The number that the digits spell, after those that spelled `before`: all of them together are at most 18.
+#[tactic(auto, using(crate::proofs::SpeltLaws::spelt_steps), unfolding(values::specs::Numbers::decimal_from))]
 fn spelt(digits: &[u8], before: u64) -> u64
     requires all { all_digits digits.now ≡ true }
     requires room { (before + 1) * 10 ^ length digits.now ≤ 10 ^ 18 }
@@ -91,6 +92,7 @@ fn is_negative(s: &[u8]) -> bool
 }
 
 // The time that s spells. NoF64: no f64 to Rust; NotCarried: an f64 to Rust, but not carried.
+#[tactic(auto, using(std::proofs::lemmas::Bool::Decides::nat_tests), unfolding(script::specs::Timestamps::carried, script::specs::Timestamps::time, values::specs::Numbers::decimal_from))]
 pub fn time(s: &[u8]) -> Result<Time, Reason>
     ensures { result ≡ definition.time s.now }
 {

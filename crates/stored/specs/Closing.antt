@@ -14,6 +14,8 @@ use Rattle.script.specs.declared.roles.Opening.{Opening}
 use Rattle.script.specs.declared.roles.Saying.{Saying}
 use Rattle.records.specs.Records.{sizes, record_of}
 use Rattle.records.specs.declared.calls.Sizes.{Sizes}
+use Rattle.said.specs.Said.{said_of}
+use Rattle.said.specs.declared.said.Operation.{Operation}
 
 -- ---- an entry: `args` is what stands behind the operation's name, `value` the last value of each key
 
@@ -142,6 +144,16 @@ pairs_for query_realisation ss = []
 pairs_for query_substitutable_path_info ss = []
 pairs_for query_substitutable_path_infos ss = []
 pairs_for raw_bytes ss = []
+
+-- the same of an operation whose lines have been read: the items of its path set, the bytes of its values, and how much that is
+abbrev pub own_set : Operation → List Span
+own_set o = set_items o.said.text.now o.opening.args (said_of o.said.heard.now) (form_of o.opening.op).shape
+
+abbrev pub own_stored : Operation → List ℕ
+own_stored o = stored o.said.text.now (said_of o.said.heard.now) (form_of o.opening.op).shape
+
+abbrev pub own_sizes : Operation → (pairs : ℕ) → Sizes
+own_sizes o pairs = sizes_for o.said.text.now o.opening.args (said_of o.said.heard.now) pairs (form_of o.opening.op).shape
 
 -- the record of an entry that p opens, behind i items, b bytes of the store and x expectations; n of these are its own
 unfoldable pub entry_record : (text : List ℕ) → (line : ℕ) → (p : Opening) → (value : Key → Option Span) → (i b : ℕ) → Sizes → (x n : ℕ) → Entry

@@ -4,4 +4,4 @@ use Rattle.verdicts.specs.Subjects.{held_by}
 use Rattle.subjects.specs.declared.handed.Subject as handed
 
 abbrev pub against : handed.Subject → Subject
-against s = held_by s.held.bytes.now s.held.lists.now s.handed
+against s = held_by s.held.bytes.now s.held.lists.now s.handed.now

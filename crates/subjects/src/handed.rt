@@ -19,14 +19,14 @@ use verdicts::handed::Handed;
 // What expectations are judged against, with the bytes and the table that hold its texts and its lists.
 #[derive(Clone, Copy)]
 pub struct Subject<'a> {
-    pub handed: Handed,
+    pub handed: &'a Handed,
     pub held: Held<'a>,
 }
 
 // The value that an expectation looks up in it, whatever holds its texts and lists.
 #[tactic(auto, unfolding(verdicts::specs::Subjects::held_by, verdicts::specs::Lookup::looked))]
-pub fn looked_value(e: Expect, text: &[u8], h: Handed) -> Value
-    ensures { Means result (λ bytes lists. looked (held_by bytes lists h) (expected_of text.now e)) }
+pub fn looked_value(e: Expect, text: &[u8], h: &Handed) -> Value
+    ensures { Means result (λ bytes lists. looked (held_by bytes lists h.now) (expected_of text.now e)) }
 {
     match h {
         Handed::Info(i) => looked_handshake(e, i),
@@ -38,7 +38,7 @@ impl<'a> Subject<'a> {
     // Every part of it lies inside its bytes.
     #[tactic(auto, unfolding(verdicts::specs::Subjects::parts_in))]
     pub fn parts_in(self) -> bool
-        ensures { result ≡ parts_in self.entry.held.bytes.now self.entry.held.lists.now self.entry.handed }
+        ensures { result ≡ parts_in self.entry.held.bytes.now self.entry.held.lists.now self.entry.handed.now }
     {
         let n = self.held.bytes.len();
         match self.handed {

@@ -25,7 +25,7 @@ pub fn value_fits(x: Expectation, text: &[u8], s: Subject<'_>, room: usize) -> b
     ensures { result ≡ fits room (looked (against s.entry) (expected_of text.now x.expect)) }
 {
     let value = looked_value(x.expect, text, s.handed);
-    value_room(value, s.held.bytes, s.held.lists, room).is_some()
+    value_room(value, s.held, room).is_some()
 }
 
 // Its verdict; a present value is left in the scratch.
@@ -36,6 +36,6 @@ pub fn judge_one(x: Expectation, text: &[u8], s: Subject<'_>, scratch: &mut [u8]
 {
     let value = looked_value(x.expect, text, s.handed);
     let v = s.verdict(x.expect, value, text);
-    write_value(value, s.held.bytes, s.held.lists, scratch);
+    write_value(value, s.held, scratch);
     v
 }

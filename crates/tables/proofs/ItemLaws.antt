@@ -1,11 +1,11 @@
 -- Laws of items: how the items of a set are those of its parts. Assumes nothing.
-use Prim.Native.Nat.{ℕ, ◌+◌, ◌-◌, ◌≤◌, ◌<◌}
+use Prim.Native.Nat.{ℕ, ◌+◌, ◌-◌, ◌≤◌}
 use mathlib.Core.Path.{◌≡◌, refl, sym, ap, ◌∙◌}
 use mathlib.Core.Bool.{Bool, true, false}
 use mathlib.Core.List.{List, [], ◌∷◌}
 use native.Mathlib.Omega.{arith}
 use lib.Dec.{eqb}
-use lib.ListN.{length, set}
+use lib.ListN.{length}
 use borrow.Author.Tests.{eqb-true}
 use Rattle.std.specs.Prelude.{if◌then◌else◌, None, Option, Some}
 use Rattle.text.specs.Base.{◌&◌}
@@ -18,19 +18,11 @@ use Rattle.script.specs.Pieces as Pieces
 use Rattle.script.specs.Sets.{CLOSING-BRACE, PathSet, non_empty, trimmed_items, path_items, braced_set, plain_set, path_set, features}
 use Rattle.script.specs.Contents.{items_in}
 use Rattle.script.specs.Inside.{In}
-use Rattle.script.specs.declared.records.Place.{Place}
 use Rattle.script.proofs.Inside.{length-bytes}
 use Rattle.pieces.proofs.BehindLaws.{behind-none, behind-some, cut-none, cut-some}
 use Rattle.pieces.specs.declared.pieces.Piece.{Piece}
-use Rattle.written.specs.Written.{written_at}
 use Rattle.tables.specs.Items.{item_of, items_for, items_of}
 use Rattle.tables.specs.SetRead.{items_or, braced_items, items_by}
-use Rattle.written.proofs.WrittenLaws.{written_one}
-
--- q is the answer of `matchers::place_of`
-pub item_written : (at : ℕ) (p : Span) (q : Place) (t : List (List ℕ)) → q ≡ place p → at < length t → set t at (q.start ∷ q.len ∷ []) ≡ written_at at (item_of (place p) ∷ []) t
-unfolding item_of
-item_written at p q t e h = rw (← e) (sym (written_one at (q.start ∷ q.len ∷ []) t h))
 
 -- ---- path sets
 

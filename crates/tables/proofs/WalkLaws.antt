@@ -8,7 +8,7 @@ use mathlib.Core.List.{List, [], ◌∷◌, ◌++◌, map}
 use native.Mathlib.Nat.{add-zero}
 use native.Mathlib.Omega.{arith}
 use lib.Dec.{eqb}
-use lib.ListN.{length, take, drop}
+use lib.ListN.{length, take, drop, length-append}
 use lib.Seq.{drop-drop}
 use borrow.Author.Tests.{eq-eqb, ne_eqb, eqb-true, eqb-false}
 use Rattle.std.specs.Iterator.{Yields, YieldsFirstBy, Drains}
@@ -27,8 +27,8 @@ use Rattle.script.specs.Pieces.{place, bytes, is_empty, trim, split, words}
 use Rattle.script.specs.Sets.{COMMA, non_empty, trimmed_items}
 use Rattle.script.specs.Inside.{In}
 use Rattle.script.proofs.Inside.{length-bytes}
-use Rattle.written.specs.Written.{written_at}
-use Rattle.written.proofs.WrittenLaws.{written_length, written_twice}
+use Rattle.written.specs.declared.Writer.{Writer}
+use Rattle.written.specs.Writing.{Room, wrote}
 use Rattle.tables.specs.Items.{item_of, items_for}
 use Rattle.tables.specs.Walks.{place_of, PutsPlaces}
 
@@ -219,34 +219,20 @@ filled_next p ps e = rw e
 
 -- ---- an item for each piece
 
+-- of none there is none
 pub items_none : items_for (map place_of []) ≡ []
 unfolding items_for
 items_none = refl
 
-pub items_count : (ps : List Piece) → length (items_for (map place_of ps)) ≡ length ps
-unfolding items_for
-items_count ps =
-    length-map (map place (map place_of ps)) item_of ∙ length-map (map place_of ps) place ∙ length-map ps place_of
+-- one more
+module _ (p : Piece) where
+  pub items_more : (ps : List Piece) → items_for (map place_of (ps ++ (p ∷ []))) ≡ items_for (map place_of ps) ++ (item_of (place p.at) ∷ [])
+  unfolding items_for
+  items_more [] = refl
+  items_more (q ∷ ps) = ap (λ (xs : List (List ℕ)). item_of (place q.at) ∷ xs) (items_more ps)
 
-items_more : (ps : List Piece) (p : Piece) → items_for (map place_of (ps ++ (p ∷ []))) ≡ items_for (map place_of ps) ++ (item_of (place p.at) ∷ [])
-unfolding items_for
-items_more [] p = refl
-items_more (q ∷ ps) p = ap (λ (xs : List (List ℕ)). item_of (place q.at) ∷ xs) (items_more ps p)
-
--- the table keeps its length
-pub put_length : (i : ℕ) (x : List ℕ) (now after : List (List ℕ)) → i < length now → after ≡ written_at i (x ∷ []) now → length after ≡ length now
-put_length i x now after l h = ap length h ∙ written_length i (x ∷ []) now (omega arith)
-
--- n of them are written from `at` on, and one more
-pub put_more : (at n : ℕ) (ps : List Piece) (p : Piece) (table now after : List (List ℕ)) → n ≡ length ps → now ≡ written_at at (items_for (map place_of ps)) table
-    → at + n < length table → after ≡ written_at (at + n) (item_of (place p.at) ∷ []) now → after ≡ written_at at (items_for (map place_of (ps ++ (p ∷ [])))) table
-put_more at n ps p table now after e k l h =
-    let c : n ≡ length (items_for (map place_of ps)) = e ∙ sym (items_count ps) in
-    h
-    ∙ ap (written_at (at + n) (item_of (place p.at) ∷ [])) k
-    ∙ ap (λ (i : ℕ). written_at (at + i) (item_of (place p.at) ∷ []) (written_at at (items_for (map place_of ps)) table)) c
-    ∙ written_twice at (items_for (map place_of ps)) (item_of (place p.at) ∷ []) table (omega arith)
-    ∙ ap (λ (xs : List (List ℕ)). written_at at xs table) (sym (items_more ps p))
+  pub one_longer : (ps : List Piece) → length (items_for (map place_of (ps ++ (p ∷ [])))) ≡ length (items_for (map place_of ps)) + 1
+  one_longer ps = ap length (items_more ps) ∙ length-append (items_for (map place_of ps)) (item_of (place p.at) ∷ [])
 
 -- ---- what the walks have given
 
@@ -255,8 +241,8 @@ unfolding items_for
 items_length ps = length-map (map place ps) item_of ∙ length-map ps place
 
 -- there is room for an item for each piece
-pub places_room : (xs : List (List ℕ)) (ps : List Span) (at m : ℕ) → xs ≡ items_for ps → at + length xs ≤ m → at + length ps ≤ m
-places_room xs ps at m k h = omega (arith, ap length k, items_length ps)
+pub places_room : (xs : List (List ℕ)) (ps : List Span) (w : Writer (List ℕ)) → xs ≡ items_for ps → Room (length xs) w → Room (length ps) w
+places_room xs ps w k h = omega (arith, ap length k, items_length ps)
 
 module _ {S : Type 0} (rest : S → List Span) where
   gave : (ps : List Piece) (s t u : S) → Yields (YieldsFirstBy place_of rest) s ps t → YieldsFirstBy place_of rest t None u → map place_of ps ≡ rest s
@@ -268,12 +254,7 @@ module _ {S : Type 0} (rest : S → List Span) where
   count_is s n h = let d = h.1 in h.2 ∙ sym (length-map h.0 place_of) ∙ ap length (gave h.0 s d.1.0 d.0 d.1.1 d.1.2)
 
   -- `put_places` has written xs, the items of all that was left
-  module _ (s : S) (at n : ℕ) (table after xs : List (List ℕ)) (h : PutsPlaces (YieldsFirstBy place_of rest) s at table n after) (k : xs ≡ items_for (rest s)) where
-    all : xs ≡ items_for (map place_of h.0)
-    all = let d = h.1 in k ∙ ap items_for (sym (gave h.0 s d.1.0 d.0 d.1.1 d.1.2))
-
-    pub places_count : n ≡ length xs
-    places_count = h.2 ∙ sym (items_count h.0) ∙ sym (ap length all)
-
-    pub places_written : after ≡ written_at at xs table
-    places_written = h.3 ∙ ap (λ (l : List (List ℕ)). written_at at l table) (sym all)
+  pub places_written : (s : S) (w after : Writer (List ℕ)) (xs : List (List ℕ)) → PutsPlaces (YieldsFirstBy place_of rest) s w after → xs ≡ items_for (rest s) → after ≡ wrote xs w
+  places_written s w after xs h k =
+      let d = h.1 in
+      h.2 ∙ ap (λ (l : List (List ℕ)). wrote l w) (sym (k ∙ ap items_for (sym (gave h.0 s d.1.0 d.0 d.1.1 d.1.2))))

@@ -1,11 +1,12 @@
 -- What the walks over the pieces of a piece have left to give. Assumes nothing.
-use Rattle.std.specs.Prelude.{◌≡◌, ℕ, List, [], map, length, None, Option, Some}
+use Rattle.std.specs.Prelude.{◌≡◌, ℕ, List, [], map, None, Option, Some}
 use Rattle.std.specs.Iterator.{Drains}
 use Rattle.text.specs.declared.parts.Span.{Span}
 use Rattle.pieces.specs.declared.pieces.Piece.{Piece}
 use Rattle.script.specs.Pieces.{words}
 use Rattle.script.specs.Sets.{non_empty, trimmed_items}
-use Rattle.written.specs.Written.{written_at}
+use Rattle.written.specs.declared.Writer.{Writer}
+use Rattle.written.specs.Writing.{wrote}
 use Rattle.tables.specs.Items.{items_for}
 use Rattle.tables.specs.declared.walks.FilledItems.{FilledItems}
 use Rattle.tables.specs.declared.walks.TrimmedItems.{TrimmedItems}
@@ -29,7 +30,6 @@ filled_left w = non_empty (items_left w.items)
 abbrev pub words_left : Words → List Span
 words_left w = words w.left.text.now w.left.at
 
--- the items of what a walk from s gave, n of them, are written from `at` on
-abbrev pub PutsPlaces : {S : Type 0} → (S → Option Piece → S → Type 0) → S → (at : ℕ) → (table : List (List ℕ)) → (n : ℕ) → (after : List (List ℕ)) → Type 0
-PutsPlaces steps s at table n after =
-    (ps : List Piece) × Drains steps s ps × (n ≡ length ps) × (after ≡ written_at at (items_for (map place_of ps)) table)
+-- the items of what a walk from s gave are written by w, which is `after` then
+abbrev pub PutsPlaces : {S : Type 0} → (S → Option Piece → S → Type 0) → S → Writer (List ℕ) → (after : Writer (List ℕ)) → Type 0
+PutsPlaces steps s w after = (ps : List Piece) × Drains steps s ps × (after ≡ wrote (items_for (map place_of ps)) w)

@@ -31,6 +31,7 @@ impl<'a> Iterator for TrimmedItems<'a> {
 
     ghost remaining = { item_count items_left };
 
+    #[tactic(auto, using(crate::proofs::WalkLaws::items_last), unfolding(crate::specs::Walks::items_of_left))]
     fn next(&mut self) -> Option<Piece<'a>> {
         let left = self.left?;
         match left.find(b',') {
@@ -72,7 +73,9 @@ impl<'a> Iterator for FilledItems<'a> {
 
     ghost remaining = { item_count filled_left };
 
+    #[tactic(auto, using(crate::proofs::WalkLaws::filled_over, crate::proofs::WalkLaws::filled_skip, crate::proofs::WalkLaws::filled_next))]
     fn next(&mut self) -> Option<Piece<'a>> {
+        // No `find`: tried; its contract tells the calls of `next` one by one, and what they leave wants an induction that the check does not find.
         while let Some(item) = self.items.next() {
             if !item.is_empty() {
                 return Some(item);
@@ -106,6 +109,7 @@ impl<'a> Iterator for Words<'a> {
 
     ghost remaining = { item_count words_left };
 
+    #[tactic(auto, using(crate::proofs::WalkLaws::words_over, crate::proofs::WalkLaws::word_fits, crate::proofs::WalkLaws::word_forward, crate::proofs::WalkLaws::words_next))]
     fn next(&mut self) -> Option<Piece<'a>> {
         let w = words::word_at(self.left.bytes(), 0);
         if w.start == w.end {

@@ -228,9 +228,9 @@ listed : (text : List ℕ) (n at number : ℕ) → length text ≤ at + n → Li
 listed text zero at number h = one_more text at number (λ next m l k. absurd (omega arith))
 listed text (suc n) at number h = one_more text at number (λ next m l k. listed text n next m (omega arith))
 
-pub lines-in : (text : List ℕ) → AllIn text (lines text)
+pub lines_in : (text : List ℕ) → AllIn text (lines text)
 unfolding lines
-lines-in text = (listed text (length text) 0 1 (omega arith)).0
+lines_in text = (listed text (length text) 0 1 (omega arith)).0
 
 pub lines_few : (text : List ℕ) → length (lines text) ≤ length text
 unfolding lines

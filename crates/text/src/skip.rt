@@ -10,6 +10,7 @@ fn one_if(b: u8, x: u8) -> u8
 }
 
 // 0 where b is none of the four bytes from `at` on. An OR, and no branches, so that they are looked at together.
+#[tactic(auto, using(crate::proofs::SkipLaws::four_none))]
 fn any_of_four(s: &[u8], b: u8, at: usize) -> u8
     requires { at + 4 ≤ length s.now }
     ensures { result ≡ 0 → Without b s.now at (at + 4) }
@@ -18,6 +19,7 @@ fn any_of_four(s: &[u8], b: u8, at: usize) -> u8
 }
 
 // Whether b is none of the eight bytes from `at` on: an OR again.
+#[tactic(auto, using(crate::proofs::SkipLaws::eight_none))]
 fn not_in_eight(s: &[u8], b: u8, at: usize) -> bool
     requires { at + 8 ≤ length s.now }
     ensures { result ≡ true → Without b s.now at (at + 8) }
@@ -27,6 +29,7 @@ fn not_in_eight(s: &[u8], b: u8, at: usize) -> bool
 
 // A place up to which b does not stand from `at` on, not past `near`. This, and not memchr: below 32 bytes that goes byte by byte, and took twice as long on
 // short lines.
+#[tactic(auto, using(crate::proofs::SkipLaws::skip_steps))]
 fn skip_eights(s: &[u8], b: u8, at: usize, near: usize) -> usize
     requires at_le_near { at ≤ near }
     requires near_in_bounds { near ≤ length s.now }
@@ -44,7 +47,25 @@ fn skip_eights(s: &[u8], b: u8, at: usize, near: usize) -> usize
     i
 }
 
-// Where b first stands from `at` on, or the end.
+// Where b first stands from `at` on, or the end, by crate memchr. Never in its callers: those would grow so large that nothing of them stands in theirs.
+#[inline(never)]
+#[tactic(auto, using(std::proofs::lemmas::List::take_rest, crate::proofs::SkipLaws::none_from, crate::proofs::SkipLaws::some_from))]
+fn skip_far(s: &[u8], b: u8, at: usize) -> usize
+    requires { at ≤ length s.now }
+    ensures lower_bound { at ≤ result }
+    ensures upper_bound { result ≤ length s.now }
+    ensures without { Without b s.now at result }
+    ensures found { result < length s.now → get_or s.now result 0 ≡ b }
+{
+    match memchr::memchr(b, &s[at..]) {
+        Some(i) => at + i,
+        None => s.len(),
+    }
+}
+
+// Where b first stands from `at` on, or the end. Always in its callers: most lines and words are short, and a call takes as long as the search.
+#[inline(always)]
+#[tactic(auto, using(crate::proofs::SkipLaws::without_next, crate::proofs::SkipLaws::without_both))]
 pub fn skip_others(s: &[u8], b: u8, at: usize) -> usize
     requires { at ≤ length s.now }
     ensures lower_bound { at ≤ result }
@@ -58,8 +79,5 @@ pub fn skip_others(s: &[u8], b: u8, at: usize) -> usize
             return i;
         }
     }
-    match memchr::memchr(b, &s[near..]) {
-        Some(i) => near + i,
-        None => s.len(),
-    }
+    skip_far(s, b, near)
 }

@@ -29,7 +29,7 @@ impl<'a> Held<'a> {
     }
 }
 
-// What stands from start on, len of it, as far as there is any.
+// What stands from start on, len of it, as far as there is any. By two numbers: a place, a range and an item of a table, three types, are looked up so.
 pub fn part_of<T>(items: &[T], start: usize, len: usize) -> &[T]
     ensures { result.now ≡ take len (drop start items.now) }
 {

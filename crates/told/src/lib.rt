@@ -14,6 +14,7 @@ pub struct Told {
 }
 
 // The first 32,768 records of a table of places.
+#[tactic(auto, using(crate::proofs::ToldLaws::all_counted, crate::proofs::ToldLaws::counted_few))]
 pub fn counted_of(lists: &[[usize; 2]]) -> &[[usize; 2]]
     ensures { result.now ≡ counted lists.now }
 {

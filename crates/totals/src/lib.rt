@@ -1,4 +1,5 @@
-// The numbers that Measure carries from line to line: the totals so far, and what is open.
+// The numbers that Measure carries from line to line: the totals so far, and what is open. `Small` stands at each function that makes a sum, and is no
+// ghost field of `Open`: each pair adds two, so that it holds of what the next line leaves by the number of lines alone, which `Open` does not know.
 #![tactic(auto)]
 
 ghost use Rattle.std.specs.Prelude.{◌≡◌};
@@ -87,7 +88,8 @@ fn known_on(o: Open, k: Key, v: Piece<'_>) -> Open
     }
 }
 
-// After a line that says something. `Small` is no invariant of `Open`: a pair takes the numbers up by two, so the walk bounds them by the length of the text.
+// After a line that says something.
+#[tactic(auto, using(crate::proofs::OpenLaws::known_in, crate::proofs::OpenLaws::said_laws), unfolding(measuring::specs::Measure::told, measuring::specs::Measure::say_on, measuring::specs::Measure::pairs_on))]
 pub fn say_on(text: &[u8], o: Open, s: Saying) -> Open
     requires saying_in { SayingIn text.now s }
     requires small { Small 0x20000 o }

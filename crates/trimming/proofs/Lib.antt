@@ -1,0 +1,2 @@
+pub mod BackStartLaws
+pub mod FrontEndLaws

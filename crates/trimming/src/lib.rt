@@ -66,31 +66,31 @@ pub fn white_at(s: &[u8], at: usize) -> usize
     front_size(a, b, c)
 }
 
-// The byte before `at`; 0 if there is none. By the place, as `white_before`.
-fn byte_before(s: &[u8], at: usize) -> u8
-    requires { at ≤ length s.now }
-    ensures { result ≡ get_or (reverse (take at s.now)) 0 0 }
+// The last byte; 0 where there is none.
+fn last_byte(s: &[u8]) -> u8
+    ensures { result ≡ get_or (reverse s.now) 0 0 }
 {
-    s[..at].last().copied().unwrap_or(0)
+    s.last().copied().unwrap_or(0)
 }
 
-// The size of the White_Space character that ends at `at`; 0 if there is none. By the place, which its caller counts.
-fn white_before(s: &[u8], at: usize) -> usize
-    requires at_nonzero { 0 < at }
-    requires at_in_bounds { at ≤ length s.now }
-    ensures value { result ≡ size_of (backwards white_bytes) (reverse (take at s.now)) }
-    ensures upper_bound { result ≤ at }
+// The size of the White_Space character that s ends with; 0 if there is none.
+fn white_end(s: &[u8]) -> usize
+    requires { 0 < length s.now }
+    ensures value { result ≡ size_of (backwards white_bytes) (reverse s.now) }
+    ensures upper_bound { result ≤ length s.now }
 {
-    let a = s[at - 1];
+    let n = s.len();
+    let a = s[n - 1];
     if a.is_ascii() {
         return ascii_size(a);
     }
-    let b = byte_before(s, at - 1);
-    let c = byte_before(s, at.saturating_sub(2));
+    let b = last_byte(&s[..n - 1]);
+    let c = last_byte(&s[..n.saturating_sub(2)]);
     back_size(a, b, c)
 }
 
 // Where the White_Space at the front ends.
+#[tactic(auto, using(crate::proofs::FrontEndLaws::walk), unfolding(text::specs::Trim::trimmed_front, text::specs::Trim::strip_from))]
 fn front_end(s: &[u8]) -> usize
     ensures upper_bound { result ≤ length s.now }
     ensures s_value { drop result s.now ≡ trimmed_front s.now }
@@ -108,6 +108,7 @@ fn front_end(s: &[u8]) -> usize
 }
 
 // Where the White_Space at the back begins.
+#[tactic(auto, using(crate::proofs::BackStartLaws::walk), unfolding(text::specs::Trim::trimmed_back, text::specs::Trim::strip_from))]
 fn back_start(s: &[u8]) -> usize
     ensures upper_bound { result ≤ length s.now }
     ensures s_value { take result s.now ≡ trimmed_back s.now }
@@ -115,7 +116,7 @@ fn back_start(s: &[u8]) -> usize
     let mut i = s.len();
     // No `for`: a step is as long as the character.
     while 0 < i {
-        let n = white_before(s, i);
+        let n = white_end(&s[..i]);
         if n == 0 {
             return i;
         }
@@ -124,7 +125,8 @@ fn back_start(s: &[u8]) -> usize
     i
 }
 
-// Where the text stands, by all of White_Space.
+// Where the text stands, by all of White_Space. Rarely asked for, so that it is kept out of its callers.
+#[inline(never)]
 #[tactic(auto, using(text::proofs::TrimLaws::trim_steps))]
 fn trim_wide(s: &[u8]) -> Place
     ensures { result ≡ trim_place s.now }
@@ -135,6 +137,7 @@ fn trim_wide(s: &[u8]) -> Place
 }
 
 // A place up to which ASCII White_Space stands at the front.
+#[inline(always)]
 fn skip_blanks(s: &[u8]) -> usize
     ensures upper_bound { result ≤ length s.now }
     ensures s_value { trimmed_front (drop result s.now) ≡ trimmed_front s.now }
@@ -153,7 +156,8 @@ fn is_plain(x: u8) -> bool
 }
 
 // Where the text stands once its White_Space is off both ends. Most texts have at most some blanks at the front: those need not be walked by all of
-// White_Space, and this function stays small enough to stand in its callers.
+// White_Space, and this function is small enough to stand in its callers.
+#[inline(always)]
 #[tactic(auto, using(text::proofs::TrimLaws::trim_steps))]
 pub fn trim_place(s: &[u8]) -> Place
     ensures { result ≡ trim_place s.now }

@@ -1,12 +1,13 @@
 // What a line of a text is and where the next one begins: as it was kept, or else found out.
 #![tactic(auto)]
 
-ghost use Rattle.std.specs.Prelude.{◌≡◌, ◌<◌, length};
+ghost use Rattle.std.specs.Prelude.{◌≡◌, ◌≤◌, ◌<◌, length};
 ghost use Rattle.text.specs.Lines.{line_at};
 ghost use Rattle.script.specs.Values.{plain_rules};
 ghost use Rattle.script.specs.Roles.{step_of};
 ghost use Rattle.kept.specs.Kept.{Memo};
 ghost use Rattle.turns.specs.Turns.{turn_of};
+ghost use Rattle.kept.proofs.KeptLaws.{memo_prop};
 
 use kept::Kept;
 use script::roles::{Step, Where};
@@ -26,6 +27,7 @@ fn turn_of(e: Kept) -> Turn
 }
 
 // What the line that begins there is, found out.
+#[tactic(auto, using(kept::proofs::KeptLaws::find_laws))]
 fn find(text: &[u8], w: Where, at: usize, number: usize) -> Turn
     requires { at < length text.now }
     ensures step_value { result.step ≡ step_of plain_rules text.now w (line_at text.now at number) }
@@ -51,4 +53,24 @@ pub fn look(text: &[u8], kept: &[Option<Kept>], w: Where, at: usize, number: usi
         return turn_of(*e);
     }
     find(text, w, at, number)
+}
+
+// A text that was measured, and what was kept of its lines.
+#[derive(Clone, Copy)]
+pub struct Measured<'a> {
+    pub text: &'a [u8],
+    pub kept: &'a [Option<Kept>],
+    pub ghost short: { length text.now ≤ 0x8000 },
+    pub ghost memo: { Memo text.now kept.now } by { memo_prop text.now kept.now },
+}
+
+impl<'a> Measured<'a> {
+    // What the line of it is that begins there.
+    pub fn look(self, w: Where, at: usize, number: usize) -> Turn
+        requires { at < length self.text.now }
+        ensures step_value { result.step ≡ step_of plain_rules self.entry.text.now w (line_at self.entry.text.now at number) }
+        ensures next_value { result.next ≡ (line_at self.entry.text.now at number).next }
+    {
+        look(self.text, self.kept, w, at, number)
+    }
 }

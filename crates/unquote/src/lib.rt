@@ -84,6 +84,7 @@ impl<'a> Iterator for Unescaped<'a> {
 }
 
 // How many bytes s has once its escapes are undone.
+#[tactic(auto, using(crate::proofs::UnquoteLaws::unescaped_shorter))]
 fn unescaped_len(s: &[u8]) -> usize
     ensures { result ≡ length (unescaped s.now) }
 {
@@ -109,6 +110,7 @@ fn is_quoted(s: &[u8]) -> bool
 }
 
 // How many bytes s has unquoted.
+#[tactic(auto, using(crate::proofs::UnquoteLaws::quotes))]
 pub fn unquoted_len(s: &[u8]) -> usize
     ensures { result ≡ length (unquoted s.now) }
 {
@@ -120,6 +122,7 @@ pub fn unquoted_len(s: &[u8]) -> usize
 }
 
 // Writes s unquoted over all of out, which has exactly the room.
+#[tactic(auto, using(crate::proofs::UnquoteLaws::quotes))]
 fn unquote_fill(s: &[u8], out: &mut [u8])
     requires { length out.old ≡ length (unquoted s.now) }
     ensures { out.new ≡ unquoted s.now }

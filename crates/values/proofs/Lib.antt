@@ -1,2 +1,3 @@
 pub mod NumberLaws
 pub mod ValueExamples
+pub mod ParseI64Laws

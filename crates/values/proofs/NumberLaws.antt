@@ -90,3 +90,5 @@ module _ (s : List ℕ) (i limit v : ℕ) (whole : Option ℕ) where
 
     pub too_large : true ≡ is_ascii_digit (get_or s i 0) → limit ≤ v * 10 + (get_or s i 0 - 0x30) → None ≡ whole
     too_large x l = sym (beyond _ _ _ l) ∙ a_digit x
+
+pub ruleset digits_up_to_laws = (no_digit, begun, done, other, a_digit, too_large)

@@ -3,6 +3,7 @@ ghost use Rattle.std.specs.Prelude.{◌≡◌, ◌+◌};
 ghost use Rattle.values.specs.Numbers.{digits, number, signed};
 
 // The number that the digits spell, if it is at most `max`.
+#[tactic(auto, using(crate::proofs::NumberLaws::digits_up_to_laws))]
 fn digits_up_to(s: &[u8], max: u64) -> Option<u64>
     ensures { result ≡ digits (max + 1) s.now }
 {
@@ -23,6 +24,7 @@ fn digits_up_to(s: &[u8], max: u64) -> Option<u64>
 }
 
 // Rust's `parse` of an unsigned type whose largest number is `max`.
+#[tactic(auto, using(std::proofs::lemmas::List::take_rest), unfolding(crate::specs::Numbers::digits, crate::specs::Numbers::number))]
 pub fn parse_up_to(s: &[u8], max: u64) -> Option<u64>
     ensures { result ≡ number (max + 1) s.now }
 {
@@ -32,6 +34,7 @@ pub fn parse_up_to(s: &[u8], max: u64) -> Option<u64>
     }
 }
 
+#[tactic(auto, using(crate::proofs::ParseI64Laws::parse_i64_steps), unfolding(crate::specs::Numbers::signed, crate::specs::Numbers::minus, crate::specs::Numbers::number))]
 pub fn parse_i64(s: &[u8]) -> Option<i64>
     ensures { result ≡ signed s.now }
 {

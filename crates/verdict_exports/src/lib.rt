@@ -1,4 +1,5 @@
 // The verdict alone of an expectation, as a host calls it: the verdict's number, or the number of a reason. Nothing is written.
+// The bytes and the table of lists come apart: no struct of slices goes through C.
 #![tactic(auto)]
 
 ghost use Rattle.std.specs.Prelude.{◌≡◌};
@@ -13,17 +14,17 @@ use texts::Held;
 use told::counted_of;
 use verdicts::handed::Handed;
 
-fn number(text: &[u8], e: Expect, h: Handed, bytes: &[u8], lists: &[[usize; 2]]) -> u64
-    ensures { result ≡ subject_number text.now e bytes.now lists.now h }
+fn number(text: &[u8], e: Expect, h: &Handed, held: Held<'_>) -> u64
+    ensures { result ≡ subject_number text.now e held.entry.bytes.now held.entry.lists.now h.now }
 {
     if !expect_in(text.len(), e) {
         return Reason::ExpectationOutside.number();
     }
-    let lists = counted_of(lists);
-    let subject = Subject {
-        handed: h,
-        held: Held { bytes, lists },
+    let held = Held {
+        lists: counted_of(held.lists),
+        ..held
     };
+    let subject = Subject { handed: h, held };
     if !subject.parts_in() {
         return Reason::PartOutside.number();
     }
@@ -45,7 +46,7 @@ pub extern "C" fn nwscript_entry_verdict(
 {
     let e = row_expects::expect_of(expectation, n);
     let h = Handed::Response(row_responses::response_of(response));
-    number(text, e, h, bytes, lists)
+    number(text, e, &h, Held { bytes, lists })
 }
 
 // And of one that is judged against what the handshake told: a function of its own, for no enum with data goes through C.
@@ -62,5 +63,5 @@ pub extern "C" fn nwscript_handshake_verdict(
 {
     let e = row_expects::expect_of(expectation, n);
     let h = Handed::Info(row_infos::info_of(information));
-    number(text, e, h, bytes, lists)
+    number(text, e, &h, Held { bytes, lists })
 }

@@ -63,11 +63,11 @@ pub fn entry_verdict(
     e: Expect,
     value: Value,
     text: &[u8],
-    r: DaemonResponse,
+    r: &DaemonResponse,
     held: Held<'_>,
 ) -> Verdict
-    requires { value_bytes held.bytes.now held.lists.now value ≡ looked_in (response_of held.bytes.now held.lists.now r) (expected_of text.now e) }
-    ensures { result ≡ verdict (reply (response_of held.entry.bytes.now held.entry.lists.now r)) (expected_of text.now e) }
+    requires { value_bytes held.bytes.now held.lists.now value ≡ looked_in (response_of held.bytes.now held.lists.now r.now) (expected_of text.now e) }
+    ensures { result ≡ verdict (reply (response_of held.entry.bytes.now held.entry.lists.now r.now)) (expected_of text.now e) }
 {
     match e {
         Expect::Terminal(name) => terminal_verdict(text, name, held, r.terminal),
@@ -83,11 +83,11 @@ pub fn handshake_verdict(
     e: Expect,
     value: Value,
     text: &[u8],
-    i: HandshakeInfo,
+    i: &HandshakeInfo,
     held: Held<'_>,
 ) -> Verdict
-    requires { value_bytes held.bytes.now held.lists.now value ≡ told_in (info_of held.bytes.now held.lists.now i) (expected_of text.now e) }
-    ensures { result ≡ verdict (greeting (info_of held.entry.bytes.now held.entry.lists.now i)) (expected_of text.now e) }
+    requires { value_bytes held.bytes.now held.lists.now value ≡ told_in (info_of held.bytes.now held.lists.now i.now) (expected_of text.now e) }
+    ensures { result ≡ verdict (greeting (info_of held.entry.bytes.now held.entry.lists.now i.now)) (expected_of text.now e) }
 {
     match e {
         Expect::Daemon(m) | Expect::Trust(m) | Expect::ServerFeatures(m) => {

@@ -27,6 +27,7 @@ impl From<Verdict> for u8 {
 impl From<u8> for Verdict {
     ghost from_gives = { λ b v. v ≡ decode b };
 
+    #[tactic(auto, unfolding(crate::specs::Verdicts::decode))]
     fn from(b: u8) -> Verdict {
         if b == 1 {
             return Verdict::Passed;

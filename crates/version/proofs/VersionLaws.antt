@@ -1,4 +1,5 @@
 -- From the parts that the code finds to the definition of a version. Assumes nothing.
+use borrow.Author.Tests.{not-true, not-false}
 use Rattle.std.specs.Prelude.{None, Option, Some}
 use Prim.Native.Nat.{ℕ, ◌+◌, ◌-◌, ◌^◌, ◌≤◌, ◌<◌}
 use mathlib.Core.Path.{◌≡◌, refl, sym, ap, ◌∙◌}
@@ -96,3 +97,6 @@ module _ (s : List ℕ) (p : Part) (e : p ≡ part_at DOT s 0) where
         both_read n k v i j w = sym (two_parts ∙ rw (← major, ← minor, i, j, w))
 
 pub ruleset version_steps = (one_part, in_text, dot_inside, forward, inside, three_parts, no_major, no_minor, both_read)
+
+-- what `parse_version` goes by
+pub ruleset parse_version_laws = (version_steps, is_u16, is_u8, not-true, not-false)

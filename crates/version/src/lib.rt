@@ -29,6 +29,7 @@ impl ProtocolVersion {
     }
 }
 
+#[tactic(auto, using(crate::proofs::VersionLaws::parse_version_laws))]
 pub fn parse_version(s: &[u8]) -> Option<ProtocolVersion>
     ensures { result ≡ version s.now }
 {

@@ -252,6 +252,7 @@ impl Op {
     }
 
     // Whether s is the name.
+    #[tactic(auto, using(text::proofs::LiteralLaws::spells_as))]
     pub fn is_named(self, s: &[u8]) -> bool
         ensures { result ≡ spells (operation self).name s.now }
     {

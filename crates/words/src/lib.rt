@@ -8,7 +8,7 @@ ghost use Rattle.text.specs.Words.{word_from, word_at};
 
 use text::parts::Span;
 
-// Where the White_Space from `at` on ends. By the place, as all of `word_at`, whose answer is two places of s.
+// Where the White_Space from `at` on ends. By the place, as `word_at`.
 #[tactic(auto, using(text::proofs::WordLaws::word_steps), unfolding(text::specs::Words::word_at))]
 fn skip_white(s: &[u8], at: usize) -> usize
     ensures s_value { word_from 0 result result (drop result s.now) ≡ word_at s.now at }
@@ -40,7 +40,8 @@ fn skip_word(s: &[u8], start: usize) -> usize
     start.max(s.len())
 }
 
-// The first word from `at` on; it has no bytes where there is none.
+// The first word from `at` on; it has no bytes where there is none. By the place: both of the answer's places count from the front of s, and the next word
+// is asked for from the second.
 pub fn word_at(s: &[u8], at: usize) -> Span
     ensures { result ≡ word_at s.now at }
 {

@@ -1,21 +1,21 @@
 -- Laws of a writer: what it wrote, one behind the other, and the room that is left. Assumes nothing.
-use Prim.Native.Nat.{ℕ, ◌+◌, ◌≤◌, ◌<◌}
+use Prim.Native.Nat.{ℕ, ◌+◌, ◌-◌, ◌≤◌, ◌<◌}
 use mathlib.Core.Path.{◌≡◌, refl, sym, ap, ◌∙◌}
 use mathlib.Core.List.{List, [], ◌∷◌, ◌++◌, flat_map, append_assoc, append-nil}
 use native.Mathlib.Nat.{add-zero, zero-add}
 use native.Mathlib.Numerals.{add-one}
 use native.Mathlib.Omega.{arith}
-use lib.ListN.{length, take, drop, get_or, set, length-append, take-append-drop}
+use lib.ListN.{length, take, drop, get_or, set, length-append, length-drop, take-append-drop}
 use lib.Seq.{take-suc, take_all, drop-drop}
-use borrow.Rule.Slice.PartMut.{put_mid}
+use borrow.Rule.Slice.PartMut.{mid_of, put_mid}
 use borrow.Author.Tests.{le-leb}
 use denote.MutBor.{MutBor, at_last}
 use Rattle.std.proofs.lemmas.Grind.{flat_map-append}
 use Rattle.text.specs.Base.{overlaid}
 use Rattle.written.specs.declared.Writer.{Writer}
 use Rattle.written.specs.Written.{written_at}
-use Rattle.written.specs.Writing.{writer, Room, wrote}
-use Rattle.written.proofs.WrittenLaws.{written_none, written_one, written_twice, written_length}
+use Rattle.written.specs.Writing.{writer, Room, wrote, before}
+use Rattle.written.proofs.WrittenLaws.{written_none, written_one, written_twice, written_length, part_written}
 
 module _ {A : Type 0} where
   -- the writer at another table and place
@@ -26,6 +26,9 @@ module _ {A : Type 0} where
   pub wrote_none : (w : Writer A) → w ≡ wrote [] w
   unfolding wrote
   wrote_none w = rw (written_none w.at w.out.now, add-zero w.at)
+
+  pub none_wrote : (xs : List A) (w : Writer A) → xs ≡ [] → w ≡ wrote xs w
+  none_wrote xs w e = rw e (wrote_none w)
 
   -- one
   pub wrote_one : (x : A) (w : Writer A) → Room 1 w → onto w (set w.out.now w.at x) (w.at + 1) ≡ wrote (x ∷ []) w
@@ -80,6 +83,14 @@ module _ {A : Type 0} where
           ∙ ap (λ (t : List A). onto w t (w.at + length xs + length ys)) (written_twice w.at xs ys w.out.now (omega arith))
           ∙ ap (onto w (written_at w.at (xs ++ ys) w.out.now)) (omega (arith, length-append xs ys))
           ∙ ap (λ (l : List A). wrote l w) (sym e)
+
+-- two, one after the other
+module _ {A : Type 0} (x y : A) (w v : Writer A) (p : v ≡ wrote (x ∷ []) w) (room : Room 2 w) where
+  pub pair_room : Room 1 v
+  pair_room = room_left (x ∷ []) w v p 1 room
+
+  pub pair_wrote : (u : Writer A) → u ≡ wrote (y ∷ []) v → u ≡ wrote (x ∷ y ∷ []) w
+  pair_wrote = wrote_behind (x ∷ []) w v p (y ∷ []) (x ∷ y ∷ []) refl room
 
 -- a body between two words
 module _ {A : Type 0} (front body back all : List A) (e : all ≡ front ++ body ++ back) (w : Writer A) (room : Room (length all) w) where
@@ -140,17 +151,29 @@ module _ {A B : Type 0} (f : A → List B) (xs : List A) (i : ℕ) (w v : Writer
     each_wrote = wrote_behind (flat_map f (take i xs)) w v p ys (flat_map f (take (i + 1) xs)) each_more each_fits
 
 -- what a writer leaves behind that began at a slice's start, and how far it is
-module _ (xs : List ℕ) (o : MutBor (List ℕ)) (w v : Writer ℕ) (p : v ≡ wrote xs w) (q : w ≡ writer o) where
+module _ {A : Type 0} (xs : List A) (o : MutBor (List A)) (w v : Writer A) (p : v ≡ wrote xs w) (q : w ≡ writer o) where
   from_start : v ≡ wrote xs (writer o)
   from_start = p ∙ ap (wrote xs) q
 
   pub handed_at : v.at ≡ length xs
   handed_at = wrote_at xs (writer o) v from_start ∙ zero-add (length xs)
 
-  pub handed_written : (u : List ℕ) → (o.ghost_name ≡ v.out.ghost_name → u ≡ v.out.now) → u ≡ written_at 0 xs o.now
+  pub handed_written : (u : List A) → (o.ghost_name ≡ v.out.ghost_name → u ≡ v.out.now) → u ≡ written_at 0 xs o.now
   unfolding wrote
-  handed_written u back = back (sym (ap (λ (x : Writer ℕ). x.out.ghost_name) from_start)) ∙ ap (λ (x : Writer ℕ). x.out.now) from_start
+  handed_written u back = back (sym (ap (λ (x : Writer A). x.out.ghost_name) from_start)) ∙ ap (λ (x : Writer A). x.out.now) from_start
 
-  pub handed_back : (u : List ℕ) → (o.ghost_name ≡ v.out.ghost_name → u ≡ v.out.now) → length xs ≤ length o.now → u ≡ overlaid xs o.now
-  unfolding written_at overlaid
-  handed_back u back h = handed_written u back ∙ rw (le-leb (length xs) (length o.now) h, zero-add (length xs))
+-- all that is before a writer, as it is lent; ys stand there once xs were laid over it
+module _ (w : Writer ℕ) where
+  pub lent_before : mid_of w.at (length w.out.now - w.at) w.out.now ≡ before w
+  lent_before = take_all (length w.out.now - w.at) (drop w.at w.out.now) (omega (arith, length-drop w.at w.out.now))
+
+  pub wrote_over : (xs ys : List ℕ) (n : ℕ) → n ≡ length xs → ys ≡ overlaid xs (before w) → Room (length xs) w → onto w (put_mid w.at (length w.out.now - w.at) w.out.now ys) (w.at + n) ≡ wrote xs w
+  unfolding wrote
+  wrote_over xs ys n e h room =
+      rw e (ap (λ (t : List ℕ). onto w t (w.at + length xs)) (part_written xs xs w.at w.out.now ys refl room (h ∙ ap (overlaid xs) (sym lent_before))))
+
+-- so far as bytes fit in it, they are overlaid
+pub handed_back : (xs : List ℕ) (o : MutBor (List ℕ)) (w v : Writer ℕ) (p : v ≡ wrote xs w) (q : w ≡ writer o) (u : List ℕ) → (o.ghost_name ≡ v.out.ghost_name → u ≡ v.out.now)
+    → length xs ≤ length o.now → u ≡ overlaid xs o.now
+unfolding written_at overlaid
+handed_back xs o w v p q u back h = handed_written xs o w v p q u back ∙ rw (le-leb (length xs) (length o.now) h, zero-add (length xs))

@@ -52,41 +52,9 @@ module _ {A : Type 0} where
       sym (written_twice at xs (x ∷ []) t (omega arith))
       ∙ written_one (at + length xs) x (written_at at xs t) (omega (arith, written_length at xs t (omega arith)))
 
--- ---- what a function writes is what another wrote, or little
-
--- the same elements have the same room, are as many, and are written alike
-module _ {A : Type 0} (xs ys : List A) (e : xs ≡ ys) where
-  pub same_room : (at m : ℕ) → at + length xs ≤ m → at + length ys ≤ m
-  same_room at m h = rw e at h
-
-  pub same_count : (n : ℕ) → n ≡ length ys → n ≡ length xs
-  same_count n h = rw e h
-
-  pub same_written : (at : ℕ) (t u : List A) → u ≡ written_at at ys t → u ≡ written_at at xs t
-  same_written at t u h = rw e h
-
-pub ruleset same_laws = (same_room, same_count, same_written)
-
--- nothing is written; one is
-module _ {A : Type 0} (xs : List A) where
-  pub none_count : xs ≡ [] → 0 ≡ length xs
-  none_count e = sym (ap length e)
-
-  pub none_written : (at : ℕ) (t : List A) → xs ≡ [] → at + length xs ≤ length t → t ≡ written_at at xs t
-  none_written at t e h = rw e (sym (written_none at t))
-
-  module _ (x : A) (e : xs ≡ x ∷ []) where
-    pub one_count : 1 ≡ length xs
-    one_count = sym (ap length e)
-
-    pub one_room : (at m : ℕ) → at + length xs ≤ m → at < m
-    one_room at m h = omega (arith, one_count)
-
-pub ruleset none_laws = (none_count, none_written)
-
--- two, one after the other
-pub two_written : {A : Type 0} (at : ℕ) (x y : A) (t u w : List A) → u ≡ written_at at (x ∷ []) t → w ≡ written_at (at + 1) (y ∷ []) u → at + 2 ≤ length t → w ≡ written_at at (x ∷ y ∷ []) t
-two_written at x y t u w p q h = q ∙ ap (written_at (at + 1) (y ∷ [])) p ∙ written_twice at (x ∷ []) (y ∷ []) t (omega arith)
+-- nothing is written
+pub none_written : {A : Type 0} (xs : List A) (at : ℕ) (t : List A) → xs ≡ [] → at + length xs ≤ length t → t ≡ written_at at xs t
+none_written xs at t e h = rw e (sym (written_none at t))
 
 -- ys, written at the front of the part from `at` on, if there is room
 pub part_written : (xs ys : List ℕ) (at : ℕ) (t u : List ℕ) → xs ≡ ys → at + length xs ≤ length t → u ≡ overlaid ys (mid_of at (length t - at) t) → put_mid at (length t - at) t u ≡ written_at at xs t

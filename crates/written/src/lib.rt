@@ -3,7 +3,7 @@
 
 ghost use Rattle.std.specs.Prelude.{◌≡◌, ◌+◌, ◌≤◌, [], ◌∷◌, length};
 ghost use Rattle.text.specs.Base.{overlaid};
-ghost use Rattle.written.specs.Writing.{writer, Room, wrote};
+ghost use Rattle.written.specs.Writing.{writer, Room, wrote, before, Overlays};
 
 // A lent slice, and the place in it where the next element goes.
 #[derive(Drop)]
@@ -45,6 +45,17 @@ impl Writer<'_, u8> {
         let end = self.at + word.len();
         blocks::copy(word, &mut self.out[self.at..end]);
         self.at = end;
+    }
+
+    // What f writes at the front of the bytes before the writer; it says how many they are.
+    pub fn put_by<F: FnOnce(&mut [u8]) -> usize>(&mut self, f: F) -> usize
+        requires callable { F.IsAlwaysCallable f }
+        requires fits { (xs : _) × Overlays F.FnOnce f (before self.old) xs × Room (length xs) self.old }
+        ensures { (xs : _) → Overlays F.FnOnce f (before self.old) xs → (result ≡ length xs) × (self.new ≡ wrote xs self.old) }
+    {
+        let n = f(&mut self.out[self.at..]);
+        self.at += n;
+        n
     }
 }
 

@@ -3,12 +3,6 @@ use Rattle.text.proofs.WordLaws.{word_places}
 use borrow.Author.Rules.{rules}
 use Rattle.replay.proofs.case_on.Goals as goal
 
-pub slice_bounds-case_in-count : goal.slice_bounds-case_in-count
-slice_bounds-case_in-count c = search (rules, word_places)
-
-pub slice_bounds-case_in-start : goal.slice_bounds-case_in-start
-slice_bounds-case_in-start c = search (rules, word_places)
-
 pub slice_bounds-case_in-end : goal.slice_bounds-case_in-end
 slice_bounds-case_in-end c = search (rules, word_places)
 

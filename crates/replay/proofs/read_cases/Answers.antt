@@ -1,48 +1,31 @@
--- `replay::read_cases` is safe and ends. The loop's invariant: there are no more cases than bytes so far. Assumes nothing.
-use Prim.Native.Nat.{ℕ, ◌+◌, ◌≤◌, ◌<◌}
-use mathlib.Core.List.{List}
+-- `replay::read_cases` is safe and ends. The loop's invariant: there are no more cases and lines left than bytes. Assumes nothing.
+use Prim.Native.Nat.{ℕ, ◌+◌, ◌≤◌}
+use mathlib.Core.Path.{◌≡◌, ap, ◌∙◌}
+use mathlib.Core.List.{List, ◌∷◌}
 use native.Mathlib.Omega.{arith}
-use Rattle.text.specs.Lines.{line_at}
-use Rattle.text.specs.declared.lines.Line.{Line}
-use mathlib.Core.Path.{◌≡◌}
 use lib.ListN.{length}
-use Rattle.text.proofs.LineLaws.{known, line_steps}
-use borrow.Author.Rules.{rules}
+use Rattle.text.specs.Lines.{lines}
+use Rattle.text.specs.declared.lines.Line.{Line}
+use Rattle.text.proofs.LineLaws.{lines_in, lines_few}
+use Rattle.lines.specs.Walk.{left}
 use Rattle.replay.proofs.read_cases.Goals as goal
 
--- one case more, and at least one byte more
-more : (input : List ℕ) (at : ℕ) (l : Line) (n m : ℕ) → n ≤ at → m ≤ n + 1 → at < length input → l ≡ line_at input at 0 → m ≤ l.next
-more input at l n m a b h e = omega (arith, (known input at 0 l h e).later)
+first_few : (input : List ℕ) → 0 + length (lines input) ≤ length input
+first_few input = omega (arith, lines_few input)
 
-pub loop-at-init : goal.loop-at-init
-loop-at-init c = search (rules, more, line_steps)
+-- one case more, and a line less
+fewer : (whole n m : ℕ) (l : Line) (ls rest : List Line) → n + length ls ≤ whole → ls ≡ l ∷ rest → m ≤ n + 1 → m + length rest ≤ whole
+fewer whole n m l ls rest h e g = omega (arith, ap length e)
 
-pub line_at-l-requires : goal.line_at-l-requires
-line_at-l-requires c = search (rules, more, line_steps)
+pub loop-line-init : goal.loop-line-init
+loop-line-init c =
+    let e = ap left c.into_iter-line-iterator.ensures.into_iter_gives ∙ c.new-line-items.ensures.all in
+    record { callable = grind arith; ends = tt; inside = rw e (lines_in c.args.input.now); few = rw e (first_few c.args.input.now) }
 
-pub slice_bounds-case_on-count : goal.slice_bounds-case_on-count
-slice_bounds-case_on-count c = search (rules, more, line_steps)
-
-pub slice_bounds-case_on-start : goal.slice_bounds-case_on-start
-slice_bounds-case_on-start c = search (rules, more, line_steps)
-
-pub slice_bounds-case_on-end : goal.slice_bounds-case_on-end
-slice_bounds-case_on-end c = search (rules, more, line_steps)
-
-pub case_on-c-requires : goal.case_on-c-requires
-case_on-c-requires c = search (rules, more, line_steps)
-
-pub keep-requires : goal.keep-requires
-keep-requires c = search (rules, more, line_steps)
-
-pub with-tally-requires : goal.with-tally-requires
-with-tally-requires c = search (rules, more, line_steps)
-
-pub loop-at-smaller : goal.loop-at-smaller
-loop-at-smaller c = search (rules, more, line_steps)
-
-pub loop-at-preserved : goal.loop-at-preserved
-loop-at-preserved c = search (rules, more, line_steps)
-
-pub returns : goal.returns
-returns c = search (rules, more, line_steps)
+pub loop-line-preserved : goal.loop-line-preserved
+loop-line-preserved c = record {
+  callable = c.in-Some.ensures.goes.keeps;
+  ends = tt;
+  inside = (rw c.in-Some.ensures.steps at c.loop-line.invariant.inside).2;
+  few = fewer _ _ _ _ _ _ c.loop-line.invariant.few c.in-Some.ensures.steps c.with-tally.ensures;
+}

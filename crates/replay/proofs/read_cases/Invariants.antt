@@ -1,10 +1,14 @@
-use Prim.Native.Nat.{◌+◌, ◌-◌, ◌≤◌}
+use Prim.Native.Nat.{◌+◌, ◌≤◌}
 use mathlib.Core.Path.{◌≡◌}
 use lib.ListN.{length}
+use Rattle.text.proofs.LineLaws.{AllIn}
+use Rattle.lines.specs.Walk.{left}
 use Rattle.replay.proofs.read_cases.Given as goal
 
-abbrev pub invariant-loop-at : goal.invariant-loop-at
-invariant-loop-at l = (l.at ≤ length l.input) × (length l.codes ≡ length l.initial.codes) × (l.tally.white + l.tally.good + l.tally.bad + l.tally.wrong ≤ l.at)
-
-abbrev pub decreases-loop-at : goal.decreases-loop-at
-decreases-loop-at l = length l.input - l.at
+abbrev pub invariant-loop-line : goal.invariant-loop-line
+invariant-loop-line l = record {
+  callable : (goal.iterator-loop-line).can_next l.line-iterator;
+  ends : (goal.iterator-loop-line).is_finite l.line-iterator;
+  inside : AllIn l.input (left l.line-iterator);
+  few : l.tally.white + l.tally.good + l.tally.bad + l.tally.wrong + length (left l.line-iterator) ≤ length l.input;
+}

@@ -1,13 +1,17 @@
-use Prim.Native.Nat.{◌+◌, ◌-◌, ◌≤◌}
+use Prim.Native.Nat.{◌+◌, ◌≤◌}
 use mathlib.Core.Path.{◌≡◌}
 use lib.ListN.{length}
-use Rattle.text.proofs.LineLaws.{lines_at}
+use Rattle.text.proofs.LineLaws.{AllIn}
+use Rattle.lines.specs.Walk.{left}
 use Rattle.cases.specs.Cases.{total}
 use Rattle.replay_script.specs.Tallies.{counted_on, all_counted}
 use Rattle.replay_script.proofs.replay_all.Given as goal
 
-abbrev pub invariant-loop-at : goal.invariant-loop-at
-invariant-loop-at l = (l.at ≤ length l.input) × (l.number ≤ l.at + 1) × (total l.tally ≤ l.at) × (counted_on l.input (lines_at l.input l.at l.number) l.tally ≡ all_counted l.input)
-
-abbrev pub decreases-loop-at : goal.decreases-loop-at
-decreases-loop-at l = length l.input - l.at
+abbrev pub invariant-loop-line : goal.invariant-loop-line
+invariant-loop-line l = record {
+  callable : (goal.iterator-loop-line).can_next l.line-iterator;
+  ends : (goal.iterator-loop-line).is_finite l.line-iterator;
+  inside : AllIn l.input (left l.line-iterator);
+  few : total l.tally + length (left l.line-iterator) ≤ length l.input;
+  counted : counted_on l.input (left l.line-iterator) l.tally ≡ all_counted l.input;
+}

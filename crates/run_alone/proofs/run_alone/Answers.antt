@@ -12,7 +12,7 @@ returns c =
     let x = c.blank_expectations-xs in
     let b = c.blank_store-bs in
     record {
-      value = is-alone e.result i.result x.result b.result e.ensures i.ensures x.ensures b.ensures S.text.now S.calls.now S.bytes.now S.lists.now S.verdicts.now (length S.scratch.now) (length S.answers.now) R.result R.ensures.value;
+      value = is-alone e.result i.result x.result b.result e.ensures i.ensures x.ensures b.ensures S.text.now S.calls.now S.held.bytes.now S.held.lists.now S.verdicts.now (length S.scratch.now) (length S.answers.now) R.result R.ensures.value;
       verdicts_after = R.ensures.verdicts_after;
       scratch_after = R.ensures.scratch_after;
       answers_after = R.ensures.answers_after;

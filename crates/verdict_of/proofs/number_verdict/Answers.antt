@@ -1,9 +1,7 @@
 -- `verdict_of::number_verdict` meets its contract: the digits stand at the front of the array. Assumes nothing.
 use borrow.Author.Rules.{rules}
-use mathlib.Core.Path.{◌≡◌, sym, ap, ◌∙◌}
-use Prim.Native.Nat.{ℕ, ◌^◌, ◌≤◌, ◌<◌}
+use mathlib.Core.Path.{ap, ◌∙◌}
 use native.Mathlib.Omega.{arith}
-use lib.ListN.{length, take, replicate}
 use Rattle.values.specs.Decimal.{decimal}
 use Rattle.written.proofs.WrittenLaws.{front_taken}
 use Rattle.written.proofs.WriterLaws.{handed_at, handed_back}
@@ -12,17 +10,13 @@ use Rattle.verdicts.specs.Decisions.{decides}
 use Rattle.verdicts.specs.Held.{matching_of}
 use Rattle.verdict_of.proofs.number_verdict.Goals as goal
 
-few : (n : ℕ) → n < 2 ^ 64 → length (decimal n) ≤ length {A = ℕ} (replicate 20 0)
-few n h = decimal-length n h
-
 pub put_decimal-requires : goal.put_decimal-requires
 put_decimal-requires c = rw c.new-w.ensures (omega (arith, decimal-length c.args.n (omega arith)))
 
 pub returns : goal.returns
 returns c =
-    let small = few c.args.n (omega arith) in
     c.decide.ensures
     ∙ ap (decides (matching_of c.args.text.now c.args.m))
-    (front_taken (decimal c.args.n) (replicate 20 0) _ _ small
+    (front_taken (decimal c.args.n) _ _ _ (omega (arith, decimal-length c.args.n (omega arith)))
     (c.position-len.ensures ∙ handed_at _ _ _ _ c.put_decimal.ensures.written c.new-w.ensures)
-    (handed_back _ _ _ _ c.put_decimal.ensures.written c.new-w.ensures _ (search rules) small))
+    (handed_back _ _ _ _ c.put_decimal.ensures.written c.new-w.ensures _ (search rules) (omega (arith, decimal-length c.args.n (omega arith)))))

@@ -2,7 +2,7 @@
 use mathlib.Core.Path.{ap, ◌∙◌}
 use native.Mathlib.Omega.{arith}
 use native.Mathlib.Nat.{zero-add}
-use Rattle.text.proofs.LineLaws.{lines-in}
+use Rattle.text.proofs.LineLaws.{lines_in}
 use Rattle.lines.specs.Walk.{left}
 use Rattle.walker.proofs.CountLaws.{all_few, counts, passes_by, none_left}
 use Rattle.walker.proofs.expect_lines.Goals as goal
@@ -10,7 +10,7 @@ use Rattle.walker.proofs.expect_lines.Goals as goal
 pub loop-line-init : goal.loop-line-init
 loop-line-init c =
     let e = ap left c.into_iter-line-iterator.ensures.into_iter_gives ∙ c.new-line-items.ensures.all in
-    record { callable = grind arith; ends = tt; inside = rw e (lines-in c.args.text.now); counted = rw e (zero-add _) }
+    record { callable = grind arith; ends = tt; inside = rw e (lines_in c.args.text.now); counted = rw e (zero-add _) }
 
 pub overflow_add-n : goal.overflow_add-n
 overflow_add-n c =

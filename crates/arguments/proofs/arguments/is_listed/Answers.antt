@@ -1,5 +1,4 @@
 -- `arguments::arguments::is_listed` meets its contract: a list is open, and the line begins with a quote. Assumes nothing.
-use borrow.Author.Tests.{not-true, not-false}
 use Prim.Native.Nat.{ℕ}
 use mathlib.Core.Path.{◌≡◌, refl}
 use mathlib.Core.Bool.{Bool, false}
@@ -8,8 +7,6 @@ use Rattle.text.specs.declared.parts.Span.{Span}
 use Rattle.script.specs.declared.roles.Takes.{Takes}
 use Rattle.script.specs.declared.roles.Takes.TheVariants.{NoLines, Options, Garbage, Verify, Texts, Store, Multiple, FirstData, FirstRaw}
 use Rattle.arguments.specs.ArgumentRead.{listed}
-use Rattle.arguments.proofs.ArgumentLaws.{list-words}
-use borrow.Author.Rules.{rules}
 use Rattle.arguments.proofs.arguments.is_listed.Goals as goal
 
 other : (text : List ℕ) (takes : Takes) (list_open : Bool) (t : Span) → (takes ≡ Options → ⊥) → false ≡ listed text takes list_open t
@@ -23,12 +20,6 @@ other text Store list_open t _ = refl
 other text Multiple list_open t _ = refl
 other text FirstData list_open t _ = refl
 other text FirstRaw list_open t _ = refl
-
-pub returns-then-not-list_open : goal.returns-then-not-list_open
-returns-then-not-list_open c = search (rules, list-words, not-true, not-false)
-
-pub returns-in-Options : goal.returns-in-Options
-returns-in-Options c = search (rules, list-words, not-false)
 
 pub returns-in_default : goal.returns-in_default
 returns-in_default c = other _ c.args.takes c.args.list_open _ c.in_default.not-Options

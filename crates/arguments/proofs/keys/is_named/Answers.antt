@@ -1,6 +1,6 @@
 -- `arguments::keys::is_named` meets its contract: the letters compared with are those of the name. Assumes nothing.
 use Prim.Native.Nat.{ℕ, ◌+◌, ◌-◌, ◌≤◌, ◌<◌}
-use mathlib.Core.Path.{◌≡◌, refl, sym, ◌∙◌}
+use mathlib.Core.Path.{◌≡◌, refl, ◌∙◌}
 use mathlib.Core.Bool.{Bool, false}
 use mathlib.Core.List.{List}
 use native.Mathlib.Omega.{arith}
@@ -37,20 +37,5 @@ module _ (n : ℕ) (small : n < 26) (table : List ℕ) (t : Starts table) where
 
 ruleset places = (forward, inside, compared, longer)
 
-pub overflow_sub-end : goal.overflow_sub-end
-overflow_sub-end c = search (rules, places)
-
 pub returns-then-bytes-end : goal.returns-then-bytes-end
 returns-then-bytes-end c = search (rules, places)
-
-pub slice_bounds-is_word-count : goal.slice_bounds-is_word-count
-slice_bounds-is_word-count c = search (rules, places)
-
-pub slice_bounds-is_word-start : goal.slice_bounds-is_word-start
-slice_bounds-is_word-start c = search (rules, places)
-
-pub slice_bounds-is_word-end : goal.slice_bounds-is_word-end
-slice_bounds-is_word-end c = search (rules, places)
-
-pub returns : goal.returns
-returns c = search (rules, places)

@@ -1,21 +1,16 @@
--- `closing::front::put_front` meets its contract. Assumes nothing.
-use Rattle.stored.proofs.WriteLaws.{front_room, front_written, items_kept}
+-- `closing::front::put_front` meets its contract: so many items were written as the place went on. Assumes nothing.
 use native.Mathlib.Omega.{arith}
-use borrow.Author.Rules.{rules}
+use Rattle.stored.proofs.WriteLaws.{items_far}
 use Rattle.closing.proofs.front.put_front.Goals as goal
 
-pub put_features_of-features-requires : goal.put_features_of-features-requires
-put_features_of-features-requires c = search (rules, front_room _ _ _ c.requires)
+pub overflow_sub-result : goal.overflow_sub-result
+overflow_sub-result c = omega (arith, items_far _ _ _ c.put_features_of.ensures, c.position-start.ensures, c.position-middle.ensures)
 
-pub put_features_of-server-requires : goal.put_features_of-server-requires
-put_features_of-server-requires c =
-    let room = front_room _ _ _ c.requires in
-    let first = c.put_features_of-features.ensures in
-    let long = items_kept _ _ _ _ first.after (omega (arith, room)) in
-    search rules
+pub overflow_sub-result-2 : goal.overflow_sub-result-2
+overflow_sub-result-2 c = omega (arith, items_far _ _ _ c.put_features_of-2.ensures, c.position-middle.ensures, c.position.ensures)
 
-pub returns-clause-after : goal.returns-clause-after
-returns-clause-after c =
-    let second = c.put_features_of-server.ensures in
-    let first = c.put_features_of-features.ensures in
-    front_written _ _ _ _ _ _ c.requires first.value first.after second.after
+pub returns-clause-features_value : goal.returns-clause-features_value
+returns-clause-features_value c = omega (arith, items_far _ _ _ c.put_features_of.ensures, c.position-start.ensures, c.position-middle.ensures)
+
+pub returns-clause-server_value : goal.returns-clause-server_value
+returns-clause-server_value c = omega (arith, items_far _ _ _ c.put_features_of-2.ensures, c.position-middle.ensures, c.position.ensures)

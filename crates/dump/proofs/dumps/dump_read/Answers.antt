@@ -44,7 +44,7 @@ dump_into-requires-clause-store_len_bound c = lent_few 0 32768 _ _ _ c.blank_sto
 
 pub returns-clause-value : goal.returns-clause-value
 returns-clause-value c =
-    let G = c.args in
+    let G = c.args.lent in
     let D = c.dump_into in
     let f = lent_blank blank_entry 256 G.entries _ _ c.blank_entries-es.ensures c.at_most-e.ensures in
     let g = lent_blank (0 ∷ 0 ∷ []) 1024 G.items _ _ c.blank_items-is.ensures c.at_most-i.ensures in
@@ -54,7 +54,7 @@ returns-clause-value c =
 
 pub returns-clause-out_after : goal.returns-clause-out_after
 returns-clause-out_after c =
-    let G = c.args in
+    let G = c.args.lent in
     let D = c.dump_into in
     let f = lent_blank blank_entry 256 G.entries _ _ c.blank_entries-es.ensures c.at_most-e.ensures in
     let g = lent_blank (0 ∷ 0 ∷ []) 1024 G.items _ _ c.blank_items-is.ensures c.at_most-i.ensures in

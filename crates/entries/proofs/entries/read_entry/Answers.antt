@@ -1,139 +1,69 @@
 -- `entries::entries::read_entry` meets its contract. Assumes nothing.
-use lib.ListN.{length}
-use Rattle.script.specs.Contents.{entry_of}
-use Rattle.entries.specs.Entries.{entry_at}
-use Rattle.entries.proofs.InsideLaws.{left_by}
-use Rattle.entries.proofs.EntryLaws.{lines-room, said_in, set_room, stored-room, entry_fits, advanced_fits, item_count, store_count, entry_laid, items_written, store_written, entry_stored}
 use borrow.Author.Rules.{rules}
+use Rattle.below.proofs.LeftLaws.{went_up}
+use Rattle.entries.specs.Laid.{lent}
+use Rattle.entries.proofs.InsideLaws.{left_by}
+use Rattle.entries.proofs.EntryLaws.{expects_room, entry_place, pairs_room, said_in, set_room, stored_room, entry_fits, entry_written}
 use Rattle.entries.proofs.entries.read_entry.Goals as goal
 
-pub read_lines-ls-requires : goal.read_lines-ls-requires
-unfolding entry_at entry_of
-read_lines-ls-requires c =
-    let text = c.args.text.now in
-    let a = c.args.a in
-    let i = c.args.i in
-    let x = c.args.x in
-    let b = c.args.b in
-    let T = c.takes_pairs in
-    record {
-      text_len_bound = search rules;
-      memo = search rules;
-      from_in_bounds = search rules;
-      first_bound = search rules;
-      first_in_bounds = lines-room text a i x b T.result T.ensures _ (search rules);
-      first_in_bounds_2 = search rules;
-      first_bound_2 = lines-room text a i x b T.result T.ensures _ (search rules);
-      first_bound_3 = search rules;
-    }
+pub read_lines-next-requires-clause-room : goal.read_lines-next-requires-clause-room
+read_lines-next-requires-clause-room c =
+    let w = lent c.args.entries.now c.args.items.now c.args.expectations.now c.args.store.now in
+    pairs_room c.args.m.text.now c.args.a w c.requires.room _ c.takes_pairs.ensures
+
+pub read_lines-next-requires-clause-expectations_room : goal.read_lines-next-requires-clause-expectations_room
+read_lines-next-requires-clause-expectations_room c =
+    let w = lent c.args.entries.now c.args.items.now c.args.expectations.now c.args.store.now in
+    expects_room c.args.m.text.now c.args.a w c.requires.room
+
+pub overflow_sub-pairs : goal.overflow_sub-pairs
+overflow_sub-pairs c = rw c.position-i.ensures (went_up _ _ _ c.read_lines-next.ensures.after _ c.position.ensures)
 
 pub invariant_of-said : goal.invariant_of-said
-unfolding entry_at entry_of
 invariant_of-said c =
-    let text = c.args.text.now in
-    let a = c.args.a in
-    let i = c.args.i in
-    let x = c.args.x in
-    let b = c.args.b in
-    let T = c.takes_pairs in
-    let R = c.read_lines-ls in
-    let U = left_by _ _ _ c.new-heard.ensures R.ensures.heard_after in
-    record { inside = said_in text a i x b T.result T.ensures _ U (search rules) }
+    let w = lent c.args.entries.now c.args.items.now c.args.expectations.now c.args.store.now in
+    let U = left_by _ _ _ c.new-heard.ensures c.read_lines-next.ensures.heard_after in
+    record { inside = said_in c.args.m.text.now c.args.a w c.requires.room _ c.takes_pairs.ensures _ U c.requires.at_in_bounds }
 
-pub put_values-z-requires-clause-op_in_bounds : goal.put_values-z-requires-clause-op_in_bounds
-unfolding entry_at entry_of
-put_values-z-requires-clause-op_in_bounds c =
-    let text = c.args.text.now in
-    let a = c.args.a in
-    let i = c.args.i in
-    let x = c.args.x in
-    let b = c.args.b in
-    let T = c.takes_pairs in
-    let R = c.read_lines-ls in
-    let U = left_by _ _ _ c.new-heard.ensures R.ensures.heard_after in
-    set_room text a i x b T.result T.ensures _ U R.result.pairs R.ensures.pairs_value _ (search rules)
+pub put_values-sizes-requires-clause-room : goal.put_values-sizes-requires-clause-room
+put_values-sizes-requires-clause-room c =
+    let w = lent c.args.entries.now c.args.items.now c.args.expectations.now c.args.store.now in
+    let U = left_by _ _ _ c.new-heard.ensures c.read_lines-next.ensures.heard_after in
+    set_room c.args.m.text.now c.args.a w c.requires.room _ c.takes_pairs.ensures _ U _ c.read_lines-next.ensures.after
 
-pub put_values-z-requires-clause-op_in_bounds_2 : goal.put_values-z-requires-clause-op_in_bounds_2
-unfolding entry_at entry_of
-put_values-z-requires-clause-op_in_bounds_2 c =
-    let text = c.args.text.now in
-    let a = c.args.a in
-    let i = c.args.i in
-    let x = c.args.x in
-    let b = c.args.b in
-    let T = c.takes_pairs in
-    let R = c.read_lines-ls in
-    let U = left_by _ _ _ c.new-heard.ensures R.ensures.heard_after in
-    stored-room text a i x b T.result T.ensures _ U R.result.pairs R.ensures.pairs_value _ c.requires.a_in_bounds_3
+pub put_values-sizes-requires-clause-store_room : goal.put_values-sizes-requires-clause-store_room
+put_values-sizes-requires-clause-store_room c =
+    let w = lent c.args.entries.now c.args.items.now c.args.expectations.now c.args.store.now in
+    let U = left_by _ _ _ c.new-heard.ensures c.read_lines-next.ensures.heard_after in
+    stored_room c.args.m.text.now c.args.a w c.requires.room _ c.takes_pairs.ensures _ U
 
-pub entry_of-e-requires-clause-second_bound : goal.entry_of-e-requires-clause-second_bound
-unfolding entry_at entry_of
-entry_of-e-requires-clause-second_bound c =
-    let text = c.args.text.now in
-    let a = c.args.a in
-    let i = c.args.i in
-    let x = c.args.x in
-    let b = c.args.b in
-    let T = c.takes_pairs in
-    let R = c.read_lines-ls in
-    let U = left_by _ _ _ c.new-heard.ensures R.ensures.heard_after in
-    let P = c.put_values-z in
-    entry_fits text a i x b T.result T.ensures _ U R.result.pairs R.ensures.pairs_value P.result P.ensures.value (length c.args.store.now) _ c.requires.a_in_bounds_3 (search (rules, c.well_formed.1.1.1.1.1.1.1.1.1.0))
+pub overflow_sub-n : goal.overflow_sub-n
+overflow_sub-n c = rw c.position-x.ensures (went_up _ _ _ c.read_lines-next.ensures.expectations_after _ c.position-2.ensures)
 
-pub put-requires : goal.put-requires
-unfolding entry_at entry_of
-put-requires c = c.requires.n_in_bounds
+pub invariant_of-share : goal.invariant_of-share
+invariant_of-share c =
+    let w = lent c.args.entries.now c.args.items.now c.args.expectations.now c.args.store.now in
+    let U = left_by _ _ _ c.new-heard.ensures c.read_lines-next.ensures.heard_after in
+    let z = rw c.position-i.ensures at c.put_values-sizes.ensures.value in
+    record { within = rw c.position-b.ensures (entry_fits c.args.m.text.now c.args.a w c.requires.room _ c.takes_pairs.ensures _ U _ c.read_lines-next.ensures.after _ c.position.ensures _ z (search rules)) }
 
-pub overflow_add-result : goal.overflow_add-result
-unfolding entry_at entry_of
-overflow_add-result c =
-    let text = c.args.text.now in
-    let a = c.args.a in
-    let i = c.args.i in
-    let x = c.args.x in
-    let b = c.args.b in
-    let T = c.takes_pairs in
-    let R = c.read_lines-ls in
-    let U = left_by _ _ _ c.new-heard.ensures R.ensures.heard_after in
-    let P = c.put_values-z in
-    search (rules, advanced_fits text a i x b T.result T.ensures _ U R.result.pairs R.ensures.pairs_value P.result P.ensures.value (length c.args.store.now) 18446744073709551616 c.requires.a_in_bounds_3 (search (rules, c.well_formed.1.1.1.1.1.1.1.1.1.0)))
-
-pub overflow_add-result-2 : goal.overflow_add-result-2
-unfolding entry_at entry_of
-overflow_add-result-2 c =
-    let text = c.args.text.now in
-    let a = c.args.a in
-    let i = c.args.i in
-    let x = c.args.x in
-    let b = c.args.b in
-    let T = c.takes_pairs in
-    let R = c.read_lines-ls in
-    let U = left_by _ _ _ c.new-heard.ensures R.ensures.heard_after in
-    let P = c.put_values-z in
-    search (rules, advanced_fits text a i x b T.result T.ensures _ U R.result.pairs R.ensures.pairs_value P.result P.ensures.value (length c.args.store.now) 18446744073709551616 c.requires.a_in_bounds_3 (search (rules, c.well_formed.1.1.1.1.1.1.1.1.1.0)))
+pub put_one-requires : goal.put_one-requires
+put_one-requires c =
+    let w = lent c.args.entries.now c.args.items.now c.args.expectations.now c.args.store.now in
+    entry_place c.args.m.text.now c.args.a w c.requires.room
 
 pub returns : goal.returns
-unfolding entry_at entry_of
 returns c =
-    let text = c.args.text.now in
-    let a = c.args.a in
-    let i = c.args.i in
-    let x = c.args.x in
-    let b = c.args.b in
-    let T = c.takes_pairs in
-    let R = c.read_lines-ls in
-    let U = left_by _ _ _ c.new-heard.ensures R.ensures.heard_after in
-    let P = c.put_values-z in
-    let E = c.entry_of-e in
-    let Q = c.put in
+    let w = lent c.args.entries.now c.args.items.now c.args.expectations.now c.args.store.now in
+    let R = c.read_lines-next.ensures in
+    let U = left_by _ _ _ c.new-heard.ensures R.heard_after in
+    let P = c.put_values-sizes.ensures in
+    let z = rw c.position-i.ensures at P.value in
+    let e = rw (c.position-i.ensures, c.position-x.ensures, c.position-b.ensures) at c.entry_of.ensures in
     record {
-      result_value = item_count text a i x b T.result T.ensures _ U R.result.pairs R.ensures.pairs_value P.result P.ensures.value;
-      expects_value = R.ensures.expects_value;
-      store_value = store_count text a i x b T.result T.ensures _ U R.result.pairs R.ensures.pairs_value P.result P.ensures.value;
-      next_value = R.ensures.next_value;
-      next_in = R.ensures.next_in;
-      entries_after = entry_stored c.args.entries.now _ c.args.n E.result _ Q.ensures (entry_laid text a i x b T.result T.ensures _ U R.result.pairs R.ensures.pairs_value P.result P.ensures.value R.result.expects E.result R.ensures.expects_value E.ensures);
-      after = items_written text a i x b T.result T.ensures _ U R.result.pairs R.ensures.pairs_value c.args.items.now _ _ c.requires.a_in_bounds R.ensures.after P.ensures.after;
-      expectations_after = R.ensures.expectations_after;
-      store_after = store_written text a i x b T.result T.ensures _ U c.args.store.now _ P.ensures.store_after;
+      next_value = R.next_value;
+      next_in = R.next_in;
+      after =
+          entry_written c.args.m.text.now c.args.a w c.requires.room _ c.takes_pairs.ensures _ U _ R.after _ c.position.ensures _ z
+          _ R.expectations_after _ c.position-2.ensures _ e _ c.put_one.ensures _ P.after _ P.store_after;
     }

@@ -1,84 +1,67 @@
 -- `entries::scripts::read_script` meets its contract. Assumes nothing.
-use Rattle.stored.proofs.WriteLaws.{kept}
 use mathlib.Core.Path.{refl}
+use Rattle.entries.specs.Laid.{Lent, lent, RoomFor}
+use Rattle.entries.specs.Whole.{reading_of}
 use Rattle.entries.proofs.InsideLaws.{left_by}
-use Rattle.entries.proofs.ScriptLaws.{pairs-room, early_room, said_in, front_room, front_fits, preamble-laid, entries-room, items-room, expectations-room, store-room, entries_written, store_written, expectations_written, items_written, script-laid}
+use Rattle.entries.proofs.ScriptLaws.{AtStart, no_pairs_room, early_room, said_in, front_room, preamble-laid, entries_room, script_written, script-laid, room_lent, entries_written, items_written, expectations_written, store_written}
 use borrow.Author.Rules.{rules}
 use Rattle.entries.proofs.scripts.read_script.Goals as goal
+use Rattle.entries.proofs.scripts.read_script.Goals.{After-new-heard}
 
-pub read_lines-led-requires-clause-first_in_bounds : goal.read_lines-led-requires-clause-first_in_bounds
-read_lines-led-requires-clause-first_in_bounds c =
-    let text = c.args.text.now in
-    pairs-room text _
+-- the four writers, at the start of what is lent
+abbrev made : After-new-heard → Lent
+made c = lent c.new-entries.result c.new-items.result c.new-expectations.result c.new-store.result
 
-pub read_lines-led-requires-clause-first_in_bounds_2 : goal.read_lines-led-requires-clause-first_in_bounds_2
-read_lines-led-requires-clause-first_in_bounds_2 c =
-    let text = c.args.text.now in
-    early_room text _ c.requires.text_in_bounds_3
+start : (c : After-new-heard) → AtStart (made c)
+start c = rw (c.new-items.ensures, c.new-expectations.ensures, c.new-store.ensures) (refl, refl, refl)
 
-pub read_lines-led-requires-clause-first_bound_2 : goal.read_lines-led-requires-clause-first_bound_2
-read_lines-led-requires-clause-first_bound_2 c =
-    let text = c.args.text.now in
-    pairs-room text _
+room : (c : After-new-heard) → RoomFor (reading_of c.args.m.text.now).tables (made c)
+room c =
+    let Q = c.requires in
+    rw (c.new-entries.ensures, c.new-items.ensures, c.new-expectations.ensures, c.new-store.ensures)
+    (room_lent (reading_of c.args.m.text.now).tables c.args.entries c.args.items c.args.expectations c.args.store Q.entries_room Q.items_room Q.expectations_room Q.store_room)
 
-pub read_lines-led-requires-clause-first_bound_3 : goal.read_lines-led-requires-clause-first_bound_3
-read_lines-led-requires-clause-first_bound_3 c =
-    let text = c.args.text.now in
-    early_room text _ c.requires.text_len_bound_4
+pub read_lines-next-requires-clause-room : goal.read_lines-next-requires-clause-room
+read_lines-next-requires-clause-room c =
+    let m = (goal.at.read_lines-next-requires-clause-room c).After-new-heard in
+    no_pairs_room c.args.m.text.now (made m) (start m) (room m)
+
+pub read_lines-next-requires-clause-expectations_room : goal.read_lines-next-requires-clause-expectations_room
+read_lines-next-requires-clause-expectations_room c =
+    let m = (goal.at.read_lines-next-requires-clause-expectations_room c).After-new-heard in
+    early_room c.args.m.text.now (made m) (start m) (room m)
 
 pub invariant_of-said : goal.invariant_of-said
 invariant_of-said c =
-    let text = c.args.text.now in
-    let R = c.read_lines-led in
-    let U = left_by _ _ _ c.new-heard.ensures R.ensures.heard_after in
-    record { inside = said_in text _ U }
+    let m = (goal.at.invariant_of-said c).After-new-heard in
+    let U = left_by _ _ _ c.new-heard.ensures c.read_lines-next.ensures.heard_after in
+    record { inside = said_in c.args.m.text.now (made m) (start m) (room m) _ U }
 
 pub put_front-f-requires : goal.put_front-f-requires
 put_front-f-requires c =
-    let text = c.args.text.now in
-    let R = c.read_lines-led in
-    let U = left_by _ _ _ c.new-heard.ensures R.ensures.heard_after in
-    front_room text _ U _ (search (rules, c.requires.text_in_bounds_2, kept _ _ _ _ R.ensures.after (pairs-room text _)))
+    let m = (goal.at.put_front-f-requires c).After-new-heard in
+    let U = left_by _ _ _ c.new-heard.ensures c.read_lines-next.ensures.heard_after in
+    front_room c.args.m.text.now (made m) (start m) (room m) _ U _ c.read_lines-next.ensures.after
 
-pub overflow_add-front : goal.overflow_add-front
-overflow_add-front c =
-    let text = c.args.text.now in
-    let R = c.read_lines-led in
-    let U = left_by _ _ _ c.new-heard.ensures R.ensures.heard_after in
-    let F = c.put_front-f in
-    search (rules, front_fits text _ U F.result.features F.result.server F.ensures.features_value F.ensures.server_value 0x8000 c.requires.text_len_bound_3)
-
-pub read_entries-requires : goal.read_entries-requires
-read_entries-requires c =
-    let text = c.args.text.now in
-    let R = c.read_lines-led in
-    let U = left_by _ _ _ c.new-heard.ensures R.ensures.heard_after in
-    let F = c.put_front-f in
-    record {
-      text_len_bound = search rules;
-      memo = search rules;
-      next_in = R.ensures.next_in;
-      early_in_bounds = entries-room text _ U F.result.features F.result.server F.ensures.features_value F.ensures.server_value R.result.expects R.ensures.expects_value R.result.next R.ensures.next_value _ c.requires.text_in_bounds;
-      early_len_bound = entries-room text _ U F.result.features F.result.server F.ensures.features_value F.ensures.server_value R.result.expects R.ensures.expects_value R.result.next R.ensures.next_value _ c.requires.text_len_bound_2;
-      early_in_bounds_2 = items-room text _ U F.result.features F.result.server F.ensures.features_value F.ensures.server_value R.result.expects R.ensures.expects_value R.result.next R.ensures.next_value _ (search (rules, c.requires.text_in_bounds_2, kept _ _ _ _ R.ensures.after (pairs-room text _), F));
-      early_bound = items-room text _ U F.result.features F.result.server F.ensures.features_value F.ensures.server_value R.result.expects R.ensures.expects_value R.result.next R.ensures.next_value _ c.requires.text_len_bound_3;
-      early_in_bounds_3 = expectations-room text _ U F.result.features F.result.server F.ensures.features_value F.ensures.server_value R.result.expects R.ensures.expects_value R.result.next R.ensures.next_value _ (search (rules, c.requires.text_in_bounds_3, kept _ _ _ _ R.ensures.expectations_after (early_room text _ c.requires.text_in_bounds_3)));
-      early_bound_2 = expectations-room text _ U F.result.features F.result.server F.ensures.features_value F.ensures.server_value R.result.expects R.ensures.expects_value R.result.next R.ensures.next_value _ c.requires.text_len_bound_4;
-      early_in_bounds_4 = store-room text _ U F.result.features F.result.server F.ensures.features_value F.ensures.server_value R.result.expects R.ensures.expects_value R.result.next R.ensures.next_value _ c.requires.text_in_bounds_4;
-    }
+pub read_entries-requires-clause-room : goal.read_entries-requires-clause-room
+read_entries-requires-clause-room c =
+    let m = (goal.at.read_entries-requires-clause-room c).After-new-heard in
+    let R = c.read_lines-next.ensures in
+    let U = left_by _ _ _ c.new-heard.ensures R.heard_after in
+    entries_room c.args.m.text.now (made m) (start m) (room m) _ U _ R.after _ R.expectations_after _ c.put_front-f.ensures.after _ R.next_value
 
 pub returns : goal.returns
 returns c =
-    let text = c.args.text.now in
-    let R = c.read_lines-led in
-    let U = left_by _ _ _ c.new-heard.ensures R.ensures.heard_after in
-    let F = c.put_front-f in
-    let Q = c.read_entries in
-    let P = c.preamble_of-preamble in
+    let m = (goal.at.returns c).After-new-heard in
+    let R = c.read_lines-next.ensures in
+    let U = left_by _ _ _ c.new-heard.ensures R.heard_after in
+    let F = c.put_front-f.ensures in
+    let p = rw c.position-expects.ensures at c.preamble_of-preamble.ensures in
+    let W = script_written c.args.m.text.now (made m) (start m) (room m) _ U _ R.after _ R.expectations_after _ F.after _ R.next_value _ c.read_entries.ensures in
     record {
-      value = script-laid text _ c.args.counts _ (preamble-laid text _ U F.result.features F.result.server F.ensures.features_value F.ensures.server_value R.result.expects R.ensures.expects_value P.result P.ensures) c.requires.counts_value refl;
-      entries_after = entries_written text _ U F.result.features F.result.server F.ensures.features_value F.ensures.server_value R.result.expects R.ensures.expects_value R.result.next R.ensures.next_value _ _ Q.ensures.entries_after;
-      after = items_written text _ U F.result.features F.result.server F.ensures.features_value F.ensures.server_value R.result.expects R.ensures.expects_value R.result.next R.ensures.next_value _ _ _ _ c.requires.text_in_bounds_2 R.ensures.after F.ensures.after Q.ensures.after;
-      expectations_after = expectations_written text _ U F.result.features F.result.server F.ensures.features_value F.ensures.server_value R.result.expects R.ensures.expects_value R.result.next R.ensures.next_value _ _ _ c.requires.text_in_bounds_3 R.ensures.expectations_after Q.ensures.expectations_after;
-      store_after = store_written text _ U F.result.features F.result.server F.ensures.features_value F.ensures.server_value R.result.expects R.ensures.expects_value R.result.next R.ensures.next_value _ _ Q.ensures.store_after;
+      value = script-laid c.args.m.text.now _ c.args.counts _ (preamble-laid c.args.m.text.now (made m) (start m) (room m) _ U _ R.after _ R.expectations_after _ _ F.features_value F.server_value _ p) c.requires.counts_value refl;
+      entries_after = entries_written _ _ _ W _ c.new-entries.ensures _ (search rules);
+      after = items_written _ _ _ W _ c.new-items.ensures _ (search rules);
+      expectations_after = expectations_written _ _ _ W _ c.new-expectations.ensures _ (search rules);
+      store_after = store_written _ _ _ W _ c.new-store.ensures _ (search rules);
     }

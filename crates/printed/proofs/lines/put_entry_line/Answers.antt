@@ -4,26 +4,11 @@ use native.Mathlib.Omega.{arith}
 use Rattle.wire.specs.Operations.{operation}
 use Rattle.wire.specs.declared.ops.Op.{Op}
 use Rattle.writing.proofs.DecimalLaws.{decimal-length}
-use Rattle.printed.proofs.PutLaws.{code_room, count_room, entry_end, entry_put}
+use Rattle.printed.proofs.PutLaws.{entry_put}
 use Rattle.printed.proofs.lines.put_entry_line.Goals as goal
 
 pub put_decimal-requires : goal.put_decimal-requires
 put_decimal-requires c = omega (arith, decimal-length c.args.e.line (omega arith))
-
-pub put_after-requires : goal.put_after-requires
-put_after-requires c =
-    code_room c.args.e _ (c.code.ensures ∙ ap (λ (o : Op). (operation o).code) c.op_of.ensures) _ _ c.requires (c.put_decimal.ensures.written, c.put_decimal.ensures.upper_bound)
-
-pub put_after-requires-2 : goal.put_after-requires-2
-put_after-requires-2 c =
-    count_room c.args.e _ (c.code.ensures ∙ ap (λ (o : Op). (operation o).code) c.op_of.ensures) _ _ c.requires (c.put_decimal.ensures.written, c.put_decimal.ensures.upper_bound)
-    _ (c.put_after.ensures.written, c.put_after.ensures.upper_bound)
-
-pub put_one-requires : goal.put_one-requires
-put_one-requires c =
-    entry_end c.args.e _ (c.code.ensures ∙ ap (λ (o : Op). (operation o).code) c.op_of.ensures) _ _ c.requires (c.put_decimal.ensures.written, c.put_decimal.ensures.upper_bound)
-    _ (c.put_after.ensures.written, c.put_after.ensures.upper_bound)
-    _ (c.put_after-2.ensures.written, c.put_after-2.ensures.upper_bound)
 
 pub returns : goal.returns
 returns c =

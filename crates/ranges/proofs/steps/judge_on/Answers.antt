@@ -22,7 +22,7 @@ use Rattle.ranges.proofs.steps.judge_on.Goals.{After-part_of-judged}
 
 -- a judging that comes so far is not refused
 begun_of : (c : After-part_of-judged) → let s = c.args in Begun s.next s.counts s.text.now s.expectations.now s.entries s.number (looked (against s.s)) (length s.verdicts.now) (length s.scratch.now) s.r
-begun_of c = let s = c.args in begun s.next s.counts s.text.now s.script s.expectations.now s.entries s.r s.number s.s.handed s.s.held.bytes.now s.s.held.lists.now _ _ _ _ c.refusal_of-tried.ensures c.in_default.is
+begun_of c = let s = c.args in begun s.next s.counts s.text.now s.script s.expectations.now s.entries s.r s.number s.s.handed.now s.s.held.bytes.now s.s.held.lists.now _ _ _ _ c.refusal_of-tried.ensures c.in_default.is
 
 pub judge_range-after-requires-clause-slots_bound : goal.judge_range-after-requires-clause-slots_bound
 judge_range-after-requires-clause-slots_bound c =
@@ -59,7 +59,7 @@ returns-clause-verdicts_after c =
     let codes = map code (map f (said s.text.now es)) in
     let to_range : codes ≡ map code (map f (said s.text.now c.part_of-judged.result.now)) = ap (λ (l : List Expectation). map code (map f (said s.text.now l))) (sym c.part_of-judged.ensures) in
     judged_ok (lent_of s.text.now s.script [] s.expectations.now) (ltb s.entries s.number) s.r (record { next = s.next; counts = s.counts; verdicts = v })
-    (asked_of s.number s.s.handed s.s.held.bytes.now s.s.held.lists.now (length s.scratch.now)) r.result _ (none_tried _ _ (sym c.refusal_of-tried.ensures ∙ c.in_default.is))
+    (asked_of s.number s.s.handed.now s.s.held.bytes.now s.s.held.lists.now (length s.scratch.now)) r.result _ (none_tried _ _ (sym c.refusal_of-tried.ensures ∙ c.in_default.is))
     (r.ensures.value ∙ ap (λ (l : List Expectation). added_all (map f (said s.text.now l)) s.counts) c.part_of-judged.ensures)
     (part_written codes _ n v r.new.slots to_range (omega (arith, codes_length s.text.now f es, b.slots, c.min-first.ensures)) r.ensures.slots_after
     ∙ ap (λ (m : ℕ). written_at m codes v) c.min-first.ensures

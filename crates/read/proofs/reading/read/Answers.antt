@@ -1,271 +1,66 @@
 -- `read::reading::read` meets its contract. Assumes nothing.
+use mathlib.Core.Path.{refl}
+use mathlib.Core.List.{map}
+use Rattle.script.specs.Layout.{Tables}
+use Rattle.tables.specs.Items.{item_of}
 use Rattle.kept.proofs.KeptLaws.{blank_memo}
-use Rattle.read.specs.Read.{lent_of}
-use Rattle.read.proofs.ReadLaws.{measure_refuses, short_refuses, enough_reads, text_short, counts_are, entries_there, entries_few, items_there, items_few, expectations_there, expectations_few, store_there, refused-answer, entries_as_was, items_as_was, expectations_as_was, store_as_was, read_answer, entries-read, items-read, expectations-read, store-read}
+use Rattle.read.proofs.ReadLaws.{Enough, enough, measure_refuses, short_refuses, refused-answer, as_was, read_answer, tables-read}
 use borrow.Author.Rules.{rules}
 use Rattle.read.proofs.reading.read.Goals as goal
+use Rattle.read.proofs.reading.read.Goals.{In_ok-room_for}
 
 pub measure_keeping-requires : goal.measure_keeping-requires
 measure_keeping-requires c = blank_memo _ 1024
 
-pub read_script-requires-clause-text_len_bound : goal.read_script-requires-clause-text_len_bound
-read_script-requires-clause-text_len_bound c =
-    let text = c.args.text.now in
-    let lent = lent_of c.args.entries.now c.args.items.now c.args.expectations.now c.args.store.now in
-    let M = c.measure_keeping in
-    let C = c.in_ok-needed.was in
-    let L = c.lent_of-lent in
-    let F = c.room_for in
-    let N = c.in_ok-room_for.was in
-    text_short text lent M.result M.ensures.result_value _ C L.result L.ensures F.result F.ensures _ N
+-- where Measure refuses, or a table is too short, nothing is written
+pub returns-in_err-needed : goal.returns-in_err-needed
+returns-in_err-needed c =
+    let e = measure_refuses c.args.text.now _ c.measure_keeping.result c.measure_keeping.ensures.result_value _ c.in_err-needed.was in
+    record {
+      result_value = search (rules, refused-answer _ _ e);
+      entries_after = as_was _ _ e (λ (t : Tables). t.entries) _ refl;
+      after = as_was _ _ e (λ (t : Tables). map item_of t.items) _ refl;
+      expectations_after = as_was _ _ e (λ (t : Tables). t.expectations) _ refl;
+      store_after = as_was _ _ e (λ (t : Tables). t.store) _ refl;
+    }
 
-pub read_script-requires-clause-memo : goal.read_script-requires-clause-memo
-read_script-requires-clause-memo c = c.measure_keeping.ensures.memo.0
-
-pub read_script-requires-clause-counts_value : goal.read_script-requires-clause-counts_value
-read_script-requires-clause-counts_value c =
-    let text = c.args.text.now in
-    let lent = lent_of c.args.entries.now c.args.items.now c.args.expectations.now c.args.store.now in
+pub returns-in_err-room_for : goal.returns-in_err-room_for
+returns-in_err-room_for c =
     let M = c.measure_keeping in
-    let C = c.in_ok-needed.was in
-    let L = c.lent_of-lent in
-    let F = c.room_for in
-    let N = c.in_ok-room_for.was in
-    counts_are text lent M.result M.ensures.result_value _ C L.result L.ensures F.result F.ensures _ N
+    let f = rw c.lent_of-lent.ensures at c.room_for.ensures in
+    let e = short_refuses c.args.text.now _ M.result M.ensures.result_value _ c.in_ok-needed.was c.room_for.result f _ c.in_err-room_for.was in
+    record {
+      result_value = search (rules, refused-answer _ _ e);
+      entries_after = as_was _ _ e (λ (t : Tables). t.entries) _ refl;
+      after = as_was _ _ e (λ (t : Tables). map item_of t.items) _ refl;
+      expectations_after = as_was _ _ e (λ (t : Tables). t.expectations) _ refl;
+      store_after = as_was _ _ e (λ (t : Tables). t.store) _ refl;
+    }
 
-pub read_script-requires-clause-text_in_bounds : goal.read_script-requires-clause-text_in_bounds
-read_script-requires-clause-text_in_bounds c =
-    let text = c.args.text.now in
-    let lent = lent_of c.args.entries.now c.args.items.now c.args.expectations.now c.args.store.now in
+-- else the tables are long enough
+ready : (c : In_ok-room_for) → Enough c.args.text.now c.args.entries c.args.items c.args.expectations c.args.store c.in_ok-needed.needed
+ready c =
     let M = c.measure_keeping in
-    let C = c.in_ok-needed.was in
-    let L = c.lent_of-lent in
-    let F = c.room_for in
-    let N = c.in_ok-room_for.was in
-    entries_there text lent M.result M.ensures.result_value _ C L.result L.ensures F.result F.ensures _ N
+    let f = rw c.lent_of-lent.ensures at c.room_for.ensures in
+    enough c.args.text.now c.args.entries c.args.items c.args.expectations c.args.store M.result M.ensures.result_value _ c.in_ok-needed.was c.room_for.result f _ c.in_ok-room_for.was
 
-pub read_script-requires-clause-text_len_bound_2 : goal.read_script-requires-clause-text_len_bound_2
-read_script-requires-clause-text_len_bound_2 c =
-    let text = c.args.text.now in
-    let lent = lent_of c.args.entries.now c.args.items.now c.args.expectations.now c.args.store.now in
-    let M = c.measure_keeping in
-    let C = c.in_ok-needed.was in
-    let L = c.lent_of-lent in
-    let F = c.room_for in
-    let N = c.in_ok-room_for.was in
-    entries_few text lent M.result M.ensures.result_value _ C L.result L.ensures F.result F.ensures _ N
+pub invariant_of-m : goal.invariant_of-m
+invariant_of-m c = record { short = (ready (goal.at.invariant_of-m c).In_ok-room_for).short; memo = c.measure_keeping.ensures.memo.0 }
 
-pub read_script-requires-clause-text_in_bounds_2 : goal.read_script-requires-clause-text_in_bounds_2
-read_script-requires-clause-text_in_bounds_2 c =
-    let text = c.args.text.now in
-    let lent = lent_of c.args.entries.now c.args.items.now c.args.expectations.now c.args.store.now in
-    let M = c.measure_keeping in
-    let C = c.in_ok-needed.was in
-    let L = c.lent_of-lent in
-    let F = c.room_for in
-    let N = c.in_ok-room_for.was in
-    items_there text lent M.result M.ensures.result_value _ C L.result L.ensures F.result F.ensures _ N
+pub read_script-requires : goal.read_script-requires
+read_script-requires c =
+    let k = ready (goal.at.read_script-requires c).In_ok-room_for in
+    record { counts_value = k.counted; entries_room = k.entries_room; items_room = k.items_room; expectations_room = k.expectations_room; store_room = k.store_room }
 
-pub read_script-requires-clause-text_len_bound_3 : goal.read_script-requires-clause-text_len_bound_3
-read_script-requires-clause-text_len_bound_3 c =
-    let text = c.args.text.now in
-    let lent = lent_of c.args.entries.now c.args.items.now c.args.expectations.now c.args.store.now in
-    let M = c.measure_keeping in
-    let C = c.in_ok-needed.was in
-    let L = c.lent_of-lent in
-    let F = c.room_for in
-    let N = c.in_ok-room_for.was in
-    items_few text lent M.result M.ensures.result_value _ C L.result L.ensures F.result F.ensures _ N
-
-pub read_script-requires-clause-text_in_bounds_3 : goal.read_script-requires-clause-text_in_bounds_3
-read_script-requires-clause-text_in_bounds_3 c =
-    let text = c.args.text.now in
-    let lent = lent_of c.args.entries.now c.args.items.now c.args.expectations.now c.args.store.now in
-    let M = c.measure_keeping in
-    let C = c.in_ok-needed.was in
-    let L = c.lent_of-lent in
-    let F = c.room_for in
-    let N = c.in_ok-room_for.was in
-    expectations_there text lent M.result M.ensures.result_value _ C L.result L.ensures F.result F.ensures _ N
-
-pub read_script-requires-clause-text_len_bound_4 : goal.read_script-requires-clause-text_len_bound_4
-read_script-requires-clause-text_len_bound_4 c =
-    let text = c.args.text.now in
-    let lent = lent_of c.args.entries.now c.args.items.now c.args.expectations.now c.args.store.now in
-    let M = c.measure_keeping in
-    let C = c.in_ok-needed.was in
-    let L = c.lent_of-lent in
-    let F = c.room_for in
-    let N = c.in_ok-room_for.was in
-    expectations_few text lent M.result M.ensures.result_value _ C L.result L.ensures F.result F.ensures _ N
-
-pub read_script-requires-clause-text_in_bounds_4 : goal.read_script-requires-clause-text_in_bounds_4
-read_script-requires-clause-text_in_bounds_4 c =
-    let text = c.args.text.now in
-    let lent = lent_of c.args.entries.now c.args.items.now c.args.expectations.now c.args.store.now in
-    let M = c.measure_keeping in
-    let C = c.in_ok-needed.was in
-    let L = c.lent_of-lent in
-    let F = c.room_for in
-    let N = c.in_ok-room_for.was in
-    store_there text lent M.result M.ensures.result_value _ C L.result L.ensures F.result F.ensures _ N
-
-pub returns-in_err-needed-clause-result_value : goal.returns-in_err-needed-clause-result_value
-returns-in_err-needed-clause-result_value c =
-    let text = c.args.text.now in
-    let lent = lent_of c.args.entries.now c.args.items.now c.args.expectations.now c.args.store.now in
-    let M = c.measure_keeping in
-    let e = measure_refuses text lent M.result M.ensures.result_value _ c.in_err-needed.was in
-    search (rules, refused-answer _ _ e)
-
-pub returns-in_err-needed-clause-entries_after : goal.returns-in_err-needed-clause-entries_after
-returns-in_err-needed-clause-entries_after c =
-    let text = c.args.text.now in
-    let lent = lent_of c.args.entries.now c.args.items.now c.args.expectations.now c.args.store.now in
-    let M = c.measure_keeping in
-    let e = measure_refuses text lent M.result M.ensures.result_value _ c.in_err-needed.was in
-    entries_as_was _ _ e _
-
-pub returns-in_err-needed-clause-after : goal.returns-in_err-needed-clause-after
-returns-in_err-needed-clause-after c =
-    let text = c.args.text.now in
-    let lent = lent_of c.args.entries.now c.args.items.now c.args.expectations.now c.args.store.now in
-    let M = c.measure_keeping in
-    let e = measure_refuses text lent M.result M.ensures.result_value _ c.in_err-needed.was in
-    items_as_was _ _ e _
-
-pub returns-in_err-needed-clause-expectations_after : goal.returns-in_err-needed-clause-expectations_after
-returns-in_err-needed-clause-expectations_after c =
-    let text = c.args.text.now in
-    let lent = lent_of c.args.entries.now c.args.items.now c.args.expectations.now c.args.store.now in
-    let M = c.measure_keeping in
-    let e = measure_refuses text lent M.result M.ensures.result_value _ c.in_err-needed.was in
-    expectations_as_was _ _ e _
-
-pub returns-in_err-needed-clause-store_after : goal.returns-in_err-needed-clause-store_after
-returns-in_err-needed-clause-store_after c =
-    let text = c.args.text.now in
-    let lent = lent_of c.args.entries.now c.args.items.now c.args.expectations.now c.args.store.now in
-    let M = c.measure_keeping in
-    let e = measure_refuses text lent M.result M.ensures.result_value _ c.in_err-needed.was in
-    store_as_was _ _ e _
-
-pub returns-in_err-room_for-clause-result_value : goal.returns-in_err-room_for-clause-result_value
-returns-in_err-room_for-clause-result_value c =
-    let text = c.args.text.now in
-    let lent = lent_of c.args.entries.now c.args.items.now c.args.expectations.now c.args.store.now in
-    let M = c.measure_keeping in
-    let C = c.in_ok-needed.was in
-    let L = c.lent_of-lent in
-    let F = c.room_for in
-    let e = short_refuses text lent M.result M.ensures.result_value _ C L.result L.ensures F.result F.ensures _ c.in_err-room_for.was in
-    search (rules, refused-answer _ _ e)
-
-pub returns-in_err-room_for-clause-entries_after : goal.returns-in_err-room_for-clause-entries_after
-returns-in_err-room_for-clause-entries_after c =
-    let text = c.args.text.now in
-    let lent = lent_of c.args.entries.now c.args.items.now c.args.expectations.now c.args.store.now in
-    let M = c.measure_keeping in
-    let C = c.in_ok-needed.was in
-    let L = c.lent_of-lent in
-    let F = c.room_for in
-    let e = short_refuses text lent M.result M.ensures.result_value _ C L.result L.ensures F.result F.ensures _ c.in_err-room_for.was in
-    entries_as_was _ _ e _
-
-pub returns-in_err-room_for-clause-after : goal.returns-in_err-room_for-clause-after
-returns-in_err-room_for-clause-after c =
-    let text = c.args.text.now in
-    let lent = lent_of c.args.entries.now c.args.items.now c.args.expectations.now c.args.store.now in
-    let M = c.measure_keeping in
-    let C = c.in_ok-needed.was in
-    let L = c.lent_of-lent in
-    let F = c.room_for in
-    let e = short_refuses text lent M.result M.ensures.result_value _ C L.result L.ensures F.result F.ensures _ c.in_err-room_for.was in
-    items_as_was _ _ e _
-
-pub returns-in_err-room_for-clause-expectations_after : goal.returns-in_err-room_for-clause-expectations_after
-returns-in_err-room_for-clause-expectations_after c =
-    let text = c.args.text.now in
-    let lent = lent_of c.args.entries.now c.args.items.now c.args.expectations.now c.args.store.now in
-    let M = c.measure_keeping in
-    let C = c.in_ok-needed.was in
-    let L = c.lent_of-lent in
-    let F = c.room_for in
-    let e = short_refuses text lent M.result M.ensures.result_value _ C L.result L.ensures F.result F.ensures _ c.in_err-room_for.was in
-    expectations_as_was _ _ e _
-
-pub returns-in_err-room_for-clause-store_after : goal.returns-in_err-room_for-clause-store_after
-returns-in_err-room_for-clause-store_after c =
-    let text = c.args.text.now in
-    let lent = lent_of c.args.entries.now c.args.items.now c.args.expectations.now c.args.store.now in
-    let M = c.measure_keeping in
-    let C = c.in_ok-needed.was in
-    let L = c.lent_of-lent in
-    let F = c.room_for in
-    let e = short_refuses text lent M.result M.ensures.result_value _ C L.result L.ensures F.result F.ensures _ c.in_err-room_for.was in
-    store_as_was _ _ e _
-
-pub returns-clause-result_value : goal.returns-clause-result_value
-returns-clause-result_value c =
-    let text = c.args.text.now in
-    let lent = lent_of c.args.entries.now c.args.items.now c.args.expectations.now c.args.store.now in
-    let M = c.measure_keeping in
-    let C = c.in_ok-needed.was in
-    let L = c.lent_of-lent in
-    let F = c.room_for in
-    let N = c.in_ok-room_for.was in
-    let Q = c.read_script in
-    let e = enough_reads text lent M.result M.ensures.result_value _ C L.result L.ensures F.result F.ensures _ N in
-    read_answer _ _ e _ Q.ensures.value
-
-pub returns-clause-entries_after : goal.returns-clause-entries_after
-returns-clause-entries_after c =
-    let text = c.args.text.now in
-    let lent = lent_of c.args.entries.now c.args.items.now c.args.expectations.now c.args.store.now in
-    let M = c.measure_keeping in
-    let C = c.in_ok-needed.was in
-    let L = c.lent_of-lent in
-    let F = c.room_for in
-    let N = c.in_ok-room_for.was in
-    let Q = c.read_script in
-    let e = enough_reads text lent M.result M.ensures.result_value _ C L.result L.ensures F.result F.ensures _ N in
-    entries-read _ _ e _ _ Q.ensures.entries_after
-
-pub returns-clause-after : goal.returns-clause-after
-returns-clause-after c =
-    let text = c.args.text.now in
-    let lent = lent_of c.args.entries.now c.args.items.now c.args.expectations.now c.args.store.now in
-    let M = c.measure_keeping in
-    let C = c.in_ok-needed.was in
-    let L = c.lent_of-lent in
-    let F = c.room_for in
-    let N = c.in_ok-room_for.was in
-    let Q = c.read_script in
-    let e = enough_reads text lent M.result M.ensures.result_value _ C L.result L.ensures F.result F.ensures _ N in
-    items-read _ _ e _ _ Q.ensures.after
-
-pub returns-clause-expectations_after : goal.returns-clause-expectations_after
-returns-clause-expectations_after c =
-    let text = c.args.text.now in
-    let lent = lent_of c.args.entries.now c.args.items.now c.args.expectations.now c.args.store.now in
-    let M = c.measure_keeping in
-    let C = c.in_ok-needed.was in
-    let L = c.lent_of-lent in
-    let F = c.room_for in
-    let N = c.in_ok-room_for.was in
-    let Q = c.read_script in
-    let e = enough_reads text lent M.result M.ensures.result_value _ C L.result L.ensures F.result F.ensures _ N in
-    expectations-read _ _ e _ _ Q.ensures.expectations_after
-
-pub returns-clause-store_after : goal.returns-clause-store_after
-returns-clause-store_after c =
-    let text = c.args.text.now in
-    let lent = lent_of c.args.entries.now c.args.items.now c.args.expectations.now c.args.store.now in
-    let M = c.measure_keeping in
-    let C = c.in_ok-needed.was in
-    let L = c.lent_of-lent in
-    let F = c.room_for in
-    let N = c.in_ok-room_for.was in
-    let Q = c.read_script in
-    let e = enough_reads text lent M.result M.ensures.result_value _ C L.result L.ensures F.result F.ensures _ N in
-    store-read _ _ e _ _ Q.ensures.store_after
+pub returns : goal.returns
+returns c =
+    let k = ready (goal.at.returns c).In_ok-room_for in
+    let Q = c.read_script.ensures in
+    let same = tables-read _ _ k.reads in
+    record {
+      result_value = read_answer _ _ k.reads _ Q.value;
+      entries_after = rw same at Q.entries_after;
+      after = rw same at Q.after;
+      expectations_after = rw same at Q.expectations_after;
+      store_after = rw same at Q.store_after;
+    }

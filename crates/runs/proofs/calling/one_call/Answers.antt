@@ -14,11 +14,11 @@ returns-then-kind-eq0 c =
       verdicts_after = (let S = c.args in
           let k : Lent = record { text = S.text.now; script = S.script; entries = S.entries.now; expectations = S.expectations.now } in
           let s : JudgeState = state_of S.t S.verdicts.now in
-          closed k s S.bytes.now S.lists.now S.row S.scratch.now c.close.result c.if-kind-eq0.true c.close.ensures).0;
+          closed k s S.held.bytes.now S.held.lists.now S.row S.scratch.now c.close.result c.if-kind-eq0.true c.close.ensures).0;
       scratch_after = (let S = c.args in
           let k : Lent = record { text = S.text.now; script = S.script; entries = S.entries.now; expectations = S.expectations.now } in
           let s : JudgeState = state_of S.t S.verdicts.now in
-          closed k s S.bytes.now S.lists.now S.row S.scratch.now c.close.result c.if-kind-eq0.true c.close.ensures).1;
+          closed k s S.held.bytes.now S.held.lists.now S.row S.scratch.now c.close.result c.if-kind-eq0.true c.close.ensures).1;
     }
 
 pub slice_bounds-handshake-end : goal.slice_bounds-handshake-end
@@ -37,12 +37,12 @@ returns-then-kind-eq1 c =
           let k : Lent = record { text = S.text.now; script = S.script; entries = S.entries.now; expectations = S.expectations.now } in
           let s : JudgeState = state_of S.t S.verdicts.now in
           let H = c.handshake in
-          handshaken S.text.now S.script S.entries.now S.expectations.now s S.bytes.now S.lists.now S.row S.scratch.now c.requires H.result _ _ c.if-kind-eq0.false c.if-kind-eq1.true c.info_in-i.result c.info_in-i.ensures H.ensures.verdicts_after H.ensures.scratch_after).0;
+          handshaken S.text.now S.script S.entries.now S.expectations.now s S.held.bytes.now S.held.lists.now S.row S.scratch.now c.requires H.result _ _ c.if-kind-eq0.false c.if-kind-eq1.true c.info_in-i.result c.info_in-i.ensures H.ensures.verdicts_after H.ensures.scratch_after).0;
       scratch_after = (let S = c.args in
           let k : Lent = record { text = S.text.now; script = S.script; entries = S.entries.now; expectations = S.expectations.now } in
           let s : JudgeState = state_of S.t S.verdicts.now in
           let H = c.handshake in
-          handshaken S.text.now S.script S.entries.now S.expectations.now s S.bytes.now S.lists.now S.row S.scratch.now c.requires H.result _ _ c.if-kind-eq0.false c.if-kind-eq1.true c.info_in-i.result c.info_in-i.ensures H.ensures.verdicts_after H.ensures.scratch_after).1;
+          handshaken S.text.now S.script S.entries.now S.expectations.now s S.held.bytes.now S.held.lists.now S.row S.scratch.now c.requires H.result _ _ c.if-kind-eq0.false c.if-kind-eq1.true c.info_in-i.result c.info_in-i.ensures H.ensures.verdicts_after H.ensures.scratch_after).1;
     }
 
 pub slice_bounds-entry-end : goal.slice_bounds-entry-end
@@ -61,10 +61,10 @@ returns c =
           let k : Lent = record { text = S.text.now; script = S.script; entries = S.entries.now; expectations = S.expectations.now } in
           let s : JudgeState = state_of S.t S.verdicts.now in
           let H = c.entry in
-          entered k s S.bytes.now S.lists.now S.row S.scratch.now c.requires H.result _ _ c.if-kind-eq0.false c.if-kind-eq1.false c.response_in-r.result c.response_in-r.ensures H.ensures.verdicts_after H.ensures.scratch_after).0;
+          entered k s S.held.bytes.now S.held.lists.now S.row S.scratch.now c.requires H.result _ _ c.if-kind-eq0.false c.if-kind-eq1.false c.response_in-r.result c.response_in-r.ensures H.ensures.verdicts_after H.ensures.scratch_after).0;
       scratch_after = (let S = c.args in
           let k : Lent = record { text = S.text.now; script = S.script; entries = S.entries.now; expectations = S.expectations.now } in
           let s : JudgeState = state_of S.t S.verdicts.now in
           let H = c.entry in
-          entered k s S.bytes.now S.lists.now S.row S.scratch.now c.requires H.result _ _ c.if-kind-eq0.false c.if-kind-eq1.false c.response_in-r.result c.response_in-r.ensures H.ensures.verdicts_after H.ensures.scratch_after).1;
+          entered k s S.held.bytes.now S.held.lists.now S.row S.scratch.now c.requires H.result _ _ c.if-kind-eq0.false c.if-kind-eq1.false c.response_in-r.result c.response_in-r.ensures H.ensures.verdicts_after H.ensures.scratch_after).1;
     }

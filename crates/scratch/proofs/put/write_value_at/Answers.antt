@@ -15,26 +15,26 @@ pub put_bracketed-requires : goal.put_bracketed-requires
 unfolding value_text value_bytes texts_in
 put_bracketed-requires c =
     let A = c.args in
-    room_as _ _ (ap (λ (l : List (List ℕ)). bracketed (item_texts A.bytes.now l)) c.items_at.ensures ∙ sym (ap (value_text A.bytes.now A.lists.now) c.in-List.is)) A.w.now c.requires
+    room_as _ _ (ap (λ (l : List (List ℕ)). bracketed (item_texts A.held.bytes.now l)) c.items_at.ensures ∙ sym (ap (value_text A.held.bytes.now A.held.lists.now) c.in-List.is)) A.w.now c.requires
 
 pub put_braced-requires : goal.put_braced-requires
 unfolding value_text value_bytes texts_in
 put_braced-requires c =
     let A = c.args in
-    room_as _ _ (ap (λ (l : List (List ℕ)). braced (item_texts A.bytes.now l)) c.items_at-in-Features.ensures ∙ sym (ap (value_text A.bytes.now A.lists.now) c.in-Features.is)) A.w.now c.requires
+    room_as _ _ (ap (λ (l : List (List ℕ)). braced (item_texts A.held.bytes.now l)) c.items_at-in-Features.ensures ∙ sym (ap (value_text A.held.bytes.now A.held.lists.now) c.in-Features.is)) A.w.now c.requires
 
 pub returns-in-NotTrusted : goal.returns-in-NotTrusted
 unfolding value_text value_bytes utf8 encoded
-returns-in-NotTrusted c = let A = c.args in wrote_as _ _ (sym (ap (value_text A.bytes.now A.lists.now) c.in-NotTrusted.is)) _ _ c.put-in-NotTrusted.ensures
+returns-in-NotTrusted c = let A = c.args in wrote_as _ _ (sym (ap (value_text A.held.bytes.now A.held.lists.now) c.in-NotTrusted.is)) _ _ c.put-in-NotTrusted.ensures
 
 pub returns-in-List : goal.returns-in-List
 unfolding value_text value_bytes texts_in
 returns-in-List c =
     let A = c.args in
-    wrote_as _ _ (ap (λ (l : List (List ℕ)). bracketed (item_texts A.bytes.now l)) c.items_at.ensures ∙ sym (ap (value_text A.bytes.now A.lists.now) c.in-List.is)) _ _ c.put_bracketed.ensures
+    wrote_as _ _ (ap (λ (l : List (List ℕ)). bracketed (item_texts A.held.bytes.now l)) c.items_at.ensures ∙ sym (ap (value_text A.held.bytes.now A.held.lists.now) c.in-List.is)) _ _ c.put_bracketed.ensures
 
 pub returns-in-Features : goal.returns-in-Features
 unfolding value_text value_bytes texts_in
 returns-in-Features c =
     let A = c.args in
-    wrote_as _ _ (ap (λ (l : List (List ℕ)). braced (item_texts A.bytes.now l)) c.items_at-in-Features.ensures ∙ sym (ap (value_text A.bytes.now A.lists.now) c.in-Features.is)) _ _ c.put_braced.ensures
+    wrote_as _ _ (ap (λ (l : List (List ℕ)). braced (item_texts A.held.bytes.now l)) c.items_at-in-Features.ensures ∙ sym (ap (value_text A.held.bytes.now A.held.lists.now) c.in-Features.is)) _ _ c.put_braced.ensures

@@ -5,9 +5,6 @@ use Rattle.stamps.proofs.timestamps.digit_run.Goals as goal
 
 ruleset walk = (run_none, walked_here, walked_on, walked_all)
 
-pub loop-i-init : goal.loop-i-init
-loop-i-init c = search rules
-
 pub returns-then-not-is_ascii_digit : goal.returns-then-not-is_ascii_digit
 returns-then-not-is_ascii_digit c = let h = c.if-not-is_ascii_digit.ensures.value in search (rules, walk)
 

@@ -94,24 +94,6 @@ module _ (s u : List ℕ) (a : u ≡ unsigned s) (b : Bool) (e : b ≡ no_finite
 
 ruleset walk = (no_number, nothing, with-exponent, no_form, too_many, all_read, room, room-2, whole_digits, decimal_digits)
 
-pub overflow_add-count : goal.overflow_add-count
-overflow_add-count c = omega (arith, whole_length _ _ _ c.digit_run.ensures, decimal_length _ _ _ c.fraction.ensures)
-
-pub returns-then-no_finite : goal.returns-then-no_finite
-returns-then-no_finite c = search (rules, walk)
-
-pub returns-then-count-eq0 : goal.returns-then-count-eq0
-returns-then-count-eq0 c = search (rules, walk)
-
-pub returns-then-is_exponent : goal.returns-then-is_exponent
-returns-then-is_exponent c = search (rules, walk)
-
-pub returns-then-not-is_empty : goal.returns-then-not-is_empty
-returns-then-not-is_empty c = search (rules, walk)
-
-pub returns-then-count-gt18 : goal.returns-then-count-gt18
-returns-then-count-gt18 c = search (rules, walk)
-
 pub spelt-requires : goal.spelt-requires
 spelt-requires c = search (rules, walk)
 

@@ -5,25 +5,8 @@ use lib.ListN.{length}
 use borrow.Author.Rules.{rules}
 use Rattle.script.specs.Sets.{trimmed_items}
 use Rattle.tables.specs.Walks.{items_of_left}
-use Rattle.tables.proofs.WalkLaws.{items_last, items_next}
+use Rattle.tables.proofs.WalkLaws.{items_next}
 use Rattle.tables.proofs.walks.TrimmedItemsIterator.next.Goals as goal
-
-pub returns-in_err-left-clause-steps : goal.returns-in_err-left-clause-steps
-unfolding items_of_left
-returns-in_err-left-clause-steps c = rw (c.in_err-left.was) (search (rules))
-
-pub returns-in-None-clause-steps : goal.returns-in-None-clause-steps
-unfolding items_of_left
-returns-in-None-clause-steps c =
-    let left = c.in_ok-left.left in
-    rw (c.in_ok-left.was, c.trimmed.ensures.at) (items_last _ _ _ left.inside c.find.ensures.value c.in-None.is)
-
-pub returns-in-None-clause-goes : goal.returns-in-None-clause-goes
-unfolding items_of_left
-returns-in-None-clause-goes c =
-    let left = c.in_ok-left.left in
-    let shorter = ap length (items_last _ _ _ left.inside c.find.ensures.value c.in-None.is) in
-    rw (c.in_ok-left.was) (search (rules))
 
 next_item : (c : goal.After-trimmed-in-Some) → trimmed_items c.in_ok-left.left.text.now c.in_ok-left.left.at ≡ c.trimmed-in-Some.result.at ∷ trimmed_items c.behind.result.text.now c.behind.result.at
 next_item c =

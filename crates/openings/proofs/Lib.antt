@@ -1,0 +1,2 @@
+pub mod IsSkippedLaws
+pub mod StampedLaws
