@@ -8,36 +8,7 @@ ghost use Rattle.arguments.specs.KeyTables.{argument_keys, key_at, name_at, lett
 use pieces::pieces::Piece;
 use script::roles::{Key, Takes};
 
-// The names of the 26 keys, one behind the other.
-const NAMES: [u8; 257] = *b"\
-    keep_failed\
-    keep_going\
-    try_fallback\
-    verbosity\
-    max_build_jobs\
-    max_silent_time\
-    use_build_hook\
-    verbose_build\
-    log_type\
-    print_build_trace\
-    build_cores\
-    use_substitutes\
-    overrides\
-    action\
-    paths\
-    ignore_liveness\
-    max_freed\
-    check_contents\
-    repair\
-    suffix\
-    text\
-    refs\
-    name\
-    cam_str\
-    data\
-    dont_check_sigs";
-
-// By the key's place among the 26, where its name begins in NAMES. It ends where that of the next begins.
+// By the key's place among the 26, where its name begins among the `names`. It ends where that of the next begins.
 const STARTS: [u16; 27] = [
     0, // keep_failed
     11, // keep_going
@@ -103,12 +74,39 @@ const HINTS: [u8; 36] = [
     22, // name
 ];
 
-// The tables, each tested here, once for all who use it.
+// The tables, each tested here, once for all who use it. The names of the 26 keys, one behind the other: a reference, for an array would be laid out on the
+// stack for each key that is asked for.
 #[tactic(auto, unfolding(script::specs::Operations::key_row, crate::specs::KeyTables::letters))]
-fn names() -> [u8; 257]
-    ensures { result ≡ letters argument_keys }
+fn names() -> &'static [u8]
+    ensures { result.now ≡ letters argument_keys }
 {
-    NAMES
+    b"\
+        keep_failed\
+        keep_going\
+        try_fallback\
+        verbosity\
+        max_build_jobs\
+        max_silent_time\
+        use_build_hook\
+        verbose_build\
+        log_type\
+        print_build_trace\
+        build_cores\
+        use_substitutes\
+        overrides\
+        action\
+        paths\
+        ignore_liveness\
+        max_freed\
+        check_contents\
+        repair\
+        suffix\
+        text\
+        refs\
+        name\
+        cam_str\
+        data\
+        dont_check_sigs"
 }
 
 fn starts() -> [u16; 27]
@@ -159,7 +157,7 @@ fn is_named(p: Piece<'_>, place: usize) -> bool
     let starts = starts();
     let start = starts[place] as usize;
     let end = starts[place + 1] as usize;
-    // Most lines that name no key differ in length: then the names need not be laid out.
+    // Most lines that name no key differ in length.
     if p.bytes().len() != end - start {
         return false;
     }

@@ -9,7 +9,7 @@ use script::records::Script;
 
 impl Tally {
     // Gives the same tally back.
-    pub fn close(self, script: Script) -> Turn
+    pub fn close(mut self, script: Script) -> Turn
         ensures { result ≡ record { tally = self; answer = close_answer self.next self.counts script.counts.entries } }
     {
         Turn {

@@ -45,7 +45,7 @@ impl Tally {
     // What is lent comes apart: the theorem `Claims.demand_one` is about this signature.
     #[tactic(auto, unfolding(judging::specs::Judge::judge_step, judging::specs::Judge::judged, judging::specs::Judge::judged_on, judging::specs::Judge::refusal_on, judging::specs::Judge::range_for, judging::specs::Calls::wrong_number, judging::specs::Scratch::scratch_after, judging::specs::Scratch::scratch_on))]
     pub fn handshake(
-        self,
+        mut self,
         text: &[u8],
         script: Script,
         expectations: &[Expectation],
@@ -84,7 +84,7 @@ impl Tally {
     // Judges the expectations of an entry against a response. What is lent comes apart: the theorem `Claims.demand_one` is about this signature.
     #[tactic(auto, using(crate::proofs::TallyLaws::past_min), unfolding(judging::specs::Judge::judge_step, judging::specs::Judge::judged, judging::specs::Judge::judged_on, judging::specs::Judge::refusal_on, judging::specs::Judge::range_for, judging::specs::Scratch::scratch_after, judging::specs::Scratch::scratch_on, judging::specs::Judge::past_entries, judging::specs::Judge::range_refusals, judging::specs::Judge::out_of_reach, judging::specs::Judge::range_outside, judging::specs::Judge::few_slots, judging::specs::Judge::records_in, judging::specs::Judge::said_by, judging::specs::Judge::judged_by))]
     pub fn entry(
-        self,
+        mut self,
         text: &[u8],
         script: Script,
         entries: &[Entry],

@@ -40,7 +40,7 @@ use Rattle.script.specs.declared.records.Items.{Items}
 use Rattle.script.specs.declared.records.Matcher.TheVariants as Matcher
 use Rattle.script.specs.declared.records.Expect.TheVariants as Expect
 use Rattle.script.specs.declared.response.ResultData.{ResultData}
-use Rattle.script.specs.Refusals.{refusal}
+use Rattle.script.specs.Refusals.{refusal, reason_number}
 use Rattle.script.specs.declared.records.Refusal.{Refusal}
 use Rattle.script.specs.declared.refusals.Reason.{Reason}
 use Rattle.script.specs.declared.refusals.Reason.TheVariants.{CountTooHigh, ExpectationOutside, FewSlots, NotAllJudged, PartOutside, ValueTooLong, WrongNumber}
@@ -276,3 +276,15 @@ in_order :
     × (overwritten (Some (97 ∷ 98 ∷ 99 ∷ []) ∷ None ∷ Some (120 ∷ []) ∷ []) (0 ∷ 0 ∷ 0 ∷ 0 ∷ []) ≡ 120 ∷ 98 ∷ 99 ∷ 0 ∷ [])
 unfolding answered words text-Base.overlaid judge-Scratch.overwritten_by judge-Scratch.overwritten
 in_order = (refl, refl, refl, refl, refl, refl, refl, refl, refl, refl, refl)
+
+-- the numbers that document 01 gives the reasons above
+pub numbers_hold :
+    (reason_number ExpectationOutside ≡ 31)
+    × (reason_number PartOutside ≡ 32)
+    × (reason_number WrongNumber ≡ 33)
+    × (reason_number ValueTooLong ≡ 34)
+    × (reason_number FewSlots ≡ 35)
+    × (reason_number CountTooHigh ≡ 36)
+    × (reason_number NotAllJudged ≡ 37)
+unfolding reason_number
+numbers_hold = (refl, refl, refl, refl, refl, refl, refl)

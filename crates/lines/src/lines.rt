@@ -1,9 +1,9 @@
 // Lines of a text. By places in it: a line is its places, and where the next one begins is the answer.
-ghost use Rattle.std.specs.Prelude.{◌≡◌, ◌+◌, ◌<◌, length};
+ghost use Rattle.std.specs.Prelude.{◌≡◌, true, ◌∷◌, ◌+◌, ◌<◌, ◌^◌, length};
 ghost use Rattle.std.specs.Iterator.{YieldsFirst, item_count};
 ghost use Rattle.text.specs.Lines.{line, line_at, lines, indented, trimmed_length};
 ghost use Rattle.text.specs.LinesWalk.{end_at};
-ghost use Rattle.lines.specs.Walk.{left, begun, few};
+ghost use Rattle.lines.specs.Walk.{left, has_more, begun, past, few};
 
 use text::lines::Line;
 
@@ -69,6 +69,29 @@ impl<'a> Lines<'a> {
             at: 0,
             number: 1,
         }
+    }
+
+    // Whether a line is left.
+    #[tactic(auto, using(crate::proofs::WalkLaws::more_is))]
+    pub fn more(self) -> bool
+        ensures { result ≡ has_more (left self.entry) }
+    {
+        self.at < self.text.len()
+    }
+
+    // The next of the lines that are left; the walk moves past it. For a caller who wants one line, and to know where the walk stands then; a loop over the
+    // lines goes by the iterator.
+    #[tactic(auto, using(crate::proofs::WalkLaws::past_is, crate::proofs::WalkLaws::left_is))]
+    pub fn next_line(&mut self) -> Line
+        requires self_value { has_more (left self.old) ≡ true }
+        requires number_bound { self.old.number + 1 < 2 ^ 64 }
+        ensures self_value_2 { left self.old ≡ result ∷ left self.new }
+        ensures self_after { self.new ≡ past self.old }
+    {
+        let here = line_at(self.text, self.at, self.number);
+        self.at = here.next;
+        self.number = self.number + 1;
+        here
     }
 }
 

@@ -8,6 +8,7 @@ use call_fields::{
     store_fields, text_fields,
 };
 use script::records::{Entry, OpCall, Time};
+use wire::ops::Op;
 
 #[tactic(auto, using(crate::proofs::NumberLaws::stamp_by, crate::proofs::NumberLaws::stamp_at), unfolding(crate::specs::Numbers::stamp_numbers))]
 fn stamp_numbers(s: Option<Time>) -> [u64; 4]
@@ -60,7 +61,7 @@ fn later_numbers(c: OpCall) -> [u64; 16]
         OpCall::QueryRealisation { value } => place_fields(17, 0, value),
         OpCall::QuerySubstitutablePathInfo { path } => place_fields(18, 0, path),
         OpCall::QuerySubstitutablePathInfos { paths } => items_fields(19, 0, paths),
-        OpCall::RawBytes { op, data } => place_fields(20, op.code(), data),
+        OpCall::RawBytes { op, data } => place_fields(20, Op::code(op), data),
         _ => few(0, 0, 0, 0, 0, 0, 0, 0),
     }
 }
@@ -70,22 +71,22 @@ pub fn call_numbers(c: OpCall) -> [u64; 16]
     ensures { result ≡ call_numbers c }
 {
     match c {
-        OpCall::SinglePath { op, path } => place_fields(1, op.code(), path),
-        OpCall::SingleString { op, value } => place_fields(2, op.code(), value),
-        OpCall::PathSet { op, paths } => items_fields(3, op.code(), paths),
+        OpCall::SinglePath { op, path } => place_fields(1, Op::code(op), path),
+        OpCall::SingleString { op, value } => place_fields(2, Op::code(op), value),
+        OpCall::PathSet { op, paths } => items_fields(3, Op::code(op), paths),
         OpCall::PathSetFlag {
             op,
             paths,
             substitute,
-        } => range_fields(4, op.code(), paths, flag(substitute), 0),
+        } => range_fields(4, Op::code(op), paths, flag(substitute), 0),
         OpCall::PathSetMode { op, paths, mode } => range_fields(
             5,
-            op.code(),
+            Op::code(op),
             paths,
             mode.start as u64,
             mode.len as u64,
         ),
-        OpCall::NoArgs { op } => few(6, op.code(), 0, 0, 0, 0, 0, 0),
+        OpCall::NoArgs { op } => few(6, Op::code(op), 0, 0, 0, 0, 0, 0),
         OpCall::SetOptions(o) => options_fields(7, o),
         OpCall::CollectGarbage {
             action,

@@ -8,6 +8,7 @@ use call_ops::op_of;
 use decimals::decimal::{put_after, put_decimal};
 use script::records::{Entry, Refusal, Script};
 use version::ProtocolVersion;
+use wire::ops::Op;
 use written::Writer;
 
 // Writes `version` and the two numbers of a version.
@@ -43,7 +44,7 @@ pub fn put_entry_line(e: Entry, w: &mut Writer<u8>)
     ensures upper_bound { w.new.at ≤ w.old.at + line_room }
 {
     put_decimal(e.line as u64, w);
-    put_after(b" ", op_of(e.op_call).code(), w);
+    put_after(b" ", Op::code(op_of(e.op_call)), w);
     put_after(b" ", e.expects.count as u64, w);
     w.put_one(b'\n');
 }

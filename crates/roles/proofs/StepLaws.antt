@@ -225,9 +225,9 @@ module _ (text : List ℕ) where
   unfolding trim
   trim_nothing p h = let z = ap length (no_bytes p h) in omega (arith, trim-inside (bytes text p))
 
-  pub empty_is : (w next : Where) (l : Line) (a : Bool) → a ≡ is_empty (span l.start l.end) → a ≡ true → next ≡ below_nothing w false → step Nothing next ≡ step_of plain_rules text w l
-  unfolding step_of indented starts_with utf8 is_empty
-  empty_is w next l a z t e = let h = eqb-true l.start l.end (sym z ∙ t) in rw (no_bytes (line_span l) h, e) (nothing_at w (trim text (line_span l)) (trim_nothing (line_span l) h))
+  pub empty_is : (w next : Where) (l : Line) → l.start ≡ l.end → next ≡ below_nothing w false → step Nothing next ≡ step_of plain_rules text w l
+  unfolding step_of indented starts_with utf8
+  empty_is w next l h e = rw (no_bytes (line_span l) h, e) (nothing_at w (trim text (line_span l)) (trim_nothing (line_span l) h))
 
   pub nothing_is : (w next : Where) (l : Line) (inward : Bool) (t : Span) → inward ≡ indented (bytes text (span l.start l.end)) → t ≡ trim text (span l.start l.end)
       → ((i : Bool) → step Nothing (below_nothing w i) ≡ step_at plain_rules text w i t) → next ≡ below_nothing w inward → step Nothing next ≡ step_of plain_rules text w l

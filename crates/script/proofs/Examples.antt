@@ -37,7 +37,7 @@ use Rattle.wire.specs.Operations as wire-Operations
 use Rattle.version.specs.Version as wire-Version
 use Rattle.script.specs.Layout.{Reading}
 use Rattle.script.specs.Reading.{parsed, Parsed}
-use Rattle.script.specs.Refusals.{refusal}
+use Rattle.script.specs.Refusals.{refusal, reason_number}
 use Rattle.script.specs.Plain.{PlainLine, plain_lines, opened, owners}
 use Rattle.wire.specs.declared.ops.Op.TheVariants.{the_data as Op}
 use Rattle.script.specs.declared.records.Place.{Place}
@@ -283,3 +283,17 @@ lineds_hold :
     × (map (λ c. owners 0 (seen c.given)) lineds ≡ map (λ c. c.owned) lineds)
 unfolding seen lineds
 lineds_hold = (refl, refl)
+
+-- the numbers that document 01 gives the reasons of the refusals above
+pub numbers_hold :
+    (reason_number NotUtf8 ≡ 2)
+    × (reason_number UnexpectedPreambleLine ≡ 3)
+    × (reason_number UnknownExpectation ≡ 4)
+    × (reason_number MatcherNumberUnreadable ≡ 5)
+    × (reason_number NoF64 ≡ 7)
+    × (reason_number NotCarried ≡ 8)
+    × (reason_number UnknownOperation ≡ 9)
+    × (reason_number BraceNotClosed ≡ 10)
+    × (reason_number DataUnknown ≡ 11)
+unfolding reason_number
+numbers_hold = (refl, refl, refl, refl, refl, refl, refl, refl, refl)

@@ -69,6 +69,21 @@ module _ (s : List ℕ) (i : ℕ) (w : Walked s i) where
   pub walked_all : length s ≤ i → run s [] ≡ digit_run s
   walked_all h = sym (rw (run_over s i h, rest-none s i h, append-nil (take i s), take_all i s h) at w)
 
+-- what follows digits begins with none
+pub run_rest : (xs : List ℕ) → digit_run (digit_run xs).rest ≡ run [] (digit_run xs).rest
+unfolding digit_run
+run_rest [] = refl
+run_rest (x ∷ xs) = go (within 0x30 0x39 x) refl (run_rest xs)
+  where
+    more : Run
+    more = digit_run xs
+
+    go : (b : Bool) → within 0x30 0x39 x ≡ b → digit_run more.rest ≡ run [] more.rest
+        → digit_run (if b then run (x ∷ more.digits) more.rest else run [] (x ∷ xs)).rest
+        ≡ run [] (if b then run (x ∷ more.digits) more.rest else run [] (x ∷ xs)).rest
+    go true e ih = ih
+    go false e ih = rw (digit_run, e)
+
 -- a run is of digits
 pub run_digits : (xs : List ℕ) → all_digits (digit_run xs).digits ≡ true
 unfolding digit_run all_digits

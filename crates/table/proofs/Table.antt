@@ -49,7 +49,7 @@ use Rattle.script.specs.Reading.{parsed, Parsed}
 use Rattle.script.specs.declared.records.Counts.{Counts}
 use Rattle.script.specs.declared.records.OpCall.{OpCall}
 use Rattle.script.specs.declared.response.HandshakeInfo.{HandshakeInfo}
-use Rattle.script.specs.Refusals.{refusal}
+use Rattle.script.specs.Refusals.{refusal, reason_number}
 use Rattle.script.specs.declared.records.Refusal.{Refusal}
 use Rattle.script.specs.declared.refusals.Reason.TheVariants.{UnknownOperation}
 use Rattle.verdicts.specs.Expected.{Expected, exact, regex, greater_or_equal, result, trust, server_features}
@@ -173,7 +173,7 @@ Rows =
     -- P10 `protocol: 1.256` leaves 1.38.
     × (version "protocol: 1.256" ≡ Ok (record { major = 1; minor = 38 }))
     -- P11 `# nwscript v1` below `---`: 9.
-    × (counts "---\n# nwscript v1" ≡ Err (refusal UnknownOperation 2))
+    × ((counts "---\n# nwscript v1" ≡ Err (refusal UnknownOperation 2)) × (reason_number UnknownOperation ≡ 9))
     -- P12 `@1msSyncWithGC` is read.
     × (calls "---\n@1msSyncWithGC" ≡ Ok (OpCall.NoArgs Op.SyncWithGC ∷ []))
     -- P13 `verbosity: 3`, then `verbosity: x`: 0.
@@ -181,12 +181,12 @@ Rows =
     -- P14 `QueryValidPaths /a substitute`: one path, flag off.
     × (calls "---\nQueryValidPaths /a substitute" ≡ Ok (OpCall.PathSetFlag Op.QueryValidPaths (record { first = 0; count = 1 }) false ∷ []))
     -- P15 ` expect: Last` with one space below an entry: 9.
-    × (counts "---\nSyncWithGC\n expect: Last" ≡ Err (refusal UnknownOperation 3))
+    × ((counts "---\nSyncWithGC\n expect: Last" ≡ Err (refusal UnknownOperation 3)) × (reason_number UnknownOperation ≡ 9))
     -- P16 trust 3 is `unknown`.
     × (value (told (Some 3)) (trust (exact (utf8 "unknown"))) ≡ Some (utf8 "unknown"))
 
 pub table : Rows
-unfolding reading says value answers
+unfolding reading says value answers reason_number
 table = (
   (values.examples).0,
   (values.examples).1,
@@ -198,10 +198,10 @@ table = (
   (refl, (verdicts.examples).9, refl),
   (refl, λ i bytes lists scratch h. rw h refl),
   refl,
-  refl,
+  (refl, refl),
   refl,
   (refl, refl),
   refl,
-  refl,
+  (refl, refl),
   refl,
 )

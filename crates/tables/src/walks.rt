@@ -31,6 +31,8 @@ impl<'a> Iterator for TrimmedItems<'a> {
 
     ghost remaining = { item_count items_left };
 
+    // Always in its callers: an item may be a single byte, and a call takes longer.
+    #[inline(always)]
     #[tactic(auto, using(crate::proofs::WalkLaws::items_last), unfolding(crate::specs::Walks::items_of_left))]
     fn next(&mut self) -> Option<Piece<'a>> {
         let left = self.left?;

@@ -79,5 +79,9 @@ pub fn skip_others(s: &[u8], b: u8, at: usize) -> usize
             return i;
         }
     }
+    // Most pieces end here: no call for these.
+    if near == s.len() {
+        return near;
+    }
     skip_far(s, b, near)
 }

@@ -35,7 +35,7 @@ fn find(text: &[u8], w: Where, at: usize, number: usize) -> Turn
 {
     let l = lines::lines::line_at(text, at, number);
     Turn {
-        step: roles::steps::step(text, w, l),
+        step: roles::steps::quick_step(text, w, l),
         next: l.next,
     }
 }

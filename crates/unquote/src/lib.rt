@@ -130,7 +130,8 @@ fn unquote_fill(s: &[u8], out: &mut [u8])
     if is_quoted(s) {
         unescape(&s[1..s.len() - 1], out);
     } else {
-        out.copy_from_slice(s);
+        // No `copy_from_slice`: that calls `memmove`, which no archive for C needs otherwise.
+        blocks::copy(s, out);
     }
 }
 

@@ -145,10 +145,10 @@ fn hint(s: &[u8]) -> Option<Op>
 impl Op {
     // By the protocol each operation has a code of its own.
     #[tactic(auto, unfolding(crate::specs::Operations::operation))]
-    pub fn code(self) -> u64
-        ensures { result ≡ (operation self).code }
+    pub fn code(op: Op) -> u64
+        ensures { result ≡ (operation op).code }
     {
-        self as u64
+        op as u64
     }
 
     // The Rust's `from_u64`.

@@ -22,8 +22,8 @@ module _ (n : ℕ) (small : n < 26) (table : List ℕ) (t : Starts table) where
   forward : get_or table n 0 ≤ get_or table (n + 1) 0
   forward = (t.rule n small).forward
 
-  inside : (names : List ℕ) → length names ≡ 257 → get_or table (n + 1) 0 ≤ length names
-  inside names l = rw l (t.rule n small).inside
+  inside : (names : List ℕ) → names ≡ letters argument_keys → get_or table (n + 1) 0 ≤ length names
+  inside names l = rw (l, letters-length) (t.rule n small).inside
 
   compared : (names s : List ℕ) (r : Bool) → names ≡ letters argument_keys
       → r ≡ same_bytes s (part names (get_or table n 0) (get_or table (n + 1) 0 - get_or table n 0)) → r ≡ same_bytes s (name_at n)
@@ -39,3 +39,6 @@ ruleset places = (forward, inside, compared, longer)
 
 pub returns-then-bytes-end : goal.returns-then-bytes-end
 returns-then-bytes-end c = search (rules, places)
+
+pub slice_bounds-is_word-end : goal.slice_bounds-is_word-end
+slice_bounds-is_word-end c = search (rules, places)
