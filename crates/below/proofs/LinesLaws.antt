@@ -22,7 +22,7 @@ use Rattle.script.specs.declared.roles.Saying.{Saying}
 use Rattle.script.specs.declared.roles.Saying.TheVariants.{Known, Pair, NoColon, Unknown, NoPair, NoRaw}
 use Rattle.script.specs.declared.roles.Opening.{Opening}
 use Rattle.script.specs.declared.roles.Step.{Step}
-use Rattle.script.specs.declared.refusals.Reason.{Reason}
+use Rattle.script.specs.declared.roles.Refused.{Refused}
 use Rattle.script.specs.declared.roles.Role.{Role}
 use Rattle.script.specs.declared.roles.Role.TheVariants.{Nothing, Says, Expects, Opens, Bad}
 use Rattle.script.proofs.RolesInside.{role_in}
@@ -111,7 +111,7 @@ module _ {options : Bool} {heard₀ : Heard} {items₀ : Writer (List ℕ)} {exp
       }
 
       -- a line that says nothing, or is refused
-      pub led_silent : (r ≡ Nothing) ⊎ ((k : Reason) × r ≡ Bad k) → Next heard items expects later
+      pub led_silent : (r ≡ Nothing) ⊎ ((k : Refused) × r ≡ Bad k) → Next heard items expects later
       unfolding lead is_opening sayings saying_of expectations expectation_of ahead
       led_silent (inl q) = silent (rw (e, q)) (rw (e, q)) (rw (e, q))
       led_silent (inr q) = silent (rw (e, q.1)) (rw (e, q.1)) (rw (e, q.1))

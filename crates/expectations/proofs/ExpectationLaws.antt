@@ -14,13 +14,12 @@ use Rattle.text.proofs.LiteralLaws.{codes}
 use Rattle.script.specs.Answers.{first_of, Answer}
 use Rattle.script.specs.Pieces.{place, bytes, behind, trim, cut, cut_into}
 use Rattle.script.specs.Expectations.{COLON, about, matcher, matching, terminal, field, result, expectation}
-use Rattle.script.specs.Roles.{expecting, expect_role}
+use Rattle.script.specs.Roles.{expecting, expect_role, refused}
 use Rattle.script.specs.declared.records.Place.{Place}
 use Rattle.script.specs.declared.records.Matcher.{Matcher}
 use Rattle.script.specs.declared.records.Expect.{Expect}
 use Rattle.script.specs.declared.records.Expect.TheVariants as expect
 use Rattle.script.specs.declared.roles.Role.{Role}
-use Rattle.script.specs.declared.roles.Role.TheVariants.{Bad}
 use Rattle.expectations.specs.ExpectAnswers.{expect_about, about_in, about_word, by_sign}
 use Rattle.expectations.specs.declared.Subject.{Subject}
 use Rattle.expectations.specs.declared.Subject.TheVariants.{Result, Field, Error, StderrCount, Daemon, Trust, ServerFeatures}
@@ -145,7 +144,7 @@ module _ (text : List ℕ) (q : Span) (x : get_or (bytes text q) 0 0 ≡ 46) whe
 
 -- a line that begins with `expect`
 module _ (text : List ℕ) (t : Span) (b : Bool) (e : b ≡ starts_with (codes "expect") (bytes text t)) where
-  pub no_expect : b ≡ false → Bad UnknownExpectation ≡ expect_role text t
+  pub no_expect : b ≡ false → refused UnknownExpectation ≡ expect_role text t
   unfolding expect_role
   no_expect f = rw (behind-none text t "expect" b e f, expect_role)
 

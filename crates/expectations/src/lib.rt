@@ -168,7 +168,7 @@ fn role_of(a: Result<Expect, Reason>) -> Role
 {
     match a {
         Ok(e) => Role::Expects(e),
-        Err(reason) => Role::Bad(reason),
+        Err(reason) => Role::refused(reason),
     }
 }
 
@@ -180,5 +180,5 @@ pub fn expect_role(t: Piece<'_>) -> Role
     if t.starts_with(b"expect") {
         return role_of(expectation(t.behind(6).trimmed()));
     }
-    Role::Bad(Reason::UnknownExpectation)
+    Role::refused(Reason::UnknownExpectation)
 }

@@ -158,7 +158,7 @@ onward line Nothing later = later
 onward line (Says s) later = later
 onward line (Expects e) later = later
 onward line (Opens p) later = later
-onward line (Bad n) later = Err (refusal n line)
+onward line (Bad n) later = Err (refusal n.reason line)
 
 module _ (text : List ℕ) where
   -- an entry at its opening line

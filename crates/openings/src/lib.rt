@@ -92,11 +92,11 @@ fn named_role(stamp: Option<Time>, rest: Piece<'_>) -> Role
 {
     let (name, after) = rest.cut_or(b' ');
     let Some(op) = Op::from_name(name.bytes()) else {
-        return Role::Bad(Reason::UnknownOperation);
+        return Role::refused(Reason::UnknownOperation);
     };
     let args = after.trimmed();
     if set_open(op, args) {
-        return Role::Bad(Reason::BraceNotClosed);
+        return Role::refused(Reason::BraceNotClosed);
     }
     Role::Opens(Opening {
         stamp,
@@ -118,7 +118,7 @@ pub fn opening_role(t: Piece<'_>) -> Role
                 at: s.rest,
             },
         ),
-        Err(reason) => Role::Bad(reason),
+        Err(reason) => Role::refused(reason),
     }
 }
 

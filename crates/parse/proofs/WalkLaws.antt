@@ -16,7 +16,7 @@ use Rattle.script.specs.Values.{plain_rules}
 use Rattle.script.specs.Roles.{line_span, step_of}
 use Rattle.script.specs.Refusals.{refusal}
 use Rattle.script.specs.declared.records.Counts.{Counts}
-use Rattle.script.specs.declared.refusals.Reason.{Reason}
+use Rattle.script.specs.declared.roles.Refused.{Refused}
 use Rattle.script.specs.declared.roles.Where.{Where}
 use Rattle.script.specs.declared.roles.Where.TheVariants.{InPreamble}
 use Rattle.script.specs.declared.records.Expect.{Expect}
@@ -123,7 +123,7 @@ module _ (text : List ℕ) (t : Counts) (o : Open) (w : Where) (ls : List Line) 
       unfolding walk_from
       by_role = rw f (rw e at turn.walk)
 
-      pub walk_bad : (n : Reason) → s.role ≡ Bad n → Err (refusal n l.number) ≡ whole
+      pub walk_bad : (n : Refused) → s.role ≡ Bad n → Err (refusal n.reason l.number) ≡ whole
       unfolding onward
       walk_bad n b = rw b at by_role
 

@@ -42,9 +42,9 @@ pub fn walk(text: &[u8], kept: &mut [Option<Kept>]) -> Result<Counts, Refusal>
                 t = totals::enter(t, o);
                 o = totals::open_entry(text, p);
             }
-            Role::Bad(reason) => {
+            Role::Bad(refused) => {
                 return Err(Refusal {
-                    reason,
+                    reason: refused.reason,
                     line: l.number,
                 });
             }

@@ -27,7 +27,7 @@ fn on_protocol(t: Piece<'_>) -> Role
     ensures { result ≡ word_role t.entry.text.now t.entry.at }
 {
     if !t.starts_with(b"protocol:") {
-        return Role::Bad(Reason::UnexpectedPreambleLine);
+        return Role::refused(Reason::UnexpectedPreambleLine);
     }
     version_role(t.behind(9).trimmed())
 }
@@ -42,26 +42,30 @@ fn word_role(t: Piece<'_>) -> Role
         return on_protocol(t);
     }
     if x != b'f' {
-        return Role::Bad(Reason::UnexpectedPreambleLine);
+        return Role::refused(Reason::UnexpectedPreambleLine);
     }
     if !t.starts_with(b"features:") {
-        return Role::Bad(Reason::UnexpectedPreambleLine);
+        return Role::refused(Reason::UnexpectedPreambleLine);
     }
     Role::Says(Saying::Known(Key::Features, t.behind(9).trimmed().at))
 }
 
-// In the preamble a blank or a colon follows `expect`.
-#[tactic(auto, using(remarks::proofs::PreambleLaws::expect_blank, remarks::proofs::PreambleLaws::expect_colon, remarks::proofs::PreambleLaws::expect_other))]
+// In the preamble a blank or a colon follows `expect`: one test of the word, and the byte behind it.
+#[tactic(auto, using(remarks::proofs::PreambleLaws::word_absent, remarks::proofs::PreambleLaws::sign_blank, remarks::proofs::PreambleLaws::sign_colon, remarks::proofs::PreambleLaws::sign_other))]
 fn preamble_expect(t: Piece<'_>) -> Role
     ensures { result ≡ preamble_expect t.entry.text.now t.entry.at }
 {
-    if t.starts_with(b"expect ") {
+    if !t.starts_with(b"expect") {
+        return Role::refused(Reason::UnexpectedPreambleLine);
+    }
+    let sign = text::byte::byte_at(t.bytes(), 6);
+    if sign == b' ' {
         return expectations::expect_role(t);
     }
-    if t.starts_with(b"expect:") {
+    if sign == b':' {
         return expectations::expect_role(t);
     }
-    Role::Bad(Reason::UnexpectedPreambleLine)
+    Role::refused(Reason::UnexpectedPreambleLine)
 }
 
 // What a line of the preamble is. One that begins with `e` is an expectation or of no known form.

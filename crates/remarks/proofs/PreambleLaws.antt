@@ -6,25 +6,25 @@ use mathlib.Core.Path.{◌≡◌, refl, sym, ap, ◌∙◌}
 use mathlib.Core.Bool.{Bool, true, false}
 use mathlib.Core.List.{List, [], ◌∷◌, ◌++◌}
 use native.Mathlib.Omega.{arith}
-use lib.Dec.{eqb}
+use lib.Dec.{eqb, ltb}
 use lib.ListN.{length, get_or}
-use borrow.Author.Tests.{eq-eqb, ne_eqb}
+use borrow.Author.Tests.{eq-eqb, ltb-true, ne_eqb}
 use Rattle.std.specs.Prelude.{if◌then◌else◌, None, Option, Some}
 use Rattle.text.specs.Base.{◌&◌}
 use Rattle.text.specs.Parts.{span, starts_with, same_bytes}
 use Rattle.text.specs.declared.parts.Span.{Span}
-use Rattle.text.proofs.Scan.{rest_more, never}
+use Rattle.text.proofs.Scan.{rest_more, never, both, and_true}
 use Rattle.text.proofs.LiteralLaws.{codes, spells_as}
 use Rattle.version.specs.Version.{version}
 use Rattle.version.specs.declared.ProtocolVersion.{ProtocolVersion}
 use Rattle.script.specs.Answers.{first_of}
 use Rattle.script.specs.Pieces.{bytes, is_empty, is, begins, behind, trim}
-use Rattle.script.specs.Roles.{step, expect_role, behind_signs, version_role, saying, comment_role, protocol_role, word_role, preamble_expect, preamble_role, preamble_step}
+use Rattle.script.specs.Roles.{step, expect_role, behind_signs, version_role, saying, comment_role, protocol_role, word_role, preamble_expect, preamble_role, preamble_step, refused}
 use Rattle.script.specs.declared.roles.Key.{Key}
 use Rattle.script.specs.declared.roles.Saying.TheVariants.{Known}
 use Rattle.script.specs.declared.roles.Where.TheVariants.{InPreamble, Outside}
 use Rattle.script.specs.declared.roles.Role.{Role}
-use Rattle.script.specs.declared.roles.Role.TheVariants.{Nothing, Says, Bad}
+use Rattle.script.specs.declared.roles.Role.TheVariants.{Nothing, Says}
 use Rattle.remarks.specs.PreambleSaid.{said}
 use Rattle.pieces.proofs.BehindLaws.{begins-is, behind-some, behind-none, one_front, front_begins, front_behind}
 use Rattle.script.specs.declared.refusals.Reason.TheVariants.{UnexpectedPreambleLine}
@@ -137,7 +137,7 @@ module _ (text : List ℕ) (v : Span) (a : Option ProtocolVersion) (q : a ≡ ve
 
 module _ (text : List ℕ) (t : Span) where
   module _ (x : get_or (bytes text t) 0 0 ≡ 112) (b : Bool) (e : b ≡ starts_with (codes "protocol:") (bytes text t)) where
-    pub no_protocol : b ≡ false → Bad UnexpectedPreambleLine ≡ word_role text t
+    pub no_protocol : b ≡ false → refused UnexpectedPreambleLine ≡ word_role text t
     unfolding word_role protocol_role saying first_of
     no_protocol f = rw (behind-none text t "protocol:" b e f, front_behind text t 112 (sym x) "features:" refl)
 
@@ -146,12 +146,12 @@ module _ (text : List ℕ) (t : Span) where
     a_protocol y v k r h = rw (behind-some text t "protocol:" b e y, ← k, h)
 
   module _ (x : ℕ) (g : x ≡ get_or (bytes text t) 0 0) where
-    pub no_word : (x ≡ 112 → ⊥) → (x ≡ 102 → ⊥) → Bad UnexpectedPreambleLine ≡ word_role text t
+    pub no_word : (x ≡ 112 → ⊥) → (x ≡ 102 → ⊥) → refused UnexpectedPreambleLine ≡ word_role text t
     unfolding word_role protocol_role saying first_of
     no_word p f = rw (front_behind text t x g "protocol:" (ne_eqb x 112 p), front_behind text t x g "features:" (ne_eqb x 102 f))
 
     module _ (p : x ≡ 112 → ⊥) (b : Bool) (e : b ≡ starts_with (codes "features:") (bytes text t)) where
-      pub no_features : b ≡ false → Bad UnexpectedPreambleLine ≡ word_role text t
+      pub no_features : b ≡ false → refused UnexpectedPreambleLine ≡ word_role text t
       unfolding word_role protocol_role saying first_of
       no_features f = rw (front_behind text t x g "protocol:" (ne_eqb x 112 p), behind-none text t "features:" b e f)
 
@@ -171,11 +171,9 @@ module _ (text : List ℕ) (t : Span) (b : Bool) (e : b ≡ starts_with (codes "
     unfolding preamble_expect
     expect_colon y r h = rw (begins-is text t "expect " b e ∙ n, begins-is text t "expect:" b₂ e₂ ∙ y, h)
 
-    pub expect_other : b₂ ≡ false → Bad UnexpectedPreambleLine ≡ preamble_expect text t
+    pub expect_other : b₂ ≡ false → refused UnexpectedPreambleLine ≡ preamble_expect text t
     unfolding preamble_expect
     expect_other f = rw (begins-is text t "expect " b e ∙ n, begins-is text t "expect:" b₂ e₂ ∙ f)
-
--- ---- every line of the preamble
 
 -- what does not begin with a word does not begin with a longer one
 longer : (w more s : List ℕ) → starts_with w s ≡ false → starts_with (w ++ more) s ≡ false
@@ -187,6 +185,38 @@ longer (c ∷ w) more (x ∷ s) e = go (eqb x c) e (longer w more s)
     go : (b : Bool) → b & starts_with w s ≡ false → (starts_with w s ≡ false → starts_with (w ++ more) s ≡ false) → b & starts_with (w ++ more) s ≡ false
     go true q ih = ih q
     go false q ih = refl
+
+-- where a word stands, the byte behind it decides whether the same word with one byte more does; that byte is not 0
+one_more : (w s : List ℕ) (c : ℕ) → ltb 0 c ≡ true → starts_with w s ≡ true → starts_with (w ++ c ∷ []) s ≡ eqb (get_or s (length w) 0) c
+unfolding starts_with
+one_more [] [] c z y = let k = ltb-true 0 c z in sym (ne_eqb 0 c (λ e. absurd (omega arith)))
+one_more [] (x ∷ s) c z y = and_true (eqb x c)
+one_more (d ∷ w) [] c z y = never (sym y)
+one_more (d ∷ w) (x ∷ s) c z y = let p = both (eqb x d) (starts_with w s) y in rw p.0 (one_more w s c z p.1)
+
+-- the same from one test of the word `expect` and the byte behind it
+module _ (text : List ℕ) (t : Span) (b : Bool) (e : b ≡ starts_with (codes "expect") (bytes text t)) where
+  without : (c : ℕ) → b ≡ false → false ≡ starts_with (codes "expect" ++ c ∷ []) (bytes text t)
+  without c f = sym (longer (codes "expect") (c ∷ []) (bytes text t) (sym e ∙ f))
+
+  pub word_absent : b ≡ false → refused UnexpectedPreambleLine ≡ preamble_expect text t
+  word_absent f = expect_other text t false (without 32 f) refl false (without 58 f) refl
+
+  module _ (y : b ≡ true) (x : ℕ) (g : x ≡ get_or (bytes text t) 6 0) where
+    signed : (c : ℕ) → ltb 0 c ≡ true → starts_with (codes "expect" ++ c ∷ []) (bytes text t) ≡ eqb x c
+    signed c z = rw g (one_more (codes "expect") (bytes text t) c z (sym e ∙ y))
+
+    pub sign_blank : x ≡ 32 → (r : Role) → r ≡ expect_role text t → r ≡ preamble_expect text t
+    sign_blank d r h = expect_blank text t true (sym (signed 32 refl ∙ eq-eqb x 32 d)) refl r h
+
+    module _ (n : x ≡ 32 → ⊥) where
+      pub sign_colon : x ≡ 58 → (r : Role) → r ≡ expect_role text t → r ≡ preamble_expect text t
+      sign_colon d r h = expect_colon text t false (sym (signed 32 refl ∙ ne_eqb x 32 n)) refl true (sym (signed 58 refl ∙ eq-eqb x 58 d)) refl r h
+
+      pub sign_other : (x ≡ 58 → ⊥) → refused UnexpectedPreambleLine ≡ preamble_expect text t
+      sign_other m = expect_other text t false (sym (signed 32 refl ∙ ne_eqb x 32 n)) refl false (sym (signed 58 refl ∙ ne_eqb x 58 m)) refl
+
+-- ---- every line of the preamble
 
 -- a line that begins with `e` and not with `expect` has no known form
 module _ (text : List ℕ) (t : Span) (g : 101 ≡ get_or (bytes text t) 0 0) where

@@ -11,13 +11,13 @@ use Rattle.script.specs.Answers.{first_of}
 use Rattle.script.specs.Pieces.{bytes}
 use Rattle.script.specs.Operations.{Kind, a_number, a_flag, a_quoted, a_set, some_data, a_list, a_hex, a_version, a_feature_set, a_text, key_row}
 use Rattle.script.specs.Values.{plain_rules, framed, inline_of}
-use Rattle.script.specs.Roles.{step, opens_list, after_key, after_saying, not_closed, refusal_in, refusal_of_kind, refusal_of, saying_in, argument_step}
+use Rattle.script.specs.Roles.{step, opens_list, after_key, after_saying, not_closed, refusal_in, refusal_of_kind, refusal_of, saying_in, argument_step, refused}
 use Rattle.script.specs.declared.roles.Key.{Key}
 use Rattle.script.specs.declared.roles.Takes.{Takes}
 use Rattle.script.specs.declared.roles.Where.{Where}
 use Rattle.script.specs.declared.roles.Saying.{Saying}
 use Rattle.script.specs.declared.roles.Saying.TheVariants.{Known}
-use Rattle.script.specs.declared.roles.Role.TheVariants.{Says, Bad}
+use Rattle.script.specs.declared.roles.Role.TheVariants.{Says}
 use Rattle.script.specs.Inside.{In}
 use Rattle.arguments.specs.ArgumentRead.{SayingIn}
 use Rattle.roles.specs.BlockRead.{kind_of}
@@ -150,7 +150,7 @@ module _ (text : List ℕ) (takes : Takes) (list_open : Bool) (t : Span) (s : Sa
   unfolding argument_step
   line-says h = simp (← e, a, ← q, h)
 
-  pub line_refused : (n : Reason) → f ≡ Some n → step (Bad n) next ≡ argument_step plain_rules text takes list_open t
+  pub line_refused : (n : Reason) → f ≡ Some n → step (refused n) next ≡ argument_step plain_rules text takes list_open t
   unfolding argument_step
   line_refused n h = simp (← e, a, ← q, h)
 

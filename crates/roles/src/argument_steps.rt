@@ -129,7 +129,7 @@ pub fn argument_step(takes: Takes, list_open: bool, t: Piece<'_>) -> Step
             next,
         },
         Some(reason) => Step {
-            role: Role::Bad(reason),
+            role: Role::refused(reason),
             next,
         },
     }

@@ -197,7 +197,7 @@ pub fn step(text: &[u8], w: Where, l: Line) -> Step
 }
 
 // The same, with an empty line told before the call: a text may have very many. Always in its callers, so for one that does nothing else with the step:
-// elsewhere a step that comes from two places costs more than that call (measured in Measure's walk: a third more for a line that is not empty).
+// elsewhere a step that comes from two places costs more than that call (counted in Measure's walk: a quarter more for a line that is not empty).
 #[inline(always)]
 #[tactic(auto, using(crate::proofs::StepLaws::empty_is))]
 pub fn quick_step(text: &[u8], w: Where, l: Line) -> Step

@@ -27,7 +27,7 @@ use Rattle.script.specs.Operations.{form_of}
 use Rattle.script.specs.Values.{Rules}
 use Rattle.script.specs.Timestamps.{stamped}
 use Rattle.script.specs.Expectations.{expectation}
-use Rattle.script.specs.Roles.{step, expecting, expect_role, saying, comment_role, version_role, protocol_role, word_role, preamble_expect, preamble_role, preamble_step, set_on, open_on, with_name, with_stamp, opening_role, after_opening, skipped, outside_step, entry_step, argument_line, saying_in, refusal_of, says_or, after_saying, argument_step, block_step, step_at, step_of}
+use Rattle.script.specs.Roles.{step, expecting, expect_role, saying, comment_role, version_role, protocol_role, word_role, preamble_expect, preamble_role, preamble_step, set_on, open_on, with_name, with_stamp, opening_role, after_opening, skipped, outside_step, entry_step, argument_line, saying_in, refusal_of, says_or, after_saying, argument_step, block_step, step_at, step_of, refused}
 use Rattle.script.specs.Roles as Roles
 use Rattle.script.specs.Contents.{expectation_of}
 use Rattle.script.specs.Plain.{PlainLine, expects, opens, other, Standing, above, below, taking, PlainStep, plainly, trimmed_line, inward, expectation_line, plain_above, taken_by, taken_on, under, plain_below, has_key, remaining, plain_step, stated}
@@ -261,8 +261,8 @@ module _ (text : List ℕ) (l : Line) where
   with_name_lem stamp None args ok = absurd (true≢false ok)
   with_name_lem stamp (Some op) args ok = go (open_on text (set_on text (form_of op).syntax args)) ok
     where
-      go : (b : Bool) → is_bad (if b then Bad BraceNotClosed else Opens (Roles.opening stamp op args)) ≡ false
-          → Agree text l (step (if b then Bad BraceNotClosed else Opens (Roles.opening stamp op args)) (after_opening (if b then Bad BraceNotClosed else Opens (Roles.opening stamp op args)))) (plainly opens (under (form_of op).takes))
+      go : (b : Bool) → is_bad (if b then refused BraceNotClosed else Opens (Roles.opening stamp op args)) ≡ false
+          → Agree text l (step (if b then refused BraceNotClosed else Opens (Roles.opening stamp op args)) (after_opening (if b then refused BraceNotClosed else Opens (Roles.opening stamp op args)))) (plainly opens (under (form_of op).takes))
       go true ok = absurd (true≢false ok)
       go false ok = record { mark = refl; next = standing_below (form_of op).takes; same = refl }
 
@@ -281,8 +281,8 @@ module _ (text : List ℕ) (l : Line) where
   unfolding expect_role
   expect_is ok = go (behind text "expect" t) ok
     where
-      go : (o : Option Span) → is_bad (elim o [ None ↦ Bad UnknownExpectation | Some rest ↦ expecting (expectation text (trim text rest)) ]) ≡ false
-          → plain_of l (elim o [ None ↦ Bad UnknownExpectation | Some rest ↦ expecting (expectation text (trim text rest)) ]) ≡ expects l
+      go : (o : Option Span) → is_bad (elim o [ None ↦ refused UnknownExpectation | Some rest ↦ expecting (expectation text (trim text rest)) ]) ≡ false
+          → plain_of l (elim o [ None ↦ refused UnknownExpectation | Some rest ↦ expecting (expectation text (trim text rest)) ]) ≡ expects l
       go None ok = absurd (true≢false ok)
       go (Some rest) ok = expecting-is (expectation text (trim text rest)) ok
 
@@ -379,7 +379,7 @@ module _ (text : List ℕ) (l : Line) where
   version-is None p = refl
   version-is (Some v) p = refl
 
-  words : (k : Key) (a b : Option Span) → plain_of l (first_of (protocol_role text a ∷ saying text k b ∷ []) (Bad UnexpectedPreambleLine)) ≡ other
+  words : (k : Key) (a b : Option Span) → plain_of l (first_of (protocol_role text a ∷ saying text k b ∷ []) (refused UnexpectedPreambleLine)) ≡ other
   unfolding first_of saying protocol_role
   words k (Some a) b = version-is (version (bytes text (trim text a))) (trim text a)
   words k None (Some b) = refl
@@ -389,8 +389,8 @@ module _ (text : List ℕ) (l : Line) where
   unfolding word_role
   word_is = words _ _ _
 
-  preamble_expect_lem : (a : Bool) → is_bad (if a then expect_role text t else Bad UnexpectedPreambleLine) ≡ false
-      → (plain_of l (if a then expect_role text t else Bad UnexpectedPreambleLine) ≡ expects l) × (expectation_of l.number (if a then expect_role text t else Bad UnexpectedPreambleLine) ≡ stated text l)
+  preamble_expect_lem : (a : Bool) → is_bad (if a then expect_role text t else refused UnexpectedPreambleLine) ≡ false
+      → (plain_of l (if a then expect_role text t else refused UnexpectedPreambleLine) ≡ expects l) × (expectation_of l.number (if a then expect_role text t else refused UnexpectedPreambleLine) ≡ stated text l)
   unfolding stated
   preamble_expect_lem true ok = (expect_is ok, refl)
   preamble_expect_lem false ok = absurd (true≢false ok)

@@ -25,7 +25,7 @@ use Rattle.script.specs.Answers.{◌>>=◌, first_of, Answer}
 use Rattle.script.specs.Pieces.{place_of, place, bytes, is_empty, is, begins, ends, behind, trim, inner, Cut, cut, cut_at}
 use Rattle.script.specs.Inside.{In, PlaceIn, MatcherIn, ExpectIn, AllIn}
 use Rattle.script.specs.Expectations.{COLON, SLASH, numbered, about, pattern, comparison, matcher, matching, terminal, field, result, expectation}
-use Rattle.script.specs.Roles.{line_span, expecting, expect_role, argument_line}
+use Rattle.script.specs.Roles.{line_span, expecting, expect_role, argument_line, refused}
 use Rattle.script.specs.Contents.{expectation_of}
 use Rattle.script.specs.Plain.{PlainLine, expects, opens, other, Standing, above, below, taking, PlainStep, trimmed_line, inward, expectation_line, plain_above, plain_below, plain_step, plain_from, plain_lines, expectation_lines, stated, stated_on}
 use Rattle.script.specs.declared.records.Matcher.{Matcher}
@@ -248,7 +248,7 @@ module _ (text : List ℕ) where
   unfolding expect_role
   role_in t i = go (behind text "expect" t) (behind_in text "expect" t i)
     where
-      go : (o : Option Span) → Opt (In text) o → RoleIn (elim o [ None ↦ Bad UnknownExpectation | Some rest ↦ expecting (expectation text (trim text rest)) ])
+      go : (o : Option Span) → Opt (In text) o → RoleIn (elim o [ None ↦ refused UnknownExpectation | Some rest ↦ expecting (expectation text (trim text rest)) ])
       go None h = tt
       go (Some rest) h = expecting_in (expectation text (trim text rest)) (expectation_in (trim text rest) (trim_in text rest h))
 

@@ -24,7 +24,7 @@ use Rattle.script.specs.Operations.{keys_of, key_in, form_of}
 use Rattle.script.specs.Values.{Rules}
 use Rattle.script.specs.Timestamps.{stamped_as, with_time, stamped_at, stamped}
 use Rattle.script.specs.Expectations.{COLON, expectation}
-use Rattle.script.specs.Roles.{line_span, opening, expecting, expect_role, says_or, behind_signs, version_role, saying, comment_role, protocol_role, word_role, preamble_expect, preamble_role, preamble_step, set_on, open_on, with_name, with_stamp, opening_role, skipped, outside_step, entry_step, argument_line, pair_in, keyed, key_saying, raw_saying, option_saying, saying_in, refusal_of, argument_step, block_step, step_at, step_of}
+use Rattle.script.specs.Roles.{line_span, opening, expecting, expect_role, says_or, behind_signs, version_role, saying, comment_role, protocol_role, word_role, preamble_expect, preamble_role, preamble_step, set_on, open_on, with_name, with_stamp, opening_role, skipped, outside_step, entry_step, argument_line, pair_in, keyed, key_saying, raw_saying, option_saying, saying_in, refusal_of, argument_step, block_step, step_at, step_of, refused}
 use Rattle.script.specs.Inside.{In, SayingIn, RoleIn}
 use Rattle.script.specs.declared.records.Time.{Time}
 use Rattle.script.specs.declared.records.Expect.{Expect}
@@ -36,7 +36,7 @@ use Rattle.script.specs.declared.roles.Where.{Where}
 use Rattle.script.specs.declared.roles.Where.TheVariants.{InPreamble, Outside, InBlock, InEntry}
 use Rattle.script.specs.declared.roles.Saying.{Saying}
 use Rattle.script.specs.declared.roles.Saying.TheVariants.{Known, Pair, NoColon, Unknown, NoPair, NoRaw}
-use Rattle.script.specs.declared.roles.Role.TheVariants.{Nothing, Opens, Bad}
+use Rattle.script.specs.declared.roles.Role.TheVariants.{Nothing, Opens}
 use Rattle.script.specs.declared.roles.Step.{Step}
 use Rattle.script.proofs.Inside.{length-bytes, trim_in, Opt, behind_in, CutIn, cut_in, first_in}
 use Rattle.script.specs.declared.refusals.Reason.TheVariants.{BraceNotClosed, UnexpectedPreambleLine, UnknownExpectation}
@@ -102,7 +102,7 @@ module _ (text : List ℕ) where
   with_name_in : (stamp : Option Time) (o : Option Op) (args : Span) → In text args → RoleIn text (with_name text stamp o args)
   unfolding with_name RoleIn
   with_name_in stamp None args i = tt
-  with_name_in stamp (Some op) args i = by_cases (RoleIn text) (open_on text (set_on text (form_of op).syntax args)) (Bad BraceNotClosed) (Opens (opening stamp op args)) tt i
+  with_name_in stamp (Some op) args i = by_cases (RoleIn text) (open_on text (set_on text (form_of op).syntax args)) (refused BraceNotClosed) (Opens (opening stamp op args)) tt i
 
   with_stamp_in : (a : Answer Stamped) → StampedIn a → RoleIn text (with_stamp text a)
   unfolding with_stamp RoleIn
@@ -126,7 +126,7 @@ module _ (text : List ℕ) where
   unfolding expect_role RoleIn
   expect_in_lem t = go (behind text "expect" t)
     where
-      go : (o : Option Span) → RoleIn text (elim o [ None ↦ Bad UnknownExpectation | Some rest ↦ expecting (expectation text (trim text rest)) ])
+      go : (o : Option Span) → RoleIn text (elim o [ None ↦ refused UnknownExpectation | Some rest ↦ expecting (expectation text (trim text rest)) ])
       go None = tt
       go (Some rest) = expecting_in (expectation text (trim text rest))
 
@@ -166,7 +166,7 @@ module _ (text : List ℕ) where
   word_in : (t : Span) → In text t → RoleIn text (word_role text t)
   unfolding word_role RoleIn
   word_in t i =
-      first_in (RoleIn text) _ (Bad UnexpectedPreambleLine)
+      first_in (RoleIn text) _ (refused UnexpectedPreambleLine)
       (protocol_in _ (behind_in text "protocol:" t i), (saying_role_in Key.Features _ (behind_in text "features:" t i), tt))
       tt
 
@@ -177,7 +177,7 @@ module _ (text : List ℕ) where
       (by_cases (RoleIn text) (is_empty t) Nothing _ tt
       (by_cases (RoleIn text) (begins text "#" t) _ _ (comment_in_lem t i)
       (by_cases (RoleIn text) (begins text "expect" t) _ _
-      (by_cases (RoleIn text) (begins text "expect " t or begins text "expect:" t) _ (Bad UnexpectedPreambleLine) (expect_in_lem t) tt)
+      (by_cases (RoleIn text) (begins text "expect " t or begins text "expect:" t) _ (refused UnexpectedPreambleLine) (expect_in_lem t) tt)
       (word_in t i))))
 
   -- ---- below the `---` line

@@ -25,7 +25,7 @@ refused_by line Nothing later = later
 refused_by line (Says s) later = later
 refused_by line (Expects e) later = later
 refused_by line (Opens o) later = later
-refused_by line (Bad n) later = Some (refusal n line)
+refused_by line (Bad n) later = Some (refusal n.reason line)
 
 unfoldable pub first_refused : List Marked → Option Refusal
 first_refused [] = None

@@ -44,11 +44,15 @@ opening stamp op args = record { stamp = stamp; op = op; args = args }
 abbrev pub line_span : Line → Span
 line_span l = span l.start l.end
 
+-- a line that is refused
+abbrev pub refused : Reason → Role
+refused n = Bad (record { words = []; reason = n })
+
 -- ---- expectation lines
 
 abbrev pub expecting : Answer Expect → Role
 expecting (Ok e) = Expects e
-expecting (Err n) = Bad n
+expecting (Err n) = refused n
 
 -- ---- argument lines and their values
 
@@ -112,7 +116,7 @@ refusal_in (Err n) = Some n
 
 abbrev pub says_or : Saying → Option Reason → Role
 says_or s None = Says s
-says_or s (Some n) = Bad n
+says_or s (Some n) = refused n
 
 -- where a comment begins behind the signs `#` at its front
 unfoldable pub behind_signs : (at : ℕ) → List ℕ → ℕ
@@ -137,7 +141,7 @@ module _ (text : List ℕ) where
 
   -- a line that begins with `expect`: what follows it, trimmed, is an expectation
   unfoldable pub expect_role : Span → Role
-  expect_role t = elim (behind text "expect" t) [ None ↦ Bad UnknownExpectation | Some rest ↦ expecting (expectation text (trim text rest)) ]
+  expect_role t = elim (behind text "expect" t) [ None ↦ refused UnknownExpectation | Some rest ↦ expecting (expectation text (trim text rest)) ]
 
   -- ---- the preamble
 
@@ -171,11 +175,11 @@ module _ (text : List ℕ) where
       (protocol_role (behind text "protocol:" t)
       ∷ saying Key.Features (behind text "features:" t)
       ∷ [])
-      (Bad UnexpectedPreambleLine)
+      (refused UnexpectedPreambleLine)
 
   -- in the preamble a blank or a colon follows `expect`
   unfoldable pub preamble_expect : Span → Role
-  preamble_expect t = let role = expect_role t in if begins text "expect " t or begins text "expect:" t then role else Bad UnexpectedPreambleLine
+  preamble_expect t = let role = expect_role t in if begins text "expect " t or begins text "expect:" t then role else refused UnexpectedPreambleLine
 
   unfoldable pub preamble_role : Span → Role
   preamble_role t =
@@ -211,12 +215,12 @@ module _ (text : List ℕ) where
 
   -- 9: unknown operation
   unfoldable pub with_name : Option Time → Option Op → (args : Span) → Role
-  with_name stamp None args = Bad UnknownOperation
-  with_name stamp (Some op) args = if open_on (set_on (form_of op).syntax args) then Bad BraceNotClosed else Opens (opening stamp op args)
+  with_name stamp None args = refused UnknownOperation
+  with_name stamp (Some op) args = if open_on (set_on (form_of op).syntax args) then refused BraceNotClosed else Opens (opening stamp op args)
 
   -- The operation's name ends at the first blank; what follows is trimmed.
   unfoldable pub with_stamp : Answer Stamped → Role
-  with_stamp (Err n) = Bad n
+  with_stamp (Err n) = refused n
   with_stamp (Ok s) = let c = cut_or text BLANK s.rest in with_name s.stamp (named (bytes text c.before)) (trim text c.after)
 
   unfoldable pub opening_role : Span → Role

@@ -1,4 +1,7 @@
 // What each line of a text is. These are the words in which the definition of reading speaks and in which the code answers; a piece of the text is a span.
+ghost use Rattle.std.specs.Prelude.{◌≡◌};
+ghost use Rattle.script.specs.Roles.{refused};
+
 use crate::records::{Expect, Options, Time};
 use crate::refusals::Reason;
 use text::parts::Span;
@@ -78,13 +81,13 @@ pub enum Saying {
     NoRaw,
 }
 
-// The line that opens an entry: its timestamp, its operation, and what stands behind the operation's name. The last comes first: a `Role` that begins with a
-// whole word is copied by words, and a step is copied for every line.
+// The line that opens an entry: its timestamp, its operation, and what stands behind the operation's name. The order is for speed: a step is copied for
+// every line, and by words where a role begins and ends with a whole word.
 #[derive(Clone, Copy)]
 pub struct Opening {
     pub args: Span,
-    pub stamp: Option<Time>,
     pub op: Op,
+    pub stamp: Option<Time>,
 }
 
 // A line that opens an entry, as far as its timestamp: that, if it has one, and what follows it.
@@ -94,6 +97,14 @@ pub struct Stamped {
     pub rest: Span,
 }
 
+// Why a line is refused. The reason stands behind no words, and so where a word may begin, as all else does that a role holds: a role then begins with a
+// whole word.
+#[derive(Clone, Copy)]
+pub struct Refused {
+    pub words: [u64; 0],
+    pub reason: Reason,
+}
+
 // What a line is: nothing that is kept; something said; an expectation; an opening line; refused.
 #[derive(Clone, Copy)]
 pub enum Role {
@@ -101,7 +112,17 @@ pub enum Role {
     Says(Saying),
     Expects(Expect),
     Opens(Opening),
-    Bad(Reason),
+    Bad(Refused),
+}
+
+impl Role {
+    // What a refused line is.
+    #[inline(always)]
+    pub fn refused(reason: Reason) -> Role
+        ensures { result ≡ refused reason }
+    {
+        Role::Bad(Refused { words: [], reason })
+    }
 }
 
 // What a line is, and where the next one stands.

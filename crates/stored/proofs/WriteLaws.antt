@@ -9,8 +9,7 @@ use Rattle.text.specs.declared.parts.Span.{Span}
 use Rattle.script.specs.Operations.{add_text_to_store, add_to_store}
 use Rattle.script.specs.Pieces.{place}
 use Rattle.script.specs.Values.{plain_rules}
-use Rattle.script.specs.Contents.{set_of, features_in, or_none, unquoted_of, data_of}
-use Rattle.script.specs.Layout.{stored_of}
+use Rattle.script.specs.Contents.{set_of, features_in, or_none, unquoted_of}
 use Rattle.script.specs.declared.roles.Key.{Key}
 use Rattle.written.specs.declared.Writer.{Writer}
 use Rattle.written.specs.Writing.{Room, wrote}
@@ -97,16 +96,16 @@ module _ (text : List ℕ) (value : Key → Option Span) (w : Writer ℕ) where
       texts_wrote = wrote_behind suffix w v p body _ texts_are room
 
   abbrev name : List ℕ
-  name = unquoted_of plain_rules text (value Key.Name)
+  name = first_stored text value add_to_store
 
   abbrev cam_str : List ℕ
-  cam_str = unquoted_of plain_rules text (value Key.CamStr)
+  cam_str = second_stored text value add_to_store
 
   abbrev contents : List ℕ
-  contents = stored_of (data_of plain_rules text (value Key.Data))
+  contents = third_stored text value add_to_store
 
   all_are : stored text value add_to_store ≡ name ++ cam_str ++ contents
-  unfolding stored first_stored second_stored third_stored
+  unfolding stored
   all_are = refl
 
   module _ (room : Room (length (stored text value add_to_store)) w) where
